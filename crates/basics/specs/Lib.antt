@@ -1,0 +1,4 @@
+-- What the other crates' definitions and proofs share: tests, and lists with a test.
+pub mod Cases
+pub mod Lists
+pub mod Fold
