@@ -1,0 +1,2 @@
+-- The proofs of `hex`, and the laws that they share.
+mod Pairs
