@@ -1,0 +1,195 @@
+-- The calls: the refusal table, answers with document 01's numbers and bytes, and what each call gives. Assumes nothing.
+use mathlib.Core.Bool.{Bool, true, false, cond, not, _&&_, _||_}
+use mathlib.Core.List.{List, [], _∷_, _++_}
+use Prim.Native.Nat.{ℕ, zero, suc, _+_, _*_, _^_}
+use lib.Dec.{eqb, ltb, leb}
+use lib.ListN.{length, take, drop}
+use Rattle.hex.specs.Number.{bigEndian}
+use Rattle.itemset.specs.Set.{has, count, allBelow}
+use Rattle.protocol.specs.declared.Message.{Message}
+use Rattle.protocol.specs.declared.Message.the-variants.{Prepare, Prepared, Commit, Get, Got}
+use Rattle.protocol.specs.declared.Answer.{Answer}
+use Rattle.protocol.specs.declared.Answer.the-variants.{Refused, Made, Started, Delivered, Shown}
+use Rattle.protocol.specs.Tables.{Sizes, Tables, Ended, nothing, read, write, writerOf}
+use Rattle.protocol.specs.Range.{Capacities, valid, sizesInRange, isClient, isIdle, isReading, isWriting, load, occupied}
+use Rattle.protocol.specs.Steps.{startedRead, startedWrite, deliveredAt, messageAt, stored, isLast}
+use Rattle.protocol.specs.Frame.{frame}
+
+-- The calls that follow a fresh start. A write brings its value bytes, a showing the lent output.
+pub data Call : Type 0 where
+  startRead : (client set : ℕ) → Call
+  startWrite : (client set : ℕ) (values : List ℕ) → Call
+  deliver : (place : ℕ) → Call
+  show : (client : ℕ) (output : List ℕ) → Call
+
+-- ---- Refusal table: each call's tests in their order; the first that applies is returned, 0 where none does
+
+pub record Test : Type 0 where
+  pub number : ℕ
+  pub applies : Bool
+
+abbrev pub test : ℕ → Bool → Test
+test n b = record { number = n; applies = b }
+
+unfoldable pub first : List Test → ℕ
+first [] = 0
+first (x ∷ xs) = cond (x .applies) (x .number) (first xs)
+
+-- 5: the set is empty or holds an item that doesn't exist
+abbrev pub badSet : Tables → ℕ → Bool
+badSet t s = eqb s 0 || not (allBelow s (t .sizes .items))
+
+-- 11: prepare of an item and stamp already stored; prepared whose client isn't writing, got whose client isn't
+-- reading, or either not awaited with that item and stamp
+unfoldable pub unexpected : Tables → Message → Bool
+unexpected t (Prepare v) = stored (t .versions) (v .item) (v .stamp)
+unexpected t (Prepared k stamp) =
+    let c = t .client (writerOf stamp) in
+    not (isWriting (c .mode) && has (c .awaited) k && eqb (c .stamp) stamp)
+unexpected t (Commit p stamp) = false
+unexpected t (Get d k stamp) = false
+unexpected t (Got d v latest) =
+    let c = t .client d in
+    not (isReading (c .mode) && has (c .awaited) (v .item) && eqb (c .asked (v .item)) (v .stamp))
+
+-- 12: get of a version that isn't stored, the initial one excepted
+unfoldable pub missing : Tables → Message → Bool
+missing t (Prepare v) = false
+missing t (Prepared k stamp) = false
+missing t (Commit p stamp) = false
+missing t (Get d k stamp) = not (eqb stamp 0 || stored (t .versions) k stamp)
+missing t (Got d v latest) = false
+
+-- 13: no transaction has ended
+unfoldable pub isNothing : Ended → Bool
+isNothing nothing = true
+isNothing (read s stamps values) = false
+isNothing (write s stamp values) = false
+
+abbrev pub shownFrame : Tables → ℕ → List ℕ
+shownFrame t d = frame d (t .client d .last)
+
+unfoldable pub refusal : Capacities → Tables → Call → ℕ
+refusal caps t (startRead d s) =
+    first
+    (test 1 (not (valid caps t))
+    ∷ test 3 (not (isClient (t .sizes) d))
+    ∷ test 4 (not (isIdle (t .client d .mode)))
+    ∷ test 5 (badSet t s)
+    ∷ test 8 (ltb (caps .load) (load t + count s))
+    ∷ [])
+refusal caps t (startWrite d s bytes) =
+    first
+    (test 1 (not (valid caps t))
+    ∷ test 3 (not (isClient (t .sizes) d))
+    ∷ test 4 (not (isIdle (t .client d .mode)))
+    ∷ test 5 (badSet t s)
+    ∷ test 6 (not (eqb (length bytes) (4 * count s)))
+    ∷ test 7 (eqb (t .client d .count) 4294967295)
+    ∷ test 8 (ltb (caps .load) (load t + count s))
+    ∷ test 9 (ltb (caps .versions) (occupied t + count s))
+    ∷ [])
+refusal caps t (deliver i) =
+    first
+    (test 1 (not (valid caps t))
+    ∷ test 10 (leb (length (t .messages)) i)
+    ∷ test 11 (unexpected t (messageAt t i))
+    ∷ test 12 (missing t (messageAt t i))
+    ∷ [])
+refusal caps t (show d output) =
+    first
+    (test 1 (not (valid caps t))
+    ∷ test 3 (not (isClient (t .sizes) d))
+    ∷ test 4 (not (isIdle (t .client d .mode)))
+    ∷ test 13 (isNothing (t .client d .last))
+    ∷ test 14 (ltb (length output) (length (shownFrame t d)))
+    ∷ [])
+
+-- of a fresh start, a block's length apart; accepted, its tables are `fresh z`
+abbrev pub freshRefusal : Sizes → ℕ
+freshRefusal z = first (test 2 (not (sizesInRange z)) ∷ [])
+
+-- ---- Answers
+
+unfoldable pub kindOf : Message → ℕ
+kindOf (Prepare v) = 1
+kindOf (Prepared k stamp) = 2
+kindOf (Commit p stamp) = 3
+kindOf (Get d k stamp) = 4
+kindOf (Got d v latest) = 5
+
+-- 0 none ended, 1 a read ended, 2 a write ended
+unfoldable pub outcomeOf : Tables → Message → ℕ
+outcomeOf t (Prepare v) = 0
+outcomeOf t (Prepared k stamp) = cond (isLast (t .client (writerOf stamp)) k) 2 0
+outcomeOf t (Commit p stamp) = 0
+outcomeOf t (Get d k stamp) = 0
+outcomeOf t (Got d v latest) = cond (isLast (t .client d) (v .item)) 1 0
+
+-- the tables after an accepted call, and its answer
+unfoldable pub effect : Tables → Call → Tables
+effect t (startRead d s) = startedRead t d s
+effect t (startWrite d s bytes) = startedWrite t d s bytes
+effect t (deliver i) = deliveredAt t i
+effect t (show d output) = t
+
+unfoldable pub reply : Tables → Call → Answer
+reply t (startRead d s) = Started (length (effect t (startRead d s) .messages))
+reply t (startWrite d s bytes) = Started (length (effect t (startWrite d s bytes) .messages))
+reply t (deliver i) =
+    Delivered (kindOf (messageAt t i)) (length (effect t (deliver i) .messages)) (outcomeOf t (messageAt t i))
+reply t (show d output) = Shown (length (shownFrame t d))
+
+-- the output after an accepted call: past the frame it keeps its bytes
+unfoldable pub written : Tables → Call → List ℕ
+written t (startRead d s) = []
+written t (startWrite d s bytes) = []
+written t (deliver i) = []
+written t (show d output) = shownFrame t d ++ drop (length (shownFrame t d)) output
+
+-- the lent output before a call
+unfoldable pub lent : Call → List ℕ
+lent (startRead d s) = []
+lent (startWrite d s bytes) = []
+lent (deliver i) = []
+lent (show d output) = output
+
+-- What a call gives: its answer, the tables after it, the output after it. A refusal changes nothing.
+pub record Given : Type 0 where
+  pub answer : Answer
+  pub tables : Tables
+  pub output : List ℕ
+
+abbrev pub pick : {A : Type 0} → ℕ → A → A → A
+pick zero accepted refused = accepted
+pick (suc n) accepted refused = refused
+
+unfoldable pub freshAnswer : Sizes → Answer
+freshAnswer z = pick (freshRefusal z) Made (Refused (freshRefusal z))
+
+unfoldable pub step : Capacities → Tables → Call → Given
+step caps t c =
+    let r = refusal caps t c in
+    record {
+      answer = pick r (reply t c) (Refused r);
+      tables = pick r (effect t c) t;
+      output = pick r (written t c) (lent c);
+    }
+
+-- ---- document 01's numbers and bytes for each answer
+
+-- what the exported calls return
+unfoldable pub numberOfAnswer : Answer → ℕ
+numberOfAnswer (Refused n) = n
+numberOfAnswer Made = 0
+numberOfAnswer (Started n) = n * 2 ^ 8
+numberOfAnswer (Delivered kind n outcome) = kind * 2 ^ 8 + n * 2 ^ 16 + outcome * 2 ^ 32
+numberOfAnswer (Shown n) = n * 2 ^ 8
+
+-- what the driver prints as digits; after a show, the frame's bytes follow
+unfoldable pub bytesOfAnswer : Answer → List ℕ → List ℕ
+bytesOfAnswer (Refused n) output = bigEndian 1 n
+bytesOfAnswer Made output = 0 ∷ []
+bytesOfAnswer (Started n) output = 0 ∷ bigEndian 2 n
+bytesOfAnswer (Delivered kind n outcome) output = 0 ∷ bigEndian 1 kind ++ bigEndian 2 n ++ bigEndian 1 outcome
+bytesOfAnswer (Shown n) output = 0 ∷ take n output

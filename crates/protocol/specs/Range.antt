@@ -1,0 +1,147 @@
+-- What is in range, and the load (document 01, 'Tables'): the fields that a block's words are held to. Assumes nothing.
+use mathlib.Core.Bool.{Bool, true, false, cond, not, Bool·beq, _&&_, _||_}
+use Prim.Native.Nat.{ℕ, zero, suc, _+_, _-_, _^_}
+use lib.Dec.{eqb, ltb, leb}
+use lib.ListN.{length}
+use Rattle.basics.specs.Lists.{every, all, counted}
+use Rattle.itemset.specs.Set.{has, count, allBelow}
+use Rattle.protocol.specs.declared.Version.{Version}
+use Rattle.protocol.specs.declared.Entry.{Entry}
+use Rattle.protocol.specs.declared.Message.{Message}
+use Rattle.protocol.specs.declared.Message.the-variants.{Prepare, Prepared, Commit, Get, Got}
+use Rattle.protocol.specs.Tables.{Sizes, Tables, Client, Mode, idle, reading, writing, Ended, nothing, read, write, numberOf, writerOf}
+
+-- counts are at most 4,294,967,295 and values of 32 bits
+abbrev pub fits : ℕ → Bool
+fits n = ltb n (2 ^ 32)
+
+-- the sizes are ones that 2 allows
+unfoldable pub sizesInRange : Sizes → Bool
+sizesInRange z =
+    leb 1 (z .clients) && leb (z .clients) 8 && leb 1 (z .partitions) && leb (z .partitions) 8
+    && leb 1 (z .items) && leb (z .items) 64
+
+-- clients, items and partitions exist
+abbrev pub isClient : Sizes → ℕ → Bool
+isClient z d = leb 1 d && leb d (z .clients)
+
+abbrev pub isItem : Sizes → ℕ → Bool
+isItem z k = ltb k (z .items)
+
+abbrev pub isPartition : Sizes → ℕ → Bool
+isPartition z p = ltb p (z .partitions)
+
+-- a stamp is initial or has both parts in range
+unfoldable pub stampInRange : Sizes → ℕ → Bool
+stampInRange z stamp =
+    eqb stamp 0 || (leb 1 (numberOf stamp) && fits (numberOf stamp) && isClient z (writerOf stamp))
+
+-- sets hold only existing items
+unfoldable pub entryInRange : Sizes → Entry → Bool
+entryInRange z e = stampInRange z (e .stamp) && allBelow (e .set) (z .items)
+
+abbrev pub notInitial : ℕ → Bool
+notInitial stamp = not (eqb stamp 0)
+
+-- stored versions and prepares have a later stamp than the initial one and a set with their item
+unfoldable pub versionInRange : Sizes → Version → Bool
+versionInRange z v =
+    isItem z (v .item) && fits (v .value) && stampInRange z (v .stamp) && notInitial (v .stamp)
+    && allBelow (v .set) (z .items) && has (v .set) (v .item)
+
+-- a prepared reply or commit isn't of the initial stamp
+unfoldable pub messageInRange : Sizes → Message → Bool
+messageInRange z (Prepare v) = versionInRange z v
+messageInRange z (Prepared k stamp) = isItem z k && stampInRange z stamp && notInitial stamp
+messageInRange z (Commit p stamp) = isPartition z p && stampInRange z stamp && notInitial stamp
+messageInRange z (Get d k stamp) = isClient z d && isItem z k && stampInRange z stamp
+messageInRange z (Got d v latest) =
+    isClient z d && isItem z (v .item) && fits (v .value) && stampInRange z (v .stamp) && entryInRange z latest
+
+-- every item of s has p
+abbrev pub each : Sizes → ℕ → (ℕ → Bool) → Bool
+each z s p = every (z .items) (λ k. not (has s k) || p k)
+
+unfoldable pub endedInRange : Sizes → Ended → Bool
+endedInRange z nothing = true
+endedInRange z (read s stamps values) =
+    allBelow s (z .items) && each z s (λ k. stampInRange z (stamps k) && fits (values k))
+endedInRange z (write s stamp values) =
+    allBelow s (z .items) && stampInRange z stamp && each z s (λ k. fits (values k))
+
+unfoldable pub isIdle : Mode → Bool
+isIdle idle = true
+isIdle reading = false
+isIdle writing = false
+
+unfoldable pub isReading : Mode → Bool
+isReading idle = false
+isReading reading = true
+isReading writing = false
+
+unfoldable pub isWriting : Mode → Bool
+isWriting idle = false
+isWriting reading = false
+isWriting writing = true
+
+-- a client is idle exactly when it awaits no item, and awaited items lie in its set; a writing one has one stamp for all its items
+unfoldable pub clientInRange : Sizes → Client → Bool
+clientInRange z c =
+    fits (c .count) && allBelow (c .set) (z .items) && allBelow (c .awaited) (z .items)
+    && each z (c .awaited) (has (c .set))
+    && Bool·beq (isIdle (c .mode)) (eqb (c .awaited) 0)
+    && stampInRange z (c .stamp)
+    && each z (c .set) (λ k. stampInRange z (c .asked k) && fits (c .values k))
+    && endedInRange z (c .last)
+
+-- p holds of every client
+abbrev pub everyClient : Sizes → (ℕ → Bool) → Bool
+everyClient z p = every (z .clients) (λ i. p (suc i))
+
+unfoldable pub inRange : Tables → Bool
+inRange t =
+    let z = t .sizes in
+    sizesInRange z
+    && every (z .items) (λ k. entryInRange z (t .latest k))
+    && everyClient z (λ d. every (z .items) (λ k. entryInRange z (t .view d k)))
+    && everyClient z (λ d. clientInRange z (t .client d))
+    && all (versionInRange z) (t .versions)
+    && all (messageInRange z) (t .messages)
+
+-- ---- Load
+
+-- the prepared replies that have come: of a writing client, the items of its set no longer awaited
+unfoldable pub arrived : Client → ℕ
+arrived c = cond (isWriting (c .mode)) (count (c .set) - count (c .awaited)) 0
+
+-- f, added up over the clients
+unfoldable pub total : ℕ → (ℕ → ℕ) → ℕ
+total zero f = 0
+total (suc n) f = total n f + f (suc n)
+
+unfoldable pub load : Tables → ℕ
+load t = length (t .messages) + total (t .sizes .clients) (λ d. arrived (t .client d))
+
+unfoldable pub isPrepare : Message → Bool
+isPrepare (Prepare v) = true
+isPrepare (Prepared k stamp) = false
+isPrepare (Commit p stamp) = false
+isPrepare (Get d k stamp) = false
+isPrepare (Got d v latest) = false
+
+-- stored versions + prepares in flight
+unfoldable pub occupied : Tables → ℕ
+occupied t = length (t .versions) + counted isPrepare (t .messages)
+
+-- the greatest load and the most versions that a block takes
+pub record Capacities : Type 0 where
+  pub versions : ℕ
+  pub load : ℕ
+
+-- those of this store
+abbrev pub capacities : Capacities
+capacities = record { versions = 512; load = 128 }
+
+-- not refused by 1, a block's length apart
+unfoldable pub valid : Capacities → Tables → Bool
+valid caps t = inRange t && leb (load t) (caps .load) && leb (occupied t) (caps .versions)

@@ -1,0 +1,115 @@
+-- The store's tables (document 01, 'Tables'), as values with no word of a block in them: a client is document 01's desk, a partition its
+-- cabinet, an item its line, the messages its pile. Assumes nothing.
+use mathlib.Core.Bool.{cond}
+use mathlib.Core.List.{List, []}
+use Prim.Native.Nat.{ℕ, _+_, _*_, _/_, _%_}
+use lib.Dec.{eqb, ltb}
+use Rattle.protocol.specs.declared.Version.{Version}
+use Rattle.protocol.specs.declared.Entry.{Entry}
+use Rattle.protocol.specs.declared.Message.{Message}
+
+-- ---- Stamp: a number and a writing client (desk), kept as one number; the initial stamp is 0. Later is greater:
+-- the greater number, and with equal numbers the greater client (`stamp-order`, proofs/Stamp.antt).
+
+abbrev pub stampOf : ℕ → ℕ → ℕ
+stampOf number client = number * 16 + client
+
+abbrev pub numberOf : ℕ → ℕ
+numberOf stamp = stamp / 16
+
+abbrev pub writerOf : ℕ → ℕ
+writerOf stamp = stamp % 16
+
+-- ---- Entry: a stamp and a write set, of a view or of a latest
+
+abbrev pub initial : Entry
+initial = record { stamp = 0; set = 0 }
+
+-- the later of two; at equal stamps the one already there stays
+abbrev pub laterOf : Entry → Entry → Entry
+laterOf present other = cond (ltb (present .stamp) (other .stamp)) other present
+
+-- ---- Client (desk)
+
+pub data Mode : Type 0 where
+  idle reading writing : Mode
+
+-- the last ended transaction: none yet, a read with the stamps and values it shows, or a write with its stamp and values
+pub data Ended : Type 0 where
+  nothing : Ended
+  read : (set : ℕ) (stamps values : ℕ → ℕ) → Ended
+  write : (set stamp : ℕ) (values : ℕ → ℕ) → Ended
+
+pub record Client : Type 0 where
+  pub mode : Mode
+  -- writes started
+  pub count : ℕ
+  -- of the transaction under way: its items, and those still awaited
+  pub set : ℕ
+  pub awaited : ℕ
+  -- a read's stamps asked for, item by item; a write's one stamp. What the mode doesn't use is 0
+  pub asked : ℕ → ℕ
+  pub stamp : ℕ
+  -- a read's answers so far; a write's values
+  pub values : ℕ → ℕ
+  pub last : Ended
+
+-- ---- Tables
+
+pub record Sizes : Type 0 where
+  pub clients : ℕ
+  pub partitions : ℕ
+  pub items : ℕ
+
+pub record Tables : Type 0 where
+  pub sizes : Sizes
+  -- of an item, at its partition (cabinet)
+  pub latest : ℕ → Entry
+  -- of a client and an item
+  pub view : ℕ → ℕ → Entry
+  -- of a client, 1 to `clients`
+  pub client : ℕ → Client
+  pub versions : List Version
+  -- the messages in flight (pile)
+  pub messages : List Message
+
+-- the partition of an item
+abbrev pub partitionOf : Tables → ℕ → ℕ
+partitionOf t k = k % t .sizes .partitions
+
+-- a client as a fresh start or the end of a transaction leaves it: idle, with no set
+abbrev pub resting : ℕ → Ended → Client
+resting count last =
+    record { mode = idle; count = count; set = 0; awaited = 0; asked = λ k. 0; stamp = 0; values = λ k. 0; last = last }
+
+-- what a fresh start makes
+abbrev pub fresh : Sizes → Tables
+fresh sizes =
+    record { sizes = sizes; latest = λ k. initial; view = λ d k. initial; client = λ d. resting 0 nothing; versions = []; messages = [] }
+
+-- ---- changes: the tables with one field another
+
+-- the function f, but v at k
+abbrev pub put : {A : Type 0} → (ℕ → A) → ℕ → A → ℕ → A
+put f k v j = cond (eqb j k) v (f j)
+
+abbrev pub withClient : Tables → ℕ → Client → Tables
+withClient t d c =
+    record { sizes = t .sizes; latest = t .latest; view = t .view; client = put (t .client) d c; versions = t .versions; messages = t .messages }
+
+-- the whole view of client d
+abbrev pub withView : Tables → ℕ → (ℕ → Entry) → Tables
+withView t d entries =
+    record { sizes = t .sizes; latest = t .latest; view = put (t .view) d entries; client = t .client; versions = t .versions; messages = t .messages }
+
+abbrev pub withLatest : Tables → (ℕ → Entry) → Tables
+withLatest t entries =
+    record { sizes = t .sizes; latest = entries; view = t .view; client = t .client; versions = t .versions; messages = t .messages }
+
+abbrev pub withVersions : Tables → List Version → Tables
+withVersions t versions =
+    record { sizes = t .sizes; latest = t .latest; view = t .view; client = t .client; versions = versions; messages = t .messages }
+
+abbrev pub withMessages : Tables → List Message → Tables
+withMessages t messages =
+    record { sizes = t .sizes; latest = t .latest; view = t .view; client = t .client; versions = t .versions; messages = messages }
