@@ -1,0 +1,82 @@
+-- A delivery keeps the tables in range: whatever it stores, shows or sends was in the message, the client, a latest or a stored version.
+-- Assumes nothing.
+use mathlib.Core.List.{[], _∷_, _++_}
+use mathlib.Core.Path.{sym, subst}
+use Prim.Native.Nat.{ℕ}
+use Rattle.basics.specs.Lists.{without}
+use Rattle.protocol.specs.declared.Message.{Message}
+use Rattle.protocol.specs.declared.Message.the-variants.{Prepare, Prepared, Commit, Get, Got}
+use Rattle.protocol.specs.Tables.{Sizes, Tables, laterOf, writerOf}
+use Rattle.protocol.specs.Range.{Capacities}
+use Rattle.protocol.specs.Steps.{found, isLast, prepared, got, committed, touches, version, delivered, joined, messageAt}
+use Rattle.protocol.specs.Calls.{deliver, effect}
+use Rattle.protocol.proofs.Each.{Each, each-none, each-one, each-append, each-without, each-upto}
+use Rattle.protocol.proofs.Ranges.Values.{IsClient, EntryInRange, EntriesInRange, VersionInRange, MessageInRange}
+use Rattle.protocol.proofs.Ranges.Tables.{InRange}
+use Rattle.protocol.proofs.Refusals.{Expected, AcceptedDeliver, accepted-message}
+use Rattle.protocol.proofs.Delivered.{delivered-sizes}
+use Rattle.protocol.proofs.Put.{by-cond, put-all}
+use Rattle.protocol.proofs.Kept.Changes.{range-both, range-latest, range-versions, range-messages}
+use Rattle.protocol.proofs.Kept.Values.{range-later, range-seen, range-found, range-committed, range-prepared, range-got}
+
+-- what changes beside the messages in flight
+pub range-delivered : (t : Tables) (m : Message) → InRange t → MessageInRange (t .sizes) m → Expected t m → InRange (delivered t m)
+unfolding delivered
+range-delivered t (Prepare v) r h x =
+    range-versions t r (t .versions ++ v ∷ [])
+    (each-append (VersionInRange (t .sizes)) (t .versions) (v ∷ []) (r .versions) (each-one (VersionInRange (t .sizes)) v h))
+range-delivered t (Prepared k stamp) r h x =
+    let z = t .sizes in
+    let d = writerOf stamp in
+    let c = t .client d in
+    let one : IsClient z d = h .stamp .writer in
+    range-both t r d (prepared c k) _
+    (range-prepared z c k (r .client d one) (x .mode))
+    (by-cond (EntriesInRange z) (isLast c k) _ _
+    (λ l. range-seen z (t .view d) (c .set) stamp (r .view d one) (r .client d one .set) (h .stamp))
+    (λ l. r .view d one))
+range-delivered t (Commit p stamp) r h x = range-latest t r (committed t p stamp) (range-committed t p stamp r (h .stamp))
+range-delivered t (Get d k stamp) r h x = r
+range-delivered t (Got d v latest) r h x =
+    let z = t .sizes in
+    let k = v .item in
+    let view = r .view d (h .client) in
+    let entry = range-later z (t .view d k) latest (view k (h .item)) (h .latest) in
+    range-both t r d (got (t .client d) k (v .value)) _
+    (range-got z (t .client d) k (v .value) (r .client d (h .client)) (x .mode) (h .value))
+    (λ j l. put-all (EntryInRange z) (t .view d) k (laterOf (t .view d k) latest) j entry (view j l))
+
+-- what joins
+pub range-joined : (t : Tables) (m : Message) → InRange t → MessageInRange (t .sizes) m → Each (MessageInRange (t .sizes)) (joined t m)
+unfolding joined
+range-joined t (Prepare v) r h =
+    each-one (MessageInRange (t .sizes)) (Prepared (v .item) (v .stamp)) (record { item = h .item; stamp = h .stamp })
+range-joined t (Prepared k stamp) r h =
+    let s = t .client (writerOf stamp) .set in
+    by-cond (Each (MessageInRange (t .sizes))) (isLast (t .client (writerOf stamp)) k) _ _
+    (λ l. each-upto (MessageInRange (t .sizes)) (λ p. Commit p stamp) (t .sizes .partitions) (λ p. touches t s p (t .sizes .items)) (λ p b e.
+    record { partition = b; stamp = h .stamp }))
+    (λ l. each-none (MessageInRange (t .sizes)))
+range-joined t (Commit p stamp) r h = each-none (MessageInRange (t .sizes))
+range-joined t (Get d k stamp) r h =
+    each-one (MessageInRange (t .sizes)) (Got d (version k (found (t .versions) k stamp .value) stamp 0) (t .latest k))
+    (record {
+      client = h .client;
+      item = h .item;
+      value = range-found (t .sizes) (t .versions) k stamp (r .versions) .value;
+      stamp = h .stamp;
+      latest = r .latest k (h .item);
+    })
+range-joined t (Got d v latest) r h = each-none (MessageInRange (t .sizes))
+
+pub range-deliver : (caps : Capacities) (t : Tables) (i : ℕ) → AcceptedDeliver caps t i → InRange (effect t (deliver i))
+unfolding effect
+range-deliver caps t i a =
+    let r = a .valid .inRange in
+    let m = messageAt t i in
+    let known = accepted-message caps t i a in
+    let P = MessageInRange (t .sizes) in
+    let rest = without i (t .messages) in
+    let each : Each P (rest ++ joined t m) = each-append P rest (joined t m) (each-without P i (t .messages) (r .messages)) (range-joined t m r known) in
+    range-messages (delivered t m) (range-delivered t m r known (a .expected)) (rest ++ joined t m)
+    (subst (λ (z : Sizes). Each (MessageInRange z) (rest ++ joined t m)) (sym (delivered-sizes t m)) each)

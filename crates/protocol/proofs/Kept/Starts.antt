@@ -1,0 +1,111 @@
+-- A start keeps the tables in range: a read asks for stamps that its view holds, and a write's stamp has the next number and its own
+-- client. Assumes nothing.
+use mathlib.Core.Bool.{true, cond}
+use mathlib.Core.List.{List, _++_}
+use mathlib.Core.Path.{_≡_, sym}
+use Prim.Native.Nat.{ℕ, zero, suc, _*_, _%_, _^_, _≤_, _<_}
+use native.Mathlib.Omega.{arith}
+use borrow.Author.Tests.{ne-eqb}
+use Rattle.hex.specs.Number.{numberAt}
+use Rattle.itemset.specs.Set.{has, rank}
+use Rattle.itemset.specs.Laws.{has-below}
+use Rattle.protocol.specs.declared.Entry.{Entry}
+use Rattle.protocol.specs.declared.Message.{Message}
+use Rattle.protocol.specs.declared.Message.the-variants.{Prepare, Get}
+use Rattle.protocol.specs.Tables.{Sizes, Tables, Client, withClient, withMessages}
+use Rattle.protocol.specs.Range.{Capacities, isIdle}
+use Rattle.protocol.specs.Steps.{choice, asks, reader, gets, nextStamp, valueOf, writer, version, prepares}
+use Rattle.protocol.specs.Calls.{startRead, startWrite, effect}
+use Rattle.protocol.proofs.Each.{Each, each-append, each-upto}
+use Rattle.protocol.proofs.Ranges.Values.{Stamped, StampInRange, EntriesInRange, MessageInRange}
+use Rattle.protocol.proofs.Ranges.Clients.{ClientInRange}
+use Rattle.protocol.proofs.Ranges.Tables.{InRange}
+use Rattle.protocol.proofs.Refusals.{AcceptedStart, AcceptedWrite}
+use Rattle.protocol.proofs.Put.{by-cond}
+use Rattle.protocol.proofs.Kept.Changes.{range-client, range-messages}
+use Rattle.protocol.proofs.Kept.Values.{range-initial, range-max}
+
+-- ---- Stamps and values
+
+-- among entries in range
+pub range-choice : (z : Sizes) (view : ℕ → Entry) → EntriesInRange z view
+    → (k : ℕ) → k < z .items → (n : ℕ) → n ≤ z .items → StampInRange z (choice view k n)
+unfolding choice
+range-choice z view h k l zero b = h k l .stamp
+range-choice z view h k l (suc n) b =
+    range-max z (choice view k n) (cond (has (view n .set) k) (view n .stamp) 0)
+    (range-choice z view h k l n (omega arith))
+    (by-cond (StampInRange z) (has (view n .set) k) _ _ (λ e. h n b .stamp) (λ e. range-initial z))
+
+pub value-fits : (s : ℕ) (bytes : List ℕ) (k : ℕ) → valueOf s bytes k < 2 ^ 32
+value-fits s bytes k =
+    by-cond (λ v. v < 2 ^ 32) (has s k) (numberAt 4 bytes (4 * rank s k) % 2 ^ 32) 0 (λ e. omega arith) (λ e. omega arith)
+
+-- ---- A client starts, and messages join
+
+range-start : (t : Tables) → InRange t → (d : ℕ) (c : Client) (ms : List Message) → ClientInRange (t .sizes) c
+    → Each (MessageInRange (t .sizes)) ms → InRange (withMessages (withClient t d c) (t .messages ++ ms))
+range-start t r d c ms h each =
+    range-messages (withClient t d c) (range-client t r d c h) (t .messages ++ ms)
+    (each-append (MessageInRange (t .sizes)) (t .messages) ms (r .messages) each)
+
+-- ---- Start a read
+
+module _ (caps : Capacities) (t : Tables) (d s : ℕ) (a : AcceptedStart caps t d s) where
+  pub range-asks : (k : ℕ) → has s k ≡ true → StampInRange (t .sizes) (asks t d k)
+  range-asks k e =
+      range-choice (t .sizes) (t .view d) (a .valid .inRange .view d (a .client)) k (has-below s k (t .sizes .items) (a .set) e) (t .sizes .items) (omega arith)
+
+  pub range-reader : ClientInRange (t .sizes) (reader t d s)
+  unfolding isIdle
+  range-reader =
+      let c = a .valid .inRange .client d (a .client) in
+      record {
+        count = c .count;
+        set = a .set;
+        awaited = a .set;
+        within = λ k e. e;
+        idle = sym (ne-eqb s 0 (a .some));
+        stamp = range-initial (t .sizes);
+        asked = λ k e. rw e (range-asks k e);
+        values = λ k e. omega arith;
+        last = c .last;
+      }
+
+  pub range-read : InRange (effect t (startRead d s))
+  unfolding effect
+  range-read =
+      range-start t (a .valid .inRange) d (reader t d s) (gets t d s) range-reader
+      (each-upto (MessageInRange (t .sizes)) (λ k. Get d k (asks t d k)) (t .sizes .items) (has s) (λ k l e.
+      record { client = a .client; item = l; stamp = range-asks k e }))
+
+-- ---- Start a write
+
+module _ (caps : Capacities) (t : Tables) (d s : ℕ) (bytes : List ℕ) (a : AcceptedWrite caps t d s bytes) where
+  count-fits : suc (t .client d .count) < 2 ^ 32
+  count-fits = omega (arith, a .countLeft, a .start .valid .inRange .client d (a .start .client) .count)
+
+  pub range-next : Stamped (t .sizes) (nextStamp t d)
+  range-next = omega (arith, count-fits)
+
+  pub range-writer : ClientInRange (t .sizes) (writer t d s bytes)
+  unfolding isIdle
+  range-writer =
+      record {
+        count = count-fits;
+        set = a .start .set;
+        awaited = a .start .set;
+        within = λ k e. e;
+        idle = sym (ne-eqb s 0 (a .start .some));
+        stamp = λ n. range-next;
+        asked = λ k e. range-initial (t .sizes);
+        values = λ k e. value-fits s bytes k;
+        last = a .start .valid .inRange .client d (a .start .client) .last;
+      }
+
+  pub range-write : InRange (effect t (startWrite d s bytes))
+  unfolding effect
+  range-write =
+      range-start t (a .start .valid .inRange) d (writer t d s bytes) (prepares t d s bytes) range-writer
+      (each-upto (MessageInRange (t .sizes)) (λ k. Prepare (version k (valueOf s bytes k) (nextStamp t d) s)) (t .sizes .items) (has s) (λ k l e.
+      record { item = l; value = value-fits s bytes k; stamp = range-next; set = a .start .set; own = e }))

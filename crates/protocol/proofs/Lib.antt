@@ -1,0 +1,19 @@
+-- Document 01's examples, what each test and frame tells, that valid tables stay valid, the invariant, runs of calls, and condition 3.
+pub mod Examples
+pub mod Stamp
+pub mod Tells
+pub mod Each
+pub mod Put
+pub mod Stored
+pub mod Shown
+pub mod Ranges
+pub mod Refusals
+pub mod Delivered
+pub mod Touched
+pub mod Load
+pub mod Occupied
+pub mod Kept
+pub mod Valid
+pub mod Invariant
+pub mod Runs
+pub mod Condition3

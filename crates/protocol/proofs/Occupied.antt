@@ -1,0 +1,81 @@
+-- A read occupies no version, a write one for each item of its set, and a delivery none more: a delivered prepare leaves and its
+-- version stays. Assumes nothing.
+use mathlib.Core.Bool.{Bool, true, false, cond}
+use mathlib.Core.List.{List, [], _∷_, map}
+use mathlib.Core.Path.{_≡_, refl}
+use Prim.Native.Nat.{ℕ, _+_}
+use native.Mathlib.Omega.{arith}
+use lib.ListN.{length, length-append}
+use Rattle.basics.specs.Cases.{by-test}
+use Rattle.basics.specs.Lists.{counted, counted-append, counted-without, without}
+use Rattle.itemset.specs.Set.{count, members, upto}
+use Rattle.itemset.specs.Members.{length-members}
+use Rattle.protocol.specs.declared.Message.{Message}
+use Rattle.protocol.specs.declared.Message.the-variants.{Prepare, Prepared, Commit, Get, Got}
+use Rattle.protocol.specs.Tables.{Tables, writerOf}
+use Rattle.protocol.specs.Range.{Capacities, isPrepare, occupied}
+use Rattle.protocol.specs.Steps.{asks, gets, valueOf, nextStamp, version, prepares, isLast, commits, touches, delivered, joined, messageAt}
+use Rattle.protocol.specs.Calls.{startRead, startWrite, deliver, effect}
+use Rattle.protocol.proofs.Refusals.{AcceptedStart, AcceptedDeliver}
+
+-- ---- Prepares among the messages of one kind
+
+counted-each : {A : Type 0} (f : A → Message) (b : Bool) (xs : List A) → ((x : A) → isPrepare (f x) ≡ b)
+    → counted isPrepare (map f xs) ≡ cond b (length xs) 0
+unfolding counted
+counted-each f true [] h = refl
+counted-each f false [] h = refl
+counted-each f true (x ∷ xs) h = rw (h x) (omega (arith, counted-each f true xs h))
+counted-each f false (x ∷ xs) h = rw (h x) (omega (arith, counted-each f false xs h))
+
+-- ---- Starts
+
+module _ (caps : Capacities) (t : Tables) (d s : ℕ) (a : AcceptedStart caps t d s) where
+  pub occupied-read : occupied (effect t (startRead d s)) ≡ occupied t
+  unfolding effect occupied isPrepare
+  occupied-read =
+      omega (
+        arith,
+        counted-append isPrepare (t .messages) (gets t d s),
+        counted-each (λ k. Get d k (asks t d k)) false (members (t .sizes .items) s) (λ k. refl),
+      )
+
+  pub occupied-write : (bytes : List ℕ) → occupied (effect t (startWrite d s bytes)) ≡ occupied t + count s
+  unfolding effect occupied isPrepare
+  occupied-write bytes =
+      omega (
+        arith,
+        counted-append isPrepare (t .messages) (prepares t d s bytes),
+        counted-each (λ k. Prepare (version k (valueOf s bytes k) (nextStamp t d) s)) true (members (t .sizes .items) s) (λ k. refl),
+        length-members s (t .sizes .items) (a .set),
+      )
+
+-- ---- Deliveries
+
+commits-none : (t : Tables) (s stamp : ℕ) → counted isPrepare (commits t s stamp) ≡ 0
+unfolding isPrepare
+commits-none t s stamp =
+    counted-each (λ p. Commit p stamp) false (upto (t .sizes .partitions) (λ p. touches t s p (t .sizes .items))) (λ p. refl)
+
+occupied-delivered : (t : Tables) (m : Message)
+    → length (delivered t m .versions) + counted isPrepare (joined t m) ≡ length (t .versions) + cond (isPrepare m) 1 0
+unfolding delivered joined isPrepare counted
+occupied-delivered t (Prepare v) = omega (arith, length-append (t .versions) (v ∷ []))
+occupied-delivered t (Prepared k stamp) =
+    let c = t .client (writerOf stamp) in
+    by-test (isLast c k)
+    (λ l. rw l (omega (arith, commits-none t (c .set) stamp)))
+    (λ l. rw l (omega arith))
+occupied-delivered t (Commit p stamp) = omega arith
+occupied-delivered t (Get d k stamp) = omega arith
+occupied-delivered t (Got d v latest) = omega arith
+
+pub occupied-deliver : (caps : Capacities) (t : Tables) (i : ℕ) → AcceptedDeliver caps t i → occupied (effect t (deliver i)) ≡ occupied t
+unfolding effect occupied
+occupied-deliver caps t i a =
+    omega (
+      arith,
+      counted-append isPrepare (without i (t .messages)) (joined t (messageAt t i)),
+      counted-without isPrepare i (t .messages) (Commit 0 0) (a .place),
+      occupied-delivered t (messageAt t i),
+    )

@@ -1,0 +1,137 @@
+-- What an accepted call tells: its tests, taken one by one, as a record of plain facts, both ways. Assumes nothing.
+use mathlib.Core.Bool.{Bool, true, false}
+use mathlib.Core.List.{List, [], _∷_}
+use mathlib.Core.Logic.{_↔_, _≢_, inl, inr}
+use mathlib.Core.Path.{_≡_, refl}
+use Prim.Native.Nat.{ℕ, _+_, _*_, _^_, _≤_, _<_}
+use lib.Dec.{eqb}
+use lib.ListN.{length}
+use borrow.Author.Tests.{eqb-false}
+use Rattle.basics.specs.Cases.{not-both}
+use Rattle.basics.specs.Lists.{in-getD}
+use Rattle.itemset.specs.Set.{has, count}
+use Rattle.protocol.specs.declared.Version.{Version}
+use Rattle.protocol.specs.declared.Message.{Message}
+use Rattle.protocol.specs.declared.Message.the-variants.{Prepare, Prepared, Commit, Get, Got}
+use Rattle.protocol.specs.Tables.{Sizes, Tables, idle, reading, writing, writerOf}
+use Rattle.protocol.specs.Range.{Capacities, load, occupied}
+use Rattle.protocol.specs.Steps.{messageAt, stored}
+use Rattle.protocol.specs.Calls.{startRead, startWrite, deliver, show, Test, test, first, unexpected, missing, isNothing, refusal, freshRefusal, shownFrame}
+use Rattle.protocol.proofs.Tells.{tells}
+use Rattle.protocol.proofs.Each.{Each}
+use Rattle.protocol.proofs.Ranges.Values.{SizesInRange, tells-sizes, IsClient, MessageInRange}
+use Rattle.protocol.proofs.Ranges.Clients.{tells-idle, tells-reading, tells-writing}
+use Rattle.protocol.proofs.Ranges.Tables.{Valid, tells-valid}
+
+-- ---- The first test that applies
+
+pub tells-first : (n : ℕ) (b : Bool) (xs : List Test) → eqb n 0 ≡ false → (first (test n b ∷ xs) ≡ 0) ↔ ((b ≡ false) × (first xs ≡ 0))
+unfolding first
+tells-first n true xs z = (λ e. absurd (eqb-false n 0 z e), λ p. not-both refl (p .0))
+tells-first n false xs z = (λ e. (refl, e), λ p. p .1)
+
+pub first-none : (xs : List Test) → Each (λ x. x .applies ≡ false) xs → first xs ≡ 0
+unfolding first
+first-none [] h = refl
+first-none (x ∷ xs) h = rw (h x (inl refl)) (first-none xs (λ y i. h y (inr i)))
+
+first-empty : first [] ≡ 0
+unfolding first
+first-empty = refl
+
+-- ---- Starts
+
+-- what both starts test
+pub record AcceptedStart (caps : Capacities) (t : Tables) (d s : ℕ) : Type 0 where
+  pub valid : Valid caps t
+  pub client : IsClient (t .sizes) d
+  pub idle : t .client d .mode ≡ idle
+  pub some : s ≢ 0
+  pub set : s < 2 ^ t .sizes .items
+  pub load : load t + count s ≤ caps .load
+
+-- and what a write tests besides
+pub record AcceptedWrite (caps : Capacities) (t : Tables) (d s : ℕ) (bytes : List ℕ) : Type 0 where
+  pub start : AcceptedStart caps t d s
+  pub values : length bytes ≡ 4 * count s
+  pub countLeft : t .client d .count ≢ 4294967295
+  pub occupied : occupied t + count s ≤ caps .versions
+
+ruleset tests = (tells-first, tells-valid, tells-idle, tells-reading, tells-writing, tells)
+
+pub accepted-read : (caps : Capacities) (t : Tables) (d s : ℕ) → (refusal caps t (startRead d s) ≡ 0) ↔ AcceptedStart caps t d s
+unfolding refusal
+accepted-read caps t d s = (λ e. let f = simp tests at e in search, λ a. simp tests (search first-empty))
+
+pub accepted-write : (caps : Capacities) (t : Tables) (d s : ℕ) (bytes : List ℕ)
+    → (refusal caps t (startWrite d s bytes) ≡ 0) ↔ AcceptedWrite caps t d s bytes
+unfolding refusal
+accepted-write caps t d s bytes = (λ e. let f = simp tests at e in search, λ a. simp tests (search first-empty))
+
+-- ---- Deliveries
+
+-- of a prepared reply: its client is writing and awaits it
+pub record AwaitedPrepared (t : Tables) (k σ : ℕ) : Type 0 where
+  pub mode : t .client (writerOf σ) .mode ≡ writing
+  pub awaited : has (t .client (writerOf σ) .awaited) k ≡ true
+  pub stamp : t .client (writerOf σ) .stamp ≡ σ
+
+-- of a got reply: its client is reading and awaits it
+pub record AwaitedGot (t : Tables) (d : ℕ) (v : Version) : Type 0 where
+  pub mode : t .client d .mode ≡ reading
+  pub awaited : has (t .client d .awaited) (v .item) ≡ true
+  pub stamp : t .client d .asked (v .item) ≡ v .stamp
+
+-- neither unexpected nor missing
+abbrev pub Expected : Tables → Message → Type 0
+Expected t (Prepare v) = stored (t .versions) (v .item) (v .stamp) ≡ false
+Expected t (Prepared k stamp) = AwaitedPrepared t k stamp
+Expected t (Commit p stamp) = Unit
+Expected t (Get d k stamp) = stamp ≢ 0 → stored (t .versions) k stamp ≡ true
+Expected t (Got d v latest) = AwaitedGot t d v
+
+pub tells-expected : (t : Tables) (m : Message) → ((unexpected t m ≡ false) × (missing t m ≡ false)) ↔ Expected t m
+unfolding unexpected missing
+tells-expected t (Prepare v) = (λ p. p .0, λ r. (r, refl))
+tells-expected t (Prepared k stamp) = (λ p. let f = simp tests at (p .0) in search, λ r. (simp tests search, refl))
+tells-expected t (Commit p stamp) = (λ p. tt, λ r. (refl, refl))
+tells-expected t (Get d k stamp) = (λ p. simp tests at (p .1), λ r. (refl, simp tests r))
+tells-expected t (Got d v latest) = (λ p. let f = simp tests at (p .0) in search, λ r. (simp tests search, refl))
+
+pub record AcceptedDeliver (caps : Capacities) (t : Tables) (i : ℕ) : Type 0 where
+  pub valid : Valid caps t
+  pub place : i < length (t .messages)
+  pub expected : Expected t (messageAt t i)
+
+pub accepted-deliver : (caps : Capacities) (t : Tables) (i : ℕ) → (refusal caps t (deliver i) ≡ 0) ↔ AcceptedDeliver caps t i
+unfolding refusal
+accepted-deliver caps t i = (
+  λ e.
+      let f = simp tests at e in
+      let expected = tells-expected t (messageAt t i) .0 (f .1 .1 .0, f .1 .1 .1 .0) in
+      search,
+  λ a.
+      let p = tells-expected t (messageAt t i) .1 (a .expected) in
+      simp tests (search first-empty),
+)
+
+-- the message delivered is in range
+pub accepted-message : (caps : Capacities) (t : Tables) (i : ℕ) → AcceptedDeliver caps t i → MessageInRange (t .sizes) (messageAt t i)
+accepted-message caps t i a = a .valid .inRange .messages (messageAt t i) (in-getD (t .messages) i (Commit 0 0) (a .place))
+
+-- ---- Fresh starts and showings
+
+pub accepted-fresh : (z : Sizes) → (freshRefusal z ≡ 0) ↔ SizesInRange z
+accepted-fresh z = (λ e. let f = simp (tests, tells-sizes) at e in search, λ r. simp (tests, tells-sizes) (search first-empty))
+
+pub record AcceptedShow (caps : Capacities) (t : Tables) (d : ℕ) (output : List ℕ) : Type 0 where
+  pub valid : Valid caps t
+  pub client : IsClient (t .sizes) d
+  pub idle : t .client d .mode ≡ idle
+  pub ended : isNothing (t .client d .last) ≡ false
+  pub room : length (shownFrame t d) ≤ length output
+
+pub accepted-show : (caps : Capacities) (t : Tables) (d : ℕ) (output : List ℕ)
+    → (refusal caps t (show d output) ≡ 0) ↔ AcceptedShow caps t d output
+unfolding refusal
+accepted-show caps t d output = (λ e. let f = simp tests at e in search, λ a. simp tests (search first-empty))

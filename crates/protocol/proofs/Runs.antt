@@ -1,0 +1,13 @@
+-- Lists of calls from a world with the invariant: runs, spans of reads and writes, and each clause of condition 3.
+pub mod Run
+pub mod Touch
+pub mod ReadSpan
+pub mod ReadStep
+pub mod Spans
+pub mod WriteSpan
+pub mod Provenance
+pub mod Deliverable
+pub mod OneMessage
+pub mod ReadCounts
+pub mod Shows
+pub mod ReadShows
