@@ -1,0 +1,73 @@
+-- `judge::judge_into` meets its contract. Assumes nothing.
+use mathlib.Core.List.{[]}
+use mathlib.Core.Path.{subst, _∙_}
+use native.Mathlib.Omega.{arith}
+use Rattle.judge.specs.Answer.{checked-lines, checked-bad}
+use Rattle.judge_log.specs.Scan.{ScannedOf}
+use Rattle.judge_log.specs.declared.scan.Scanned.{Scanned}
+use Rattle.judge_log.specs.declared.scan.Scanned.the-variants.{Lines, Bad}
+use borrow.Author.Needs.{needs}
+use Rattle.judge.proofs.judge_into.Statement.{statement}
+use Rattle.judge.proofs.judge_into.Tie as tie
+
+-- what scanning told, in each case
+lines : (c : tie.After-scanned) → ScannedOf (c .before .before .before .before .before .before .before .before .before .before .before .before .args .log .now) (c .before .before .before .before .before .before .scan .last .1 .0) (c .before .before .before .before .before .before .scan .last .1 .1 .0) (Lines (c .scanned .given .0 .0))
+lines c =
+    subst (λ (s : Scanned). ScannedOf (c .before .before .before .before .before .before .before .before .before .before .before .before .args .log .now) (c .before .before .before .before .before .before .scan .last .1 .0) (c .before .before .before .before .before .before .scan .last .1 .1 .0) s) (c .scanned .given .1) (c .before .before .before .before .before .before .scan .ensures)
+
+bad : (c : tie.After-scanned2) → ScannedOf (c .before .before .before .before .before .before .before .before .before .before .before .before .args .log .now) (c .before .before .before .before .before .before .scan .last .1 .0) (c .before .before .before .before .before .before .scan .last .1 .1 .0) (Bad (c .scanned2 .given .0 .0))
+bad c =
+    subst (λ (s : Scanned). ScannedOf (c .before .before .before .before .before .before .before .before .before .before .before .before .args .log .now) (c .before .before .before .before .before .before .scan .last .1 .0) (c .before .before .before .before .before .before .scan .last .1 .1 .0) s) (c .scanned2 .given .1) (c .before .before .before .before .before .before .scan .ensures)
+
+scan-requires : tie.Need-scan-requires
+scan-requires c κs = search needs
+
+enum-known-scanned : tie.Need-enum-known-scanned
+enum-known-scanned c = search needs
+
+judge-lines-requires : tie.Need-judge-lines-requires
+judge-lines-requires c κs = lines (c .before .before .before) .3
+
+enum-known-scanned-2 : tie.Need-enum-known-scanned-2
+enum-known-scanned-2 c = search needs
+
+add-t16 : tie.Need-add-t16
+add-t16 c = omega (arith, bad (c .before) .2)
+
+cast-t17 : tie.Need-cast-t17
+cast-t17 c = omega (arith, bad (c .before) .2)
+
+same-length : tie.Need-same-length
+same-length c = search needs
+
+same-length-2 : tie.Need-same-length-2
+same-length-2 c = search needs
+
+returns : tie.Need-returns
+returns c = c .judge-lines .ensures ∙ checked-lines _ _ _ _ (lines (c .before .before .before .before))
+
+same-length-3 : tie.Need-same-length-3
+same-length-3 c = search needs
+
+same-length-4 : tie.Need-same-length-4
+same-length-4 c = search needs
+
+returns-2 : tie.Need-returns-2
+returns-2 c = checked-bad _ [] [] _ (bad (c .before))
+
+pub judge-into-spec : {M : Type 1} → statement M
+judge-into-spec =
+    tie.close
+    (tie.spec
+    scan-requires
+    enum-known-scanned
+    judge-lines-requires
+    enum-known-scanned-2
+    add-t16
+    cast-t17
+    same-length
+    same-length-2
+    returns
+    same-length-3
+    same-length-4
+    returns-2)

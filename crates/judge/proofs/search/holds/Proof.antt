@@ -1,0 +1,60 @@
+-- `judge::search::holds` meets its contract. Assumes nothing.
+use mathlib.Core.Path.{_∙_}
+use Rattle.judge.specs.Search.{finding-one, finding-two, finding-three}
+use borrow.Author.Needs.{needs}
+use Rattle.judge.proofs.search.holds.Statement.{statement}
+use Rattle.judge.proofs.search.holds.Tie as tie
+
+frame-requires : tie.Need-frame-requires
+frame-requires c κs = search needs
+
+shown-stamp-requires : tie.Need-shown-stamp-requires
+shown-stamp-requires c κs = search needs
+
+shown-value-requires : tie.Need-shown-value-requires
+shown-value-requires c κs = search needs
+
+is-unwritten-requires : tie.Need-is-unwritten-requires
+is-unwritten-requires c κs = search needs
+
+returns : tie.Need-returns
+returns c =
+    let s = c .before .before .before .before .before .before .before .before in
+    c .is-unwritten .ensures
+    ∙ finding-one _ _ (s .args .n) _ (s .args .item) _ (s .pre .1) (c .before .before .before .before .frame .ensures) _ _ _ (c .before .before .if1 .taken) (c .before .before .before .shown-stamp .ensures) (c .before .shown-value .ensures)
+
+is-fractured-requires : tie.Need-is-fractured-requires
+is-fractured-requires c κs = search needs
+
+returns-2 : tie.Need-returns-2
+returns-2 c =
+    let s = c .before .before .before .before .before .before .before .before in
+    c .is-fractured .ensures
+    ∙ finding-two _ _ (s .args .n) _ (s .args .item) _ (s .pre .1) (c .before .before .before .before .frame .ensures) _ _ (c .before .if2 .taken) (c .before .before .before .shown-stamp .ensures)
+
+client-requires : tie.Need-client-requires
+client-requires c κs = search needs
+
+is-missed-requires : tie.Need-is-missed-requires
+is-missed-requires c κs = search needs
+
+returns-3 : tie.Need-returns-3
+returns-3 c =
+    let s = c .before .before .before .before .before .before .before .before .before in
+    c .is-missed .ensures
+    ∙ finding-three _ _ (s .args .n) _ (s .args .item) _ (s .pre .1) (c .before .before .before .before .before .frame .ensures) _ _ _ (c .before .before .before .if1 .left) (c .before .before .if2 .left) (c .before .client .ensures .0) (c .before .before .before .before .shown-stamp .ensures)
+
+pub holds-spec : {M : Type 1} → statement M
+holds-spec =
+    tie.close
+    (tie.spec
+    frame-requires
+    shown-stamp-requires
+    shown-value-requires
+    is-unwritten-requires
+    returns
+    is-fractured-requires
+    returns-2
+    client-requires
+    is-missed-requires
+    returns-3)

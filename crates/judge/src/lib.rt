@@ -1,0 +1,113 @@
+// The judge of a log (document 01: findings). It knows the published definitions and nothing of the store.
+mod findings;
+mod marks;
+mod search;
+
+use crate::marks::mark_lines;
+use crate::search::first_fault;
+use crate::search::lowest;
+use judge_log::limits::too_long;
+use judge_log::scan::Scanned;
+use judge_log::scan::scan;
+ghost use mathlib.Core.Path.{_≡_};
+ghost use Prim.Native.Nat.{_≤_};
+ghost use Rattle.judge_log.specs.Cut.{framesIn};
+ghost use mathlib.Core.Bool.{false};
+ghost use Rattle.judge_log.specs.Log.{tooLong, framesOf};
+ghost use Rattle.judge_log.specs.Scan.{Scanning};
+ghost use Rattle.judge.specs.Findings.{judged, checked, verdict, numberOf};
+ghost use Rattle.judge.specs.Marks.{Table};
+ghost use Rattle.judge.specs.Published.{Says};
+
+// What the judge answers.
+pub enum Verdict {
+    // Over 32,768 bytes or over 256 line ends: refusal 16.
+    TooLong,
+    // Refusal 15, with the first malformed line, counted from 1.
+    Malformed { line: u16 },
+    // The finding, 1 to 3, with the first line at fault; 0 and 0 where the log is clean.
+    Judged { finding: u8, line: u16 },
+}
+
+// Well-formed frames, marked: the first line at fault and there the lowest finding.
+fn judge_marked(bytes: &[u8], starts: &[usize], marks: &[u64], n: usize) -> Verdict
+    requires { ⌜ Table (now bytes) (now starts) n (now marks) ⌝ }
+    ensures { λ r. ⌜ r ≡ judged (framesIn (now (bytes .entry)) (now (starts .entry)) n) ⌝ }
+{
+    let line = first_fault(bytes, starts, marks, n);
+    if line < n {
+        Verdict::Judged {
+            finding: lowest(bytes, starts, marks, n, line),
+            line: (line + 1) as u16,
+        }
+    } else {
+        Verdict::Judged {
+            finding: 0,
+            line: 0,
+        }
+    }
+}
+
+// Well-formed frames.
+fn judge_lines(bytes: &[u8], starts: &[usize], n: usize) -> Verdict
+    requires { ⌜ n ≤ 256 ⌝ }
+    ensures { λ r. ⌜ r ≡ judged (framesIn (now (bytes .entry)) (now (starts .entry)) n) ⌝ }
+{
+    let mut marks = [0u64; 256];
+    mark_lines(bytes, starts, n, &mut marks);
+    judge_marked(bytes, starts, &marks, n)
+}
+
+// A log within the limits, decoded into `bytes` with its lines' starts in `starts`.
+fn judge_into(log: &[u8], bytes: &mut [u8], starts: &mut [usize]) -> Verdict
+    requires { ⌜ Scanning (now log) 0 (now bytes) (now starts) 0 ⌝ }
+    ensures { λ r. ⌜ r ≡ checked (framesOf (now (log .entry))) ⌝ }
+{
+    let scanned = scan(log, bytes, starts);
+    match scanned {
+        Scanned::Lines(n) => judge_lines(bytes, starts, n),
+        Scanned::Bad(i) => Verdict::Malformed {
+            line: (i + 1) as u16,
+        },
+    }
+}
+
+// A log within the limits.
+fn judge_within(log: &[u8]) -> Verdict
+    requires { ⌜ tooLong (now log) ≡ false ⌝ }
+    ensures { λ r. ⌜ r ≡ checked (framesOf (now (log .entry))) ⌝ }
+{
+    let mut bytes = [0u8; 16384];
+    let mut starts = [0usize; 258];
+    judge_into(log, &mut bytes, &mut starts)
+}
+
+// The verdict on a log, whatever its bytes.
+pub fn judge(log: &[u8]) -> Verdict
+    ensures { λ r. ⌜ r ≡ verdict (now (log .entry)) ⌝ }
+    ensures { λ r. ⌜ Says (now (log .entry)) r ⌝ }
+{
+    if too_long(log) {
+        return Verdict::TooLong;
+    }
+    judge_within(log)
+}
+
+// The verdict as one number: the lowest byte is 0 or the refusal, bits 8 to 15 the finding, bits 16 to 31 the line.
+fn packed(v: Verdict) -> u64
+    ensures { λ r. ⌜ r ≡ numberOf v ⌝ }
+{
+    match v {
+        Verdict::TooLong => 16,
+        Verdict::Malformed { line } => 15 + (line as u64) * 65536,
+        Verdict::Judged { finding, line } => (finding as u64) * 256 + (line as u64) * 65536,
+    }
+}
+
+// The same call for C.
+#[no_mangle]
+pub extern "C" fn koolvent_judge(log: &[u8]) -> u64
+    ensures { λ r. ⌜ r ≡ numberOf (verdict (now (log .entry))) ⌝ }
+{
+    packed(judge(log))
+}

@@ -1,0 +1,122 @@
+// The first read at fault, and the lowest finding there (document 01: findings).
+use crate::findings::faults_at;
+use crate::findings::is_fractured;
+use crate::findings::is_missed;
+use crate::findings::is_unwritten;
+use judge_log::cut::frame;
+use judge_log::fields::client;
+use judge_log::fields::shown;
+use judge_log::fields::shown_stamp;
+use judge_log::fields::shown_value;
+ghost use mathlib.Core.Path.{_≡_};
+ghost use Prim.Native.Nat.{_<_};
+ghost use Rattle.judge_log.specs.Cut.{framesIn};
+ghost use Rattle.judge.specs.Findings.{findings, holdsAt, lowest as lowestOf, faultAt};
+ghost use Rattle.judge.specs.Marks.{Table};
+ghost use Rattle.judge.specs.Search.{findingOf};
+ghost use Rattle.judge_log.specs.Some.{firstFrom};
+
+// The first line at fault, counted from 0; `n` where there is none.
+pub fn first_fault(bytes: &[u8], starts: &[usize], marks: &[u64], n: usize) -> usize
+    requires { ⌜ Table (now bytes) (now starts) n (now marks) ⌝ }
+    ensures { λ r. ⌜ r ≡ firstFrom n 0 (faultAt (framesIn (now (bytes .entry)) (now (starts .entry)) n)) ⌝ }
+{
+    let mut found = n;
+    let mut i = 0;
+    'lines: while i < n {
+        let line = i;
+        i += 1;
+        let r = frame(bytes, starts, line);
+        let items = shown(r);
+        let of = client(r);
+        let mut k = 0;
+        'shown: while k < 64 {
+            let item = k;
+            k += 1;
+            if itemset::has(items, item) {
+                let stamp = shown_stamp(r, item);
+                let value = shown_value(r, item);
+                if is_unwritten(bytes, starts, marks, n, item, stamp, value) {
+                    found = line;
+                    break 'lines;
+                }
+                let mut j = 0;
+                'writes: while j < n {
+                    let write = j;
+                    j += 1;
+                    if faults_at(bytes, starts, marks, write, line, r, of, item, stamp) {
+                        found = line;
+                        break 'lines;
+                    }
+                }
+            } else {
+                continue 'shown;
+            }
+        }
+    }
+    found
+}
+
+// The finding of that number holds at an item that line `line` shows.
+fn holds(
+    finding: u64,
+    bytes: &[u8],
+    starts: &[usize],
+    marks: &[u64],
+    n: usize,
+    line: usize,
+    item: u64,
+) -> bool
+    requires { ⌜ Table (now bytes) (now starts) n (now marks) × (line < n) ⌝ }
+    ensures { λ b. ⌜ b ≡ findingOf finding (framesIn (now (bytes .entry)) (now (starts .entry)) n) line item ⌝ }
+{
+    let r = frame(bytes, starts, line);
+    let stamp = shown_stamp(r, item);
+    if finding == 1 {
+        return is_unwritten(bytes, starts, marks, n, item, stamp, shown_value(r, item));
+    }
+    if finding == 2 {
+        return is_fractured(bytes, starts, n, r, item, stamp);
+    }
+    is_missed(bytes, starts, line, client(r), item, stamp)
+}
+
+// Line `line` shows an item at which the finding holds.
+fn holds_at(
+    finding: u64,
+    bytes: &[u8],
+    starts: &[usize],
+    marks: &[u64],
+    n: usize,
+    line: usize,
+) -> bool
+    requires { ⌜ Table (now bytes) (now starts) n (now marks) × (line < n) ⌝ }
+    ensures { λ b. ⌜ b ≡ holdsAt (findingOf finding) (framesIn (now (bytes .entry)) (now (starts .entry)) n) line ⌝ }
+{
+    let items = shown(frame(bytes, starts, line));
+    let mut k = 0;
+    while k < 64 {
+        if itemset::has(items, k) & holds(finding, bytes, starts, marks, n, line, k) {
+            return true;
+        }
+        k += 1;
+    }
+    false
+}
+
+// The lowest finding at line `line`; 0 where none holds.
+pub fn lowest(bytes: &[u8], starts: &[usize], marks: &[u64], n: usize, line: usize) -> u8
+    requires { ⌜ Table (now bytes) (now starts) n (now marks) × (line < n) ⌝ }
+    ensures { λ r. ⌜ r ≡ lowestOf findings (framesIn (now (bytes .entry)) (now (starts .entry)) n) line ⌝ }
+{
+    if holds_at(1, bytes, starts, marks, n, line) {
+        return 1;
+    }
+    if holds_at(2, bytes, starts, marks, n, line) {
+        return 2;
+    }
+    if holds_at(3, bytes, starts, marks, n, line) {
+        return 3;
+    }
+    0
+}

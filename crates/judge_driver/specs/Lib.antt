@@ -1,0 +1,3 @@
+-- The definitions that the contracts of `judge_driver` cite.
+pub mod Input
+pub mod Lines

@@ -1,0 +1,29 @@
+-- `judge_log::fields::shown` meets its contract: the set where the kind is the one asked for, else none. Assumes nothing.
+use mathlib.Core.Path.{sym, _∙_}
+use lib.ListN.{getD}
+use borrow.Author.Tests.{eq-eqb, ne-eqb}
+use Rattle.judge_log.specs.Log.{shown}
+use borrow.Author.Needs.{needs}
+use Rattle.judge_log.proofs.fields.shown.Statement.{statement}
+use Rattle.judge_log.proofs.fields.shown.Tie as tie
+
+byte-requires : tie.Need-byte-requires
+byte-requires c κs = search needs
+
+set-requires : tie.Need-set-requires
+set-requires c κs = search needs
+
+returns : tie.Need-returns
+unfolding shown
+returns c =
+    let f = c .before .before .before .before .args .f .now in
+    rw (eq-eqb (getD f 0 0) 0x21 (sym (c .before .before .byte .ensures .0) ∙ c .before .if1 .taken)) (c .set .ensures)
+
+returns-2 : tie.Need-returns-2
+unfolding shown
+returns-2 c =
+    let f = c .before .before .before .args .f .now in
+    rw (ne-eqb (getD f 0 0) 0x21 (λ e. c .if1 .left (c .before .byte .ensures .0 ∙ e)))
+
+pub shown-spec : {M : Type 1} → statement M
+shown-spec = tie.close (tie.spec byte-requires set-requires returns returns-2)
