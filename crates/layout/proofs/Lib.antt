@@ -1,0 +1,13 @@
+-- The laws of the block: a word after a store, what a block must have room for, and that the changes of a block are those of the tables.
+pub mod At
+pub mod Room
+pub mod Kept
+pub mod ClientWords
+pub mod ClientHolds
+pub mod SameBut
+pub mod EncodesClient
+pub mod EncodesEntry
+pub mod EncodesLists
+pub mod Changed
+pub mod Blank
+pub mod Fresh

@@ -1,0 +1,83 @@
+-- The tables that a block has words for: no size, set or list is past its section. Valid tables are such. Assumes nothing.
+use mathlib.Core.Bool.{true}
+use mathlib.Core.List.{List}
+use mathlib.Core.Path.{_≡_}
+use Prim.Native.Nat.{ℕ, _≤_, _<_, _^_}
+use native.Mathlib.Nat.{lt-of-lt-of-le}
+use native.Mathlib.Omega.{arith}
+use lib.ListN.{length}
+use Rattle.itemset.specs.Set.{has}
+use Rattle.itemset.specs.Laws.{has-below}
+use Rattle.protocol.specs.declared.Version.{Version}
+use Rattle.protocol.specs.declared.Message.{Message}
+use Rattle.protocol.specs.Tables.{Sizes, Tables, Client, Ended, nothing, read, write, withClient, withVersions, withMessages}
+use Rattle.protocol.specs.Range.{load, occupied}
+use Rattle.protocol.proofs.Ranges.Tables.{Valid}
+use Rattle.protocol.proofs.Ranges.Clients.{EndedInRange, ClientInRange}
+use Rattle.protocol.proofs.Put.{put-all}
+use Rattle.layout.specs.Decode.{capacities}
+
+-- the items of a set are among the 64 that a block has words for
+abbrev pub Narrow : ℕ → Type 0
+Narrow s = (k : ℕ) → has s k ≡ true → k < 64
+
+abbrev pub NarrowEnded : Ended → Type 0
+NarrowEnded nothing = Unit
+NarrowEnded (read s stamps vs) = Narrow s
+NarrowEnded (write s stamp vs) = Narrow s
+
+pub record NarrowClient (c : Client) : Type 0 where
+  pub set : Narrow (c .set)
+  pub last : NarrowEnded (c .last)
+
+pub record Room (z : Sizes) (each : ℕ → Client) (versionCount messageCount : ℕ) : Type 0 where
+  pub clients : z .clients ≤ 8
+  pub items : z .items ≤ 64
+  pub versions : versionCount ≤ 512
+  pub messages : messageCount ≤ 128
+  pub client : (d : ℕ) → 1 ≤ d → d ≤ z .clients → NarrowClient (each d)
+
+-- a change of latest or view leaves this fact as it is
+abbrev pub HasRoom : Tables → Type 0
+HasRoom t = Room (t .sizes) (t .client) (length (t .versions)) (length (t .messages))
+
+pub narrow-below : (s n : ℕ) → s < 2 ^ n → n ≤ 64 → Narrow s
+narrow-below s n l h k e = lt-of-lt-of-le (has-below s k n l e) h
+
+narrow-ended : (z : Sizes) → z .items ≤ 64 → (e : Ended) → EndedInRange z e → NarrowEnded e
+narrow-ended z h nothing r = tt
+narrow-ended z h (read s stamps vs) r = narrow-below s (z .items) (r .set) h
+narrow-ended z h (write s stamp vs) r = narrow-below s (z .items) (r .set) h
+
+pub narrow-client : (z : Sizes) → z .items ≤ 64 → (c : Client) → ClientInRange z c → NarrowClient c
+narrow-client z h c r = record { set = narrow-below (c .set) (z .items) (r .set) h; last = narrow-ended z h (c .last) (r .last) }
+
+pub room-valid : (t : Tables) → Valid capacities t → HasRoom t
+unfolding load occupied
+room-valid t v =
+    let z = v .inRange .sizes in
+    record {
+      clients = z .clients;
+      items = z .items;
+      versions = omega (arith, v .occupied);
+      messages = omega (arith, v .load);
+      client = λ d l h. narrow-client (t .sizes) (z .items) (t .client d) (v .inRange .client d (l, h));
+    }
+
+-- a client with narrow sets in a client's place
+pub room-client : (t : Tables) (d : ℕ) (c : Client) → HasRoom t → NarrowClient c → HasRoom (withClient t d c)
+room-client t d c r n =
+    record {
+      clients = r .clients;
+      items = r .items;
+      versions = r .versions;
+      messages = r .messages;
+      client = λ e l h. put-all NarrowClient (t .client) d c e n (r .client e l h);
+    }
+
+-- lists that fit
+pub room-versions : (t : Tables) (vs : List Version) → HasRoom t → length vs ≤ 512 → HasRoom (withVersions t vs)
+room-versions t vs r l = record { clients = r .clients; items = r .items; versions = l; messages = r .messages; client = r .client }
+
+pub room-messages : (t : Tables) (ms : List Message) → HasRoom t → length ms ≤ 128 → HasRoom (withMessages t ms)
+room-messages t ms r l = record { clients = r .clients; items = r .items; versions = r .versions; messages = l; client = r .client }

@@ -1,0 +1,111 @@
+-- The decoder: the tables that the words of a block are, initial outside the sizes, the counts and the sets; and which blocks are valid.
+-- Assumes nothing.
+use mathlib.Core.Bool.{Bool, true, false, cond, not, _&&_, _||_}
+use mathlib.Core.List.{List, [], _∷_, _++_, map}
+use Prim.Native.Nat.{ℕ, zero, suc, _+_, min}
+use lib.Dec.{leb, ltb, eqb}
+use lib.ListN.{length}
+use Rattle.basics.specs.Lists.{every, table}
+use Rattle.itemset.specs.Set.{has}
+use Rattle.protocol.specs.declared.Version.{Version}
+use Rattle.protocol.specs.declared.Entry.{Entry}
+use Rattle.protocol.specs.declared.Message.{Message}
+use Rattle.protocol.specs.declared.Message.the-variants.{Prepare, Prepared, Commit, Get, Got}
+use Rattle.protocol.specs.Tables.{Sizes, Tables, Client, Mode, idle, reading, writing, Ended, nothing, read, write, initial, resting}
+use Rattle.protocol.specs.Steps.{version}
+use Rattle.protocol.specs.Range.{Capacities, valid, sizesInRange, isClient, isItem, isWriting, everyClient}
+use Rattle.layout.specs.Layout.{header, scalars, latest, views, asked, values, lastStamps, lastValues, versions, messages, needed, at, clientsAt, partitionsAt, itemsAt, versionsAt, messagesAt, modeAt, countAt, setAt, awaitedAt, stampAt, lastKindAt, lastSetAt, lastStampAt, latestAt, viewAt, itemAt, versionAt, messageAt}
+
+-- the capacities of the block
+abbrev pub capacities : Capacities
+capacities = record { versions = 512; load = 128 }
+
+-- ---- numbers of modes, kinds and ended transactions
+
+unfoldable pub modeOf : ℕ → Mode
+modeOf zero = idle
+modeOf (suc zero) = reading
+modeOf (suc (suc n)) = writing
+
+-- only the items of s count
+abbrev pub within : ℕ → (ℕ → ℕ) → ℕ → ℕ
+within s f k = cond (has s k) (f k) 0
+
+unfoldable pub endedOf : ℕ → ℕ → ℕ → (ℕ → ℕ) → (ℕ → ℕ) → Ended
+endedOf zero s stamp stamps vs = nothing
+endedOf (suc zero) s stamp stamps vs = read s (within s stamps) (within s vs)
+endedOf (suc (suc n)) s stamp stamps vs = write s stamp (within s vs)
+
+-- the message of this kind, from its seven other words
+unfoldable pub messageOf : ℕ → ℕ → ℕ → ℕ → ℕ → ℕ → Entry → Message
+messageOf zero who k v stamp s e = Commit 0 0
+messageOf (suc zero) who k v stamp s e = Prepare (version k v stamp s)
+messageOf (suc (suc zero)) who k v stamp s e = Prepared k stamp
+messageOf (suc (suc (suc zero))) who k v stamp s e = Commit who stamp
+messageOf (suc (suc (suc (suc zero)))) who k v stamp s e = Get who k stamp
+messageOf (suc (suc (suc (suc (suc n))))) who k v stamp s e = Got who (version k v stamp 0) e
+
+-- ---- field by field
+
+abbrev pub sizesIn : List ℕ → Sizes
+sizesIn b = record { clients = at b header clientsAt; partitions = at b header partitionsAt; items = at b header itemsAt }
+
+abbrev pub latestIn : List ℕ → ℕ → Entry
+latestIn b k = record { stamp = at b latest (latestAt k); set = at b latest (latestAt k + 1) }
+
+abbrev pub viewIn : List ℕ → ℕ → ℕ → Entry
+viewIn b d k = record { stamp = at b views (viewAt d k); set = at b views (viewAt d k + 1) }
+
+unfoldable pub clientIn : List ℕ → ℕ → Client
+clientIn b d =
+    let mode = modeOf (at b scalars (modeAt d)) in
+    let s = at b scalars (setAt d) in
+    record {
+      mode = mode;
+      count = at b scalars (countAt d);
+      set = s;
+      awaited = at b scalars (awaitedAt d);
+      asked = λ k. cond (isWriting mode) 0 (within s (λ j. at b asked (itemAt d j)) k);
+      stamp = cond (isWriting mode) (at b scalars (stampAt d)) 0;
+      values = within s (λ j. at b values (itemAt d j));
+      last = endedOf (at b scalars (lastKindAt d)) (at b scalars (lastSetAt d)) (at b scalars (lastStampAt d))
+          (λ j. at b lastStamps (itemAt d j)) (λ j. at b lastValues (itemAt d j));
+    }
+
+abbrev pub versionIn : List ℕ → ℕ → Version
+versionIn b i =
+    version (at b versions (versionAt i 0)) (at b versions (versionAt i 1)) (at b versions (versionAt i 2)) (at b versions (versionAt i 3))
+
+abbrev pub kindIn : List ℕ → ℕ → ℕ
+kindIn b i = at b messages (messageAt i 0)
+
+unfoldable pub messageIn : List ℕ → ℕ → Message
+messageIn b i =
+    messageOf (kindIn b i) (at b messages (messageAt i 1)) (at b messages (messageAt i 2)) (at b messages (messageAt i 3))
+    (at b messages (messageAt i 4)) (at b messages (messageAt i 5))
+    (record { stamp = at b messages (messageAt i 6); set = at b messages (messageAt i 7) })
+
+-- ---- the whole
+
+unfoldable pub tablesOf : List ℕ → Tables
+tablesOf b =
+    let z = sizesIn b in
+    record {
+      sizes = z;
+      latest = λ k. cond (isItem z k) (latestIn b k) initial;
+      view = λ d k. cond (isClient z d && isItem z k) (viewIn b d k) initial;
+      client = λ d. cond (isClient z d) (clientIn b d) (resting 0 nothing);
+      versions = table (min (at b header versionsAt) 512) (versionIn b);
+      messages = table (min (at b header messagesAt) 128) (messageIn b);
+    }
+
+-- modes, kinds and counts are the numbers of some
+unfoldable pub wellFormed : List ℕ → Bool
+wellFormed b =
+    leb needed (length b) && sizesInRange (sizesIn b) && leb (at b header versionsAt) 512 && leb (at b header messagesAt) 128
+    && everyClient (sizesIn b) (λ d. ltb (at b scalars (modeAt d)) 3 && ltb (at b scalars (lastKindAt d)) 3)
+    && every (at b header messagesAt) (λ i. leb 1 (kindIn b i) && leb (kindIn b i) 5)
+
+-- not refused by 1: the words are those of tables that are in range and within the capacities
+unfoldable pub validBlock : List ℕ → Bool
+validBlock b = wellFormed b && valid capacities (tablesOf b)

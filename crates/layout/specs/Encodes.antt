@@ -1,0 +1,89 @@
+-- When a block holds tables, word by word, with no mention of the decoder. Assumes nothing.
+use mathlib.Core.Bool.{Bool, true, false}
+use mathlib.Core.List.{List, [], _∷_}
+use mathlib.Core.Path.{_≡_}
+use Prim.Native.Nat.{ℕ, _+_, _≤_, _<_}
+use lib.ListN.{length, getD}
+use Rattle.itemset.specs.Set.{has}
+use Rattle.protocol.specs.declared.Version.{Version}
+use Rattle.protocol.specs.declared.Entry.{Entry}
+use Rattle.protocol.specs.declared.Message.{Message}
+use Rattle.protocol.specs.declared.Message.the-variants.{Prepare, Prepared, Commit, Get, Got}
+use Rattle.protocol.specs.Tables.{Tables, Client, Mode, idle, reading, writing, Ended, nothing, read, write}
+use Rattle.protocol.specs.Range.{isWriting}
+use Rattle.layout.specs.Layout.{Section, header, scalars, latest, views, asked, values, lastStamps, lastValues, versions, messages, needed, at, clientsAt, partitionsAt, itemsAt, versionsAt, messagesAt, modeAt, countAt, setAt, awaitedAt, stampAt, lastKindAt, lastSetAt, lastStampAt, latestAt, viewAt, itemAt, versionAt, messageAt}
+
+-- ---- the numbers
+
+abbrev pub numberOfMode : Mode → ℕ
+numberOfMode idle = 0
+numberOfMode reading = 1
+numberOfMode writing = 2
+
+abbrev pub numberOfEnded : Ended → ℕ
+numberOfEnded nothing = 0
+numberOfEnded (read s stamps vs) = 1
+numberOfEnded (write s stamp vs) = 2
+
+-- ---- field by field
+
+pub record HoldsEntry (b : List ℕ) (s : Section) (i : ℕ) (e : Entry) : Type 0 where
+  pub stamp : at b s i ≡ e .stamp
+  pub set : at b s (i + 1) ≡ e .set
+
+pub record HoldsVersion (b : List ℕ) (i : ℕ) (v : Version) : Type 0 where
+  pub item : at b versions (versionAt i 0) ≡ v .item
+  pub value : at b versions (versionAt i 1) ≡ v .value
+  pub stamp : at b versions (versionAt i 2) ≡ v .stamp
+  pub set : at b versions (versionAt i 3) ≡ v .set
+
+-- the words of message i that its kind uses
+abbrev pub word : List ℕ → ℕ → ℕ → ℕ
+word b i f = at b messages (messageAt i f)
+
+abbrev pub HoldsMessage : List ℕ → ℕ → Message → Type 0
+HoldsMessage b i (Prepare v) =
+    (word b i 0 ≡ 1) × (word b i 2 ≡ v .item) × (word b i 3 ≡ v .value) × (word b i 4 ≡ v .stamp) × (word b i 5 ≡ v .set)
+HoldsMessage b i (Prepared k stamp) = (word b i 0 ≡ 2) × (word b i 2 ≡ k) × (word b i 4 ≡ stamp)
+HoldsMessage b i (Commit p stamp) = (word b i 0 ≡ 3) × (word b i 1 ≡ p) × (word b i 4 ≡ stamp)
+HoldsMessage b i (Get d k stamp) = (word b i 0 ≡ 4) × (word b i 1 ≡ d) × (word b i 2 ≡ k) × (word b i 4 ≡ stamp)
+HoldsMessage b i (Got d v e) =
+    (word b i 0 ≡ 5) × (word b i 1 ≡ d) × (word b i 2 ≡ v .item) × (word b i 3 ≡ v .value) × (word b i 4 ≡ v .stamp)
+    × (word b i 6 ≡ e .stamp) × (word b i 7 ≡ e .set)
+
+-- the last ended transaction of client d: its set's items, and no others
+abbrev pub HoldsEnded : List ℕ → ℕ → Ended → Type 0
+HoldsEnded b d nothing = at b scalars (lastKindAt d) ≡ 0
+HoldsEnded b d (read s stamps vs) =
+    (at b scalars (lastKindAt d) ≡ 1) × (at b scalars (lastSetAt d) ≡ s)
+    × ((k : ℕ) → has s k ≡ true → at b lastStamps (itemAt d k) ≡ stamps k)
+    × ((k : ℕ) → has s k ≡ true → at b lastValues (itemAt d k) ≡ vs k)
+HoldsEnded b d (write s stamp vs) =
+    (at b scalars (lastKindAt d) ≡ 2) × (at b scalars (lastSetAt d) ≡ s) × (at b scalars (lastStampAt d) ≡ stamp)
+    × ((k : ℕ) → has s k ≡ true → at b lastValues (itemAt d k) ≡ vs k)
+
+pub record HoldsClient (b : List ℕ) (d : ℕ) (c : Client) : Type 0 where
+  pub mode : at b scalars (modeAt d) ≡ numberOfMode (c .mode)
+  pub count : at b scalars (countAt d) ≡ c .count
+  pub set : at b scalars (setAt d) ≡ c .set
+  pub awaited : at b scalars (awaitedAt d) ≡ c .awaited
+  -- a write has one stamp for all its items, any other client one for each item of its set
+  pub stamp : isWriting (c .mode) ≡ true → at b scalars (stampAt d) ≡ c .stamp
+  pub asked : isWriting (c .mode) ≡ false → (k : ℕ) → has (c .set) k ≡ true → at b asked (itemAt d k) ≡ c .asked k
+  pub values : (k : ℕ) → has (c .set) k ≡ true → at b values (itemAt d k) ≡ c .values k
+  pub last : HoldsEnded b d (c .last)
+
+-- ---- the whole
+
+pub record Encodes (b : List ℕ) (t : Tables) : Type 0 where
+  pub long : needed ≤ length b
+  pub clients : at b header clientsAt ≡ t .sizes .clients
+  pub partitions : at b header partitionsAt ≡ t .sizes .partitions
+  pub items : at b header itemsAt ≡ t .sizes .items
+  pub versionCount : at b header versionsAt ≡ length (t .versions)
+  pub messageCount : at b header messagesAt ≡ length (t .messages)
+  pub latest : (k : ℕ) → k < t .sizes .items → HoldsEntry b latest (latestAt k) (t .latest k)
+  pub view : (d : ℕ) → 1 ≤ d → d ≤ t .sizes .clients → (k : ℕ) → k < t .sizes .items → HoldsEntry b views (viewAt d k) (t .view d k)
+  pub client : (d : ℕ) → 1 ≤ d → d ≤ t .sizes .clients → HoldsClient b d (t .client d)
+  pub versions : (i : ℕ) → i < length (t .versions) → (none : Version) → HoldsVersion b i (getD (t .versions) i none)
+  pub messages : (i : ℕ) → i < length (t .messages) → (none : Message) → HoldsMessage b i (getD (t .messages) i none)

@@ -1,0 +1,44 @@
+-- Tables that are initial outside their sizes and sets: what a decoder can give. Assumes nothing.
+use mathlib.Core.Bool.{true, false}
+use mathlib.Core.Path.{_≡_}
+use Prim.Native.Nat.{ℕ}
+use Rattle.itemset.specs.Set.{has}
+use Rattle.protocol.specs.declared.Entry.{Entry}
+use Rattle.protocol.specs.declared.Version.{Version}
+use Rattle.protocol.specs.declared.Message.{Message}
+use Rattle.protocol.specs.declared.Message.the-variants.{Prepare, Prepared, Commit, Get, Got}
+use Rattle.protocol.specs.Tables.{Tables, Client, Ended, nothing, read, write, initial, resting}
+use Rattle.protocol.specs.Range.{isClient, isItem, isWriting}
+use Rattle.basics.specs.Lists.{In}
+
+-- 0 outside s
+abbrev pub Only : ℕ → (ℕ → ℕ) → Type 0
+Only s f = (k : ℕ) → has s k ≡ false → f k ≡ 0
+
+abbrev pub MaskedEnded : Ended → Type 0
+MaskedEnded nothing = Unit
+MaskedEnded (read s stamps vs) = Only s stamps × Only s vs
+MaskedEnded (write s stamp vs) = Only s vs
+
+pub record MaskedClient (c : Client) : Type 0 where
+  pub asked : Only (c .set) (c .asked)
+  pub values : Only (c .set) (c .values)
+  pub writing : isWriting (c .mode) ≡ true → (k : ℕ) → c .asked k ≡ 0
+  pub others : isWriting (c .mode) ≡ false → c .stamp ≡ 0
+  pub last : MaskedEnded (c .last)
+
+-- a got's version has the empty set
+abbrev pub MaskedMessage : Message → Type 0
+MaskedMessage (Prepare v) = Unit
+MaskedMessage (Prepared k stamp) = Unit
+MaskedMessage (Commit p stamp) = Unit
+MaskedMessage (Get d k stamp) = Unit
+MaskedMessage (Got d v e) = v .set ≡ 0
+
+pub record Masked (t : Tables) : Type 0 where
+  pub latest : (k : ℕ) → isItem (t .sizes) k ≡ false → t .latest k ≡ initial
+  pub clientView : (d k : ℕ) → isClient (t .sizes) d ≡ false → t .view d k ≡ initial
+  pub itemView : (d k : ℕ) → isItem (t .sizes) k ≡ false → t .view d k ≡ initial
+  pub absent : (d : ℕ) → isClient (t .sizes) d ≡ false → t .client d ≡ resting 0 nothing
+  pub client : (d : ℕ) → MaskedClient (t .client d)
+  pub messages : (m : Message) → In m (t .messages) → MaskedMessage m

@@ -1,0 +1,58 @@
+// Whole entries, by value: an item's latest committed write, and what a client last saw of an item (its view).
+ghost use mathlib.Core.Path.{_≡_};
+ghost use Prim.Native.Nat.{_+_, _≤_, _<_};
+ghost use lib.ListN.{getD, set};
+ghost use Rattle.layout.specs.Decode.{latestIn, viewIn};
+ghost use Rattle.layout.specs.Store.{storeLatest, storeView};
+use crate::put_word;
+use crate::word;
+use protocol::Entry;
+
+// The entry at place `i` of the section that starts at `base`.
+fn entry_at(b: &[u64], base: u64, i: u64) -> Entry
+    requires { ⌜ (base < 1024) × (i < 1024) ⌝ }
+    ensures { λ r. ⌜ r ≡ record { stamp = getD (now (b .entry)) (base + i) 0; set = getD (now (b .entry)) (base + (i + 1)) 0 } ⌝ }
+{
+    Entry {
+        stamp: word(b, (base + i) as usize),
+        set: word(b, (base + (i + 1)) as usize),
+    }
+}
+
+fn put_entry_at(b: &mut [u64], base: u64, i: u64, e: Entry)
+    requires { ⌜ (base < 1024) × (i < 1024) ⌝ }
+    ensures { λ _. ⌜ now (b .exit) ≡ set (set (now (b .entry)) (base + i) (e .stamp)) (base + (i + 1)) (e .set) ⌝ }
+{
+    put_word(b, (base + i) as usize, e.stamp);
+    put_word(b, (base + (i + 1)) as usize, e.set);
+}
+
+// The latest of item `k`.
+pub fn latest(b: &[u64], k: u64) -> Entry
+    requires { ⌜ k < 64 ⌝ }
+    ensures { λ r. ⌜ r ≡ latestIn (now (b .entry)) k ⌝ }
+{
+    entry_at(b, 80, 2 * k)
+}
+
+pub fn put_latest(b: &mut [u64], k: u64, e: Entry)
+    requires { ⌜ k < 64 ⌝ }
+    ensures { λ _. ⌜ now (b .exit) ≡ storeLatest (now (b .entry)) k e ⌝ }
+{
+    put_entry_at(b, 80, 2 * k, e);
+}
+
+// The entry of item `k` in the view of client `d`.
+pub fn view(b: &[u64], d: u64, k: u64) -> Entry
+    requires { ⌜ (1 ≤ d) × (d ≤ 8) × (k < 64) ⌝ }
+    ensures { λ r. ⌜ r ≡ viewIn (now (b .entry)) d k ⌝ }
+{
+    entry_at(b, 208, 128 * (d - 1) + 2 * k)
+}
+
+pub fn put_view(b: &mut [u64], d: u64, k: u64, e: Entry)
+    requires { ⌜ (1 ≤ d) × (d ≤ 8) × (k < 64) ⌝ }
+    ensures { λ _. ⌜ now (b .exit) ≡ storeView (now (b .entry)) d k e ⌝ }
+{
+    put_entry_at(b, 208, 128 * (d - 1) + 2 * k, e);
+}

@@ -1,0 +1,103 @@
+// Where each field of the tables lies in the lent block of 64-bit words (docs/LAYOUT.md). A word past the end of a block is
+// read as 0, and a store there changes nothing.
+ghost use mathlib.Core.Path.{_≡_};
+ghost use Prim.Native.Nat.{_≤_};
+ghost use lib.ListN.{length, getD, set};
+ghost use Rattle.layout.specs.Layout.{needed, at, store, header, clientsAt, partitionsAt, itemsAt, versionsAt, messagesAt};
+ghost use Rattle.layout.specs.Store.{storeSizes, blank, freshBlock};
+
+pub mod client;
+pub mod entry;
+
+// The word at `place`.
+pub fn word(b: &[u64], place: usize) -> u64
+    ensures { λ r. ⌜ r ≡ getD (now (b .entry)) place 0 ⌝ }
+{
+    if place < b.len() { b[place] } else { 0 }
+}
+
+// The word at `place` becomes `v`.
+pub fn put_word(b: &mut [u64], place: usize, v: u64)
+    ensures { λ _. ⌜ now (b .exit) ≡ set (now (b .entry)) place v ⌝ }
+{
+    if place < b.len() {
+        b[place] = v;
+    }
+}
+
+// How many clients (document 01: desks) there are.
+pub fn clients(b: &[u64]) -> u64
+    ensures { λ r. ⌜ r ≡ at (now (b .entry)) header clientsAt ⌝ }
+{
+    word(b, 0)
+}
+
+// How many partitions (cabinets) there are.
+pub fn partitions(b: &[u64]) -> u64
+    ensures { λ r. ⌜ r ≡ at (now (b .entry)) header partitionsAt ⌝ }
+{
+    word(b, 1)
+}
+
+// How many items (lines) there are.
+pub fn items(b: &[u64]) -> u64
+    ensures { λ r. ⌜ r ≡ at (now (b .entry)) header itemsAt ⌝ }
+{
+    word(b, 2)
+}
+
+// How many versions are stored.
+pub fn version_count(b: &[u64]) -> u64
+    ensures { λ r. ⌜ r ≡ at (now (b .entry)) header versionsAt ⌝ }
+{
+    word(b, 3)
+}
+
+// How many messages are in flight (in the pile).
+pub fn message_count(b: &[u64]) -> u64
+    ensures { λ r. ⌜ r ≡ at (now (b .entry)) header messagesAt ⌝ }
+{
+    word(b, 4)
+}
+
+// The three sizes.
+pub fn put_sizes(b: &mut [u64], clients: u64, partitions: u64, items: u64)
+    ensures { λ _. ⌜ now (b .exit) ≡ storeSizes (now (b .entry)) clients partitions items ⌝ }
+{
+    put_word(b, 0, clients);
+    put_word(b, 1, partitions);
+    put_word(b, 2, items);
+}
+
+pub fn put_version_count(b: &mut [u64], n: u64)
+    ensures { λ _. ⌜ now (b .exit) ≡ store (now (b .entry)) header versionsAt n ⌝ }
+{
+    put_word(b, 3, n);
+}
+
+pub fn put_message_count(b: &mut [u64], n: u64)
+    ensures { λ _. ⌜ now (b .exit) ≡ store (now (b .entry)) header messagesAt n ⌝ }
+{
+    put_word(b, 4, n);
+}
+
+// The first `n` words become 0.
+fn clear(b: &mut [u64], n: usize)
+    requires { ⌜ n ≤ length (now b) ⌝ }
+    ensures { λ _. ⌜ now (b .exit) ≡ blank n (now (b .entry)) ⌝ }
+{
+    let mut i = 0;
+    while i < n {
+        b[i] = 0;
+        i += 1;
+    }
+}
+
+// What an accepted fresh makes: every word of the needed length becomes 0 but the sizes.
+pub fn make_fresh(b: &mut [u64], clients: u64, partitions: u64, items: u64)
+    requires { ⌜ needed ≤ length (now b) ⌝ }
+    ensures { λ _. ⌜ now (b .exit) ≡ freshBlock (now (b .entry)) clients partitions items ⌝ }
+{
+    clear(b, 6352);
+    put_sizes(b, clients, partitions, items);
+}
