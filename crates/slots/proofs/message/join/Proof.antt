@@ -1,0 +1,63 @@
+-- `slots::message::join` meets its contract: two runs of four words, side by side, are one of eight. Assumes nothing.
+use mathlib.Core.Path.{_≡_}
+use Prim.Native.Nat.{suc, _+_, _*_}
+use native.Mathlib.Omega.{arith}
+use borrow.Author.Needs.{needs}
+use Rattle.slots.proofs.message.join.Statement.{statement}
+use Rattle.slots.proofs.message.join.Tie as tie
+
+mul-put-four : tie.Need-mul-put-four
+mul-put-four c = search needs
+
+add-put-four : tie.Need-add-put-four
+add-put-four c = search needs
+
+add-put-four-2 : tie.Need-add-put-four-2
+add-put-four-2 c = search needs
+
+put-four-requires : tie.Need-put-four-requires
+put-four-requires c κs = search needs
+
+mul-put-four-2 : tie.Need-mul-put-four-2
+mul-put-four-2 c = search needs
+
+add-put-four-3 : tie.Need-add-put-four-3
+add-put-four-3 c = search needs
+
+add-put-four-4 : tie.Need-add-put-four-4
+add-put-four-4 c = search needs
+
+put-four-requires-2 : tie.Need-put-four-requires-2
+put-four-requires-2 c κs = search needs
+
+add-put-message-count : tie.Need-add-put-message-count
+add-put-message-count c = search needs
+
+put-message-count-requires : tie.Need-put-message-count-requires
+put-message-count-requires c κs = search needs
+
+same-length : tie.Need-same-length
+same-length c = search needs
+
+returns : tie.Need-returns
+returns c =
+    let a = c .before .before .before .before .before .before .before .before .before .before .before .before .before .args in
+    let e : 5328 + (8 * a .n + 4) ≡ suc (suc (suc (suc (5328 + (8 * a .n + 0))))) = omega arith in
+    cc
+
+pub join-spec : {M : Type 1} → statement M
+join-spec =
+    tie.close
+    (tie.spec
+    mul-put-four
+    add-put-four
+    add-put-four-2
+    put-four-requires
+    mul-put-four-2
+    add-put-four-3
+    add-put-four-4
+    put-four-requires-2
+    add-put-message-count
+    put-message-count-requires
+    same-length
+    returns)

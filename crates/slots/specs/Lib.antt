@@ -1,0 +1,2 @@
+-- Stored versions and messages in flight: what a search among the versions finds.
+pub mod Found

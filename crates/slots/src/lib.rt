@@ -1,0 +1,27 @@
+// The stored versions and the messages in flight of a store, in one lent block of 64-bit words: each read and joined by value.
+ghost use mathlib.Core.Path.{_≡_};
+ghost use mathlib.Core.List.{[], _∷_};
+ghost use Prim.Native.Nat.{_<_};
+ghost use lib.Seq.{sets};
+use layout::put_word;
+
+pub mod message;
+pub mod version;
+
+// What a search finds: a place, or nothing.
+pub enum Found {
+    At(u64),
+    Nothing,
+}
+
+// Four words from `place` on.
+fn put_four(b: &mut [u64], place: u64, first: u64, second: u64, third: u64, fourth: u64)
+    requires { ⌜ place < 8000 ⌝ }
+    ensures { λ _. ⌜ now (b .exit) ≡ sets (now (b .entry)) place (first ∷ second ∷ third ∷ fourth ∷ []) ⌝ }
+{
+    let at = place as usize;
+    put_word(b, at, first);
+    put_word(b, at + 1, second);
+    put_word(b, at + 2, third);
+    put_word(b, at + 3, fourth);
+}

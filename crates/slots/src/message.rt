@@ -1,0 +1,203 @@
+// The messages in flight (document 01: the pile): eight words each, of which a message's kind says which it uses.
+ghost use mathlib.Core.Path.{_≡_};
+ghost use mathlib.Core.List.{[], _∷_};
+ghost use Prim.Native.Nat.{_+_, _≤_, _<_};
+ghost use lib.ListN.{length, take, drop};
+ghost use lib.Seq.{sets};
+ghost use Rattle.basics.specs.Lists.{counted, table};
+ghost use Rattle.protocol.specs.Range.{isPrepare};
+ghost use Rattle.layout.specs.Layout.{needed, at, store, base, header, messages, messagesAt, messageAt};
+ghost use Rattle.layout.specs.Decode.{kindIn, messageIn, messageOf};
+ghost use Rattle.layout.specs.Store.{appendMessage, takeOut};
+use crate::put_four;
+use layout::put_message_count;
+use layout::word;
+use protocol::Entry;
+use protocol::Message;
+use protocol::Version;
+
+// Where the messages start.
+const MESSAGES: u64 = 5328;
+
+// Word `f` of the eight of message `i`.
+fn part(b: &[u64], i: u64, f: u64) -> u64
+    requires { ⌜ (i < 128) × (f < 8) ⌝ }
+    ensures { λ r. ⌜ r ≡ at (now (b .entry)) messages (messageAt i f) ⌝ }
+{
+    word(b, (MESSAGES + (8 * i + f)) as usize)
+}
+
+// The kind of the message at place `i`, 1 to 5.
+pub fn kind(b: &[u64], i: u64) -> u64
+    requires { ⌜ i < 128 ⌝ }
+    ensures { λ r. ⌜ r ≡ kindIn (now (b .entry)) i ⌝ }
+{
+    part(b, i, 0)
+}
+
+// The message of this kind: the client or partition, what a version has, and the latest.
+fn of_kind(
+    kind: u64,
+    who: u64,
+    item: u64,
+    value: u64,
+    stamp: u64,
+    set: u64,
+    latest: Entry,
+) -> Message
+    ensures { λ r. ⌜ r ≡ messageOf kind who item value stamp set latest ⌝ }
+{
+    match kind {
+        0 => Message::Commit {
+            partition: 0,
+            stamp: 0,
+        },
+        1 => Message::Prepare(Version {
+            item,
+            value,
+            stamp,
+            set,
+        }),
+        2 => Message::Prepared { item, stamp },
+        3 => Message::Commit {
+            partition: who,
+            stamp,
+        },
+        4 => Message::Get {
+            client: who,
+            item,
+            stamp,
+        },
+        _ => Message::Got {
+            client: who,
+            version: Version {
+                item,
+                value,
+                stamp,
+                set: 0,
+            },
+            latest,
+        },
+    }
+}
+
+// The message at place `i`.
+pub fn message(b: &[u64], i: u64) -> Message
+    requires { ⌜ i < 128 ⌝ }
+    ensures { λ r. ⌜ r ≡ messageIn (now (b .entry)) i ⌝ }
+{
+    of_kind(
+        part(b, i, 0),
+        part(b, i, 1),
+        part(b, i, 2),
+        part(b, i, 3),
+        part(b, i, 4),
+        part(b, i, 5),
+        Entry {
+            stamp: part(b, i, 6),
+            set: part(b, i, 7),
+        },
+    )
+}
+
+// The eight words of a message join the `n` messages that are there, at the end.
+fn join(
+    b: &mut [u64],
+    n: u64,
+    kind: u64,
+    who: u64,
+    item: u64,
+    value: u64,
+    stamp: u64,
+    set: u64,
+    latest_stamp: u64,
+    latest_set: u64,
+)
+    requires { ⌜ n < 128 ⌝ }
+    ensures { λ _. ⌜ now (b .exit) ≡ store (sets (now (b .entry)) (base messages + messageAt n 0) (kind ∷ who ∷ item ∷ value ∷ stamp ∷ set ∷ «latest_stamp» ∷ «latest_set» ∷ [])) header messagesAt (n + 1) ⌝ }
+{
+    put_four(b, MESSAGES + (8 * n + 0), kind, who, item, value);
+    put_four(
+        b,
+        MESSAGES + (8 * n + 4),
+        stamp,
+        set,
+        latest_stamp,
+        latest_set,
+    );
+    put_message_count(b, n + 1);
+}
+
+// Message `m` joins the `n` that are there, at the end; words that its kind doesn't use are 0.
+pub fn append(b: &mut [u64], n: u64, m: Message)
+    requires { ⌜ n < 128 ⌝ }
+    ensures { λ _. ⌜ now (b .exit) ≡ appendMessage (now (b .entry)) n m ⌝ }
+{
+    match m {
+        Message::Prepare(v) => join(b, n, 1, 0, v.item, v.value, v.stamp, v.set, 0, 0),
+        Message::Prepared { item, stamp } => join(b, n, 2, 0, item, 0, stamp, 0, 0, 0),
+        Message::Commit { partition, stamp } => join(b, n, 3, partition, 0, 0, stamp, 0, 0, 0),
+        Message::Get {
+            client,
+            item,
+            stamp,
+        } => join(b, n, 4, client, item, 0, stamp, 0, 0, 0),
+        Message::Got {
+            client,
+            version,
+            latest,
+        } => join(
+            b,
+            n,
+            5,
+            client,
+            version.item,
+            version.value,
+            version.stamp,
+            0,
+            latest.stamp,
+            latest.set,
+        ),
+    }
+}
+
+// The `count` words that begin eight words after `from` move to `from`.
+fn move_up(b: &mut [u64], from: usize, count: usize)
+    requires { ⌜ from + 8 + count ≤ length (now b) ⌝ }
+    ensures { λ _. ⌜ now (b .exit) ≡ sets (now (b .entry)) from (take count (drop (from + 8) (now (b .entry)))) ⌝ }
+{
+    let mut k = 0;
+    while k < count {
+        b[from + k] = b[from + 8 + k];
+        k += 1;
+    }
+}
+
+// Of `n` messages the one at place `i` is taken out, and later ones move up by one.
+pub fn take_out(b: &mut [u64], n: u64, i: u64)
+    requires { ⌜ (i < n) × (n ≤ 128) × (needed ≤ length (now b)) ⌝ }
+    ensures { λ _. ⌜ now (b .exit) ≡ takeOut (now (b .entry)) n i ⌝ }
+{
+    move_up(
+        b,
+        (MESSAGES + (8 * i + 0)) as usize,
+        (8 * (n - (i + 1))) as usize,
+    );
+    put_message_count(b, n - 1);
+}
+
+// How many of `n` messages are prepares.
+pub fn prepares(b: &[u64], n: u64) -> u64
+    requires { ⌜ n ≤ 128 ⌝ }
+    ensures { λ r. ⌜ r ≡ counted isPrepare (table n (messageIn (now (b .entry)))) ⌝ }
+{
+    let mut count = 0;
+    let mut i = 0;
+    while i < n {
+        if kind(b, i) == 1 {
+            count += 1;
+        }
+        i += 1;
+    }
+    count
+}
