@@ -1,0 +1,33 @@
+-- The tests of bits: an item that a set lacks, and a set within another. Assumes nothing.
+use mathlib.Core.Bool.{Bool, true, false, not, _&&_, _||_}
+use mathlib.Core.Path.{_≡_, refl, sym, ap, _∙_}
+use Prim.Native.Nat.{ℕ, _/_, _%_, _^_, _<_}
+use lib.Bits.{bitAnd}
+use lib.Dec.{eqb}
+use borrow.Author.Tests.{eqb-true, eq-eqb}
+use Rattle.basics.specs.Cases.{test-ext}
+use Rattle.basics.specs.Lists.{every, every-at, at-every}
+use Rattle.itemset.specs.Set.{has}
+use Rattle.basics.specs.Cases.{by-test}
+use Rattle.itemset.specs.Laws.{low-set, low-clear, has-power, has-below, set-ext}
+use Rattle.itemset.specs.Bits.{has-and}
+
+pub lacks-power : (s k : ℕ) → eqb (s / 2 ^ k % 2) 0 ≡ not (has s k)
+lacks-power s k =
+    rw (has-power s k)
+    (by-test (eqb (s / 2 ^ k % 2) 1) (λ e. rw (low-set (s / 2 ^ k) e)) (λ e. rw (low-clear (s / 2 ^ k) e)))
+
+-- every item of s is one of t, by one mask
+and-or : (a b : Bool) → (a && b) ≡ a → (not a || b) ≡ true
+and-or true b e = e
+and-or false b e = refl
+
+or-and : (a b : Bool) → (a ≡ true → (not a || b) ≡ true) → (a && b) ≡ a
+or-and true b h = h refl
+or-and false b h = refl
+
+pub subset-mask : (s t n : ℕ) → s < 2 ^ n → eqb (bitAnd s t) s ≡ every n (λ k. not (has s k) || has t k)
+subset-mask s t n l =
+    test-ext _ _
+    (λ e. at-every n _ (λ k b. and-or (has s k) (has t k) (sym (has-and s t k) ∙ ap (λ (x : ℕ). has x k) (eqb-true (bitAnd s t) s e))))
+    (λ e. eq-eqb _ _ (set-ext (bitAnd s t) s (λ k. has-and s t k ∙ or-and (has s k) (has t k) (λ h. every-at n _ e k (has-below s k n l h)))))

@@ -1,0 +1,5 @@
+-- What the contracts of `range` cite besides the layout and the protocol.
+pub mod Sized
+pub mod Clients
+pub mod Messages
+pub mod Block

@@ -1,0 +1,79 @@
+// The load (messages in flight, and prepared replies that have come to clients still writing), and the versions in use (stored, and
+// in prepares).
+ghost use mathlib.Core.Bool.{cond};
+ghost use mathlib.Core.Path.{_≡_};
+ghost use Prim.Native.Nat.{_+_, _*_, _≤_, _<_};
+ghost use Rattle.basics.specs.Lists.{counted, table};
+ghost use Rattle.protocol.specs.Range.{arrived, total, isPrepare};
+ghost use Rattle.layout.specs.Decode.{clientIn, messageIn};
+use crate::message::message_word;
+
+// The prepared replies that have come to client `d`; a mode above 2 is no mode, and refused elsewhere.
+fn arrived_at(b: &[u64], d: u64) -> u64
+    requires { ⌜ (1 ≤ d) × (d ≤ 8) ⌝ }
+    ensures { λ r. ⌜ r ≡ arrived (clientIn (now (b .entry)) d) ⌝ }
+    ensures { λ r. ⌜ r ≤ 64 ⌝ }
+{
+    if layout::client::mode(b, d) < 2 {
+        return 0;
+    }
+    let set = itemset::count(layout::client::set_of(b, d));
+    let awaited = itemset::count(layout::client::awaited(b, d));
+    if set < awaited {
+        return 0;
+    }
+    set - awaited
+}
+
+fn arrived_all(b: &[u64], clients: u64) -> u64
+    requires { ⌜ clients ≤ 8 ⌝ }
+    ensures { λ r. ⌜ r ≡ total clients (λ d. arrived (clientIn (now (b .entry)) d)) ⌝ }
+    ensures { λ r. ⌜ r ≤ 64 * clients ⌝ }
+{
+    let mut sum = 0;
+    let mut i = 0;
+    while i < clients {
+        sum += arrived_at(b, i + 1);
+        i += 1;
+    }
+    sum
+}
+
+// The load of a block with so many clients and messages.
+pub fn load_of(b: &[u64], clients: u64, messages: u64) -> u64
+    requires { ⌜ (clients ≤ 8) × (messages ≤ 128) ⌝ }
+    ensures { λ r. ⌜ r ≡ messages + total clients (λ d. arrived (clientIn (now (b .entry)) d)) ⌝ }
+{
+    messages + arrived_all(b, clients)
+}
+
+// 1 where message `i` is a prepare.
+fn prepare_at(b: &[u64], i: u64) -> u64
+    requires { ⌜ i < 128 ⌝ }
+    ensures { λ r. ⌜ r ≡ cond (isPrepare (messageIn (now (b .entry)) i)) 1 0 ⌝ }
+    ensures { λ r. ⌜ r ≤ 1 ⌝ }
+{
+    if message_word(b, i, 0) == 1 { 1 } else { 0 }
+}
+
+fn prepares(b: &[u64], messages: u64) -> u64
+    requires { ⌜ messages ≤ 128 ⌝ }
+    ensures { λ r. ⌜ r ≡ counted isPrepare (table messages (messageIn (now (b .entry)))) ⌝ }
+    ensures { λ r. ⌜ r ≤ messages ⌝ }
+{
+    let mut sum = 0;
+    let mut i = 0;
+    while i < messages {
+        sum += prepare_at(b, i);
+        i += 1;
+    }
+    sum
+}
+
+// The versions in use of a block with so many stored versions and messages.
+pub fn occupied_of(b: &[u64], versions: u64, messages: u64) -> u64
+    requires { ⌜ (versions ≤ 512) × (messages ≤ 128) ⌝ }
+    ensures { λ r. ⌜ r ≡ versions + counted isPrepare (table messages (messageIn (now (b .entry)))) ⌝ }
+{
+    versions + prepares(b, messages)
+}

@@ -1,0 +1,43 @@
+// Single values: stamps, entries, stored versions, and whether a set lacks an item.
+ghost use mathlib.Core.Path.{_≡_};
+ghost use mathlib.Core.Bool.{not};
+ghost use Prim.Native.Nat.{_<_};
+ghost use Rattle.itemset.specs.Set.{has};
+ghost use Rattle.protocol.specs.Range.{stampInRange, entryInRange, versionInRange};
+ghost use Rattle.range.specs.Sized.{sized};
+use protocol::Entry;
+use protocol::Version;
+
+// A stamp: 0, or a number of 1 to 4,294,967,295 and a client that exists.
+pub fn stamp_in_range(clients: u64, stamp: u64) -> bool
+    ensures { λ r. ⌜ r ≡ stampInRange (sized clients 0) stamp ⌝ }
+{
+    let number = stamp / 16;
+    let writer = stamp % 16;
+    (stamp == 0) | (((1 <= number) & (number < 4294967296)) & ((1 <= writer) & (writer <= clients)))
+}
+
+pub fn entry_in_range(clients: u64, items: u64, e: Entry) -> bool
+    ensures { λ r. ⌜ r ≡ entryInRange (sized clients items) e ⌝ }
+{
+    stamp_in_range(clients, e.stamp) & itemset::all_below(e.set, items)
+}
+
+pub fn version_in_range(clients: u64, items: u64, v: Version) -> bool
+    ensures { λ r. ⌜ r ≡ versionInRange (sized clients items) v ⌝ }
+{
+    (v.item < items)
+        & (v.value < 4294967296)
+        & stamp_in_range(clients, v.stamp)
+        & (v.stamp != 0)
+        & itemset::all_below(v.set, items)
+        & itemset::has(v.set, v.item)
+}
+
+// Item `k` is no member of `set`.
+pub fn lacks(set: u64, k: u64) -> bool
+    requires { ⌜ k < 64 ⌝ }
+    ensures { λ r. ⌜ r ≡ not (has set k) ⌝ }
+{
+    (set >> k) % 2 == 0
+}

@@ -1,0 +1,112 @@
+// Which blocks are valid (refusal 1), and the load and the versions in use of a valid block.
+ghost use mathlib.Core.Bool.{true, cond, _&&_};
+ghost use mathlib.Core.Path.{_≡_};
+ghost use Prim.Native.Nat.{_≤_};
+ghost use lib.ListN.{length};
+ghost use lib.Dec.{leb};
+ghost use Rattle.protocol.specs.Range.{sizesInRange, load, occupied};
+ghost use Rattle.layout.specs.Decode.{tablesOf, validBlock};
+ghost use Rattle.range.specs.Sized.{sizes};
+ghost use Rattle.range.specs.Block.{tablesTest};
+
+mod capacity;
+mod client;
+mod entry;
+mod field;
+mod message;
+
+// The sizes are some that 2 allows, and there are no more versions and messages than a block holds.
+fn header_in_range(clients: u64, partitions: u64, items: u64, versions: u64, messages: u64) -> bool
+    ensures { λ r. ⌜ r ≡ (sizesInRange (sizes clients partitions items) && leb versions 512 && leb messages 128) ⌝ }
+{
+    (1 <= clients)
+        & (clients <= 8)
+        & (1 <= partitions)
+        & (partitions <= 8)
+        & (1 <= items)
+        & (items <= 64)
+        & (versions <= 512)
+        & (messages <= 128)
+}
+
+// All that the sizes and counts lead to.
+fn tables_in_range(
+    b: &[u64],
+    clients: u64,
+    partitions: u64,
+    items: u64,
+    versions: u64,
+    messages: u64,
+) -> bool
+    requires { ⌜ (clients ≤ 8) × (items ≤ 64) × (versions ≤ 512) × (messages ≤ 128) ⌝ }
+    ensures { λ r. ⌜ r ≡ tablesTest (now (b .entry)) clients partitions items versions messages ⌝ }
+{
+    entry::latest_in_range(b, clients, items)
+        & entry::views_in_range(b, clients, items)
+        & client::clients_in_range(b, clients, items)
+        & message::versions_in_range(b, versions, clients, items)
+        & message::messages_in_range(b, messages, clients, partitions, items)
+        & (capacity::load_of(b, clients, messages) <= 128)
+        & (capacity::occupied_of(b, versions, messages) <= 512)
+}
+
+fn long_block(b: &[u64]) -> bool
+    requires { ⌜ 6352 ≤ length (now b) ⌝ }
+    ensures { λ r. ⌜ r ≡ validBlock (now (b .entry)) ⌝ }
+{
+    let clients = layout::clients(b);
+    let partitions = layout::partitions(b);
+    let items = layout::items(b);
+    let versions = layout::version_count(b);
+    let messages = layout::message_count(b);
+    if header_in_range(clients, partitions, items, versions, messages) {
+        tables_in_range(b, clients, partitions, items, versions, messages)
+    } else {
+        false
+    }
+}
+
+// Whether `b` is not refused by 1. Any words, any number of them.
+pub fn valid_block(b: &[u64]) -> bool
+    ensures { λ r. ⌜ r ≡ validBlock (now (b .entry)) ⌝ }
+{
+    if b.len() < 6352 { false } else { long_block(b) }
+}
+
+// The same for C: 1 or 0.
+#[no_mangle]
+pub extern "C" fn koolvent_valid(b: &[u64]) -> u64
+    ensures { λ r. ⌜ r ≡ cond (validBlock (now (b .entry))) 1 0 ⌝ }
+{
+    if valid_block(b) { 1 } else { 0 }
+}
+
+// The load of a valid block.
+pub fn load(b: &[u64]) -> u64
+    ensures { λ r. ⌜ (validBlock (now (b .entry)) ≡ true → r ≡ load (tablesOf (now (b .entry)))) ⌝ }
+{
+    let clients = layout::clients(b);
+    let messages = layout::message_count(b);
+    if 8 < clients {
+        return 0;
+    }
+    if 128 < messages {
+        return 0;
+    }
+    capacity::load_of(b, clients, messages)
+}
+
+// The versions in use of a valid block.
+pub fn occupied(b: &[u64]) -> u64
+    ensures { λ r. ⌜ (validBlock (now (b .entry)) ≡ true → r ≡ occupied (tablesOf (now (b .entry)))) ⌝ }
+{
+    let versions = layout::version_count(b);
+    let messages = layout::message_count(b);
+    if 512 < versions {
+        return 0;
+    }
+    if 128 < messages {
+        return 0;
+    }
+    capacity::occupied_of(b, versions, messages)
+}

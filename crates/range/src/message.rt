@@ -1,0 +1,121 @@
+// Stored versions, and messages in flight (document 01: the pile).
+ghost use mathlib.Core.Path.{_≡_};
+ghost use mathlib.Core.Bool.{_&&_};
+ghost use Prim.Native.Nat.{_≤_, _<_};
+ghost use lib.Dec.{leb};
+ghost use Rattle.basics.specs.Lists.{every};
+ghost use Rattle.protocol.specs.Range.{versionInRange, messageInRange};
+ghost use Rattle.layout.specs.Layout.{at, versions, messages, versionAt, messageAt};
+ghost use Rattle.layout.specs.Decode.{messageOf, versionIn};
+ghost use Rattle.range.specs.Sized.{sizes, sized};
+ghost use Rattle.range.specs.Messages.{messageTest};
+use crate::field::entry_in_range;
+use crate::field::stamp_in_range;
+use crate::field::version_in_range;
+use layout::word;
+use protocol::Entry;
+use protocol::Version;
+
+// Word `f` of stored version `i`.
+fn version_word(b: &[u64], i: u64, f: u64) -> u64
+    requires { ⌜ (i < 512) × (f < 4) ⌝ }
+    ensures { λ r. ⌜ r ≡ at (now (b .entry)) versions (versionAt i f) ⌝ }
+{
+    word(b, (3280 + (4 * i + f)) as usize)
+}
+
+fn version(b: &[u64], i: u64) -> Version
+    requires { ⌜ i < 512 ⌝ }
+    ensures { λ r. ⌜ r ≡ versionIn (now (b .entry)) i ⌝ }
+{
+    Version {
+        item: version_word(b, i, 0),
+        value: version_word(b, i, 1),
+        stamp: version_word(b, i, 2),
+        set: version_word(b, i, 3),
+    }
+}
+
+// The first `n` stored versions.
+pub fn versions_in_range(b: &[u64], n: u64, clients: u64, items: u64) -> bool
+    requires { ⌜ n ≤ 512 ⌝ }
+    ensures { λ r. ⌜ r ≡ every n (λ i. versionInRange (sized clients items) (versionIn (now (b .entry)) i)) ⌝ }
+{
+    let mut ok = true;
+    let mut i = 0;
+    while i < n {
+        ok = ok & version_in_range(clients, items, version(b, i));
+        i += 1;
+    }
+    ok
+}
+
+// Word `f` of message `i`.
+pub fn message_word(b: &[u64], i: u64, f: u64) -> u64
+    requires { ⌜ (i < 128) × (f < 8) ⌝ }
+    ensures { λ r. ⌜ r ≡ at (now (b .entry)) messages (messageAt i f) ⌝ }
+{
+    word(b, (5328 + (8 * i + f)) as usize)
+}
+
+// The words of a message, each tested where its kind uses it: 1 prepare, 2 prepared, 3 commit, 4 get, 5 got.
+fn words_in_range(
+    kind: u64,
+    who: u64,
+    item: u64,
+    value: u64,
+    stamp: u64,
+    set: u64,
+    latest: Entry,
+    clients: u64,
+    partitions: u64,
+    items: u64,
+) -> bool
+    ensures { λ r. ⌜ r ≡ (leb 1 kind && leb kind 5 && messageInRange (sizes clients partitions items) (messageOf kind who item value stamp set latest)) ⌝ }
+{
+    (1 <= kind)
+        & (kind <= 5)
+        & ((kind < 4) | ((1 <= who) & (who <= clients)))
+        & ((kind != 3) | (who < partitions))
+        & ((kind == 3) | (item < items))
+        & (((1 < kind) & (kind < 5)) | (value < 4294967296))
+        & stamp_in_range(clients, stamp)
+        & ((3 < kind) | (stamp != 0))
+        & ((1 < kind) | (itemset::all_below(set, items) & itemset::has(set, item)))
+        & ((kind < 5) | entry_in_range(clients, items, latest))
+}
+
+fn message_in_range(b: &[u64], i: u64, clients: u64, partitions: u64, items: u64) -> bool
+    requires { ⌜ i < 128 ⌝ }
+    ensures { λ r. ⌜ r ≡ messageTest (now (b .entry)) i clients partitions items ⌝ }
+{
+    words_in_range(
+        message_word(b, i, 0),
+        message_word(b, i, 1),
+        message_word(b, i, 2),
+        message_word(b, i, 3),
+        message_word(b, i, 4),
+        message_word(b, i, 5),
+        Entry {
+            stamp: message_word(b, i, 6),
+            set: message_word(b, i, 7),
+        },
+        clients,
+        partitions,
+        items,
+    )
+}
+
+// The first `n` messages.
+pub fn messages_in_range(b: &[u64], n: u64, clients: u64, partitions: u64, items: u64) -> bool
+    requires { ⌜ n ≤ 128 ⌝ }
+    ensures { λ r. ⌜ r ≡ every n (λ i. messageTest (now (b .entry)) i clients partitions items) ⌝ }
+{
+    let mut ok = true;
+    let mut i = 0;
+    while i < n {
+        ok = ok & message_in_range(b, i, clients, partitions, items);
+        i += 1;
+    }
+    ok
+}
