@@ -1,0 +1,104 @@
+-- A block that holds tables, after the start of a read, holds the tables after that start: the client's words are those of the reader,
+-- and a get joins for each item of the set. Assumes nothing.
+use mathlib.Core.Bool.{true}
+use mathlib.Core.List.{List}
+use mathlib.Core.Path.{_≡_, refl, sym, ap, _∙_, subst}
+use Prim.Native.Nat.{ℕ, _<_}
+use native.Mathlib.Omega.{arith}
+use lib.Dec.{lit<}
+use lib.ListN.{length}
+use Rattle.basics.specs.Cases.{not-both}
+use Rattle.basics.specs.Fold.{upTo}
+use Rattle.itemset.specs.Set.{has}
+use Rattle.itemset.specs.Laws.{has-below}
+use Rattle.protocol.specs.declared.Message.{Message}
+use Rattle.protocol.specs.declared.Message.the-variants.{Get}
+use Rattle.protocol.specs.Tables.{Tables, withClient, withMessages}
+use Rattle.protocol.specs.Range.{isWriting, load}
+use Rattle.protocol.specs.Steps.{choice, asks, reader, startedRead}
+use Rattle.protocol.proofs.Put.{put-same}
+use Rattle.protocol.proofs.Refusals.{AcceptedStart}
+use Rattle.layout.specs.Layout.{asked, at, itemAt}
+use Rattle.layout.specs.Decode.{viewIn, capacities}
+use Rattle.layout.specs.Encodes.{Encodes, HoldsClient}
+use Rattle.layout.proofs.Room.{HasRoom, NarrowClient, narrow-below, room-valid, room-client}
+use Rattle.layout.proofs.ClientWords.{Words, putScalar}
+use Rattle.layout.proofs.ClientHolds.{WordsHold, words-hold}
+use Rattle.layout.proofs.Changed.{Changed, changed-scalar, encodes-changed}
+use Rattle.layout.proofs.EncodesEntry.{view-held}
+use Rattle.start.specs.Start.{busy, askItem, readStarted}
+use Rattle.start.proofs.Choice.{choice-ext}
+use Rattle.start.proofs.Filled.{Filled, filled-last}
+use Rattle.start.proofs.Asked.{AskedFor, asked-filled}
+use Rattle.start.proofs.Sent.{encodes-sent}
+use Rattle.start.proofs.Started.{read-started}
+
+module _ (b : List ℕ) (t : Tables) (d s : ℕ) (n : Encodes b t) (a : AcceptedStart capacities t d s) where
+  abbrev items : ℕ
+  items = t .sizes .items
+
+  room : HasRoom t
+  room = room-valid t (a .valid)
+
+  -- the stamp chosen from the block's view is that chosen from the tables'
+  chosen : (k : ℕ) → k < items → choice (viewIn b d) k items ≡ asks t d k
+  chosen k l =
+      choice-ext (viewIn b d) (t .view d) k items (view-held n d (a .client .0) (a .client .1) k l)
+      (λ i g. view-held n d (a .client .0) (a .client .1) i g)
+
+  abbrev askedBlock : List ℕ
+  askedBlock = upTo (askItem d s items) b items
+
+  filled : Filled d b askedBlock (AskedFor b d s items items)
+  filled = asked-filled b d s items (a .client .0) (omega (arith, a .client .1, room .clients)) (room .items) (n .long)
+
+  abbrev readerWords : Words
+  readerWords = putScalar (putScalar (putScalar (filled .words) 0 1) 2 s) 3 s
+
+  reader-changed : Changed d b (busy askedBlock d 1 s) readerWords
+  reader-changed = changed-scalar (changed-scalar (changed-scalar (filled .changed) 0 1 (lit< tt)) 2 s (lit< tt)) 3 s (lit< tt)
+
+  reader-hold : WordsHold readerWords (reader t d s)
+  unfolding isWriting
+  reader-hold =
+      let held = words-hold (n .client d (a .client .0) (a .client .1)) in
+      record {
+        mode = refl;
+        count = ap (λ (f : ℕ → ℕ). f 1) (filled .scalar) ∙ held .count;
+        set = refl;
+        awaited = refl;
+        stamp = λ e. not-both e refl;
+        asked = λ e k i. let l : k < items = has-below s k items (a .set) i in rw i (filled .done .asked k l i ∙ chosen k l);
+        values = λ k i. filled .done .values k (has-below s k items (a .set) i) i;
+        last = filled-last filled (t .client d .last) (held .last);
+      }
+
+  narrow-reader : NarrowClient (reader t d s)
+  narrow-reader =
+      record {
+        set = narrow-below s items (a .set) (room .items);
+        last = room .client d (a .client .0) (a .client .1) .last;
+      }
+
+  abbrev busyTables : Tables
+  busyTables = withClient t d (reader t d s)
+
+  encodes-reader : Encodes (busy askedBlock d 1 s) busyTables
+  encodes-reader = encodes-changed n room (a .client .1) reader-changed narrow-reader reader-hold
+
+  -- what a turn of the send reads is what the reader asks for
+  get-made : (x : List ℕ) (ms : List Message) → Encodes x (withMessages busyTables ms) → (k : ℕ) → k < items → has s k ≡ true
+      → _≡_ {A = Message} (Get d k (at x asked (itemAt d k))) (Get d k (asks t d k))
+  unfolding isWriting
+  get-made x ms h k l i =
+      let held : HoldsClient x d (reader t d s) = subst (HoldsClient x d) (put-same (t .client) d (reader t d s)) (h .client d (a .client .0) (a .client .1)) in
+      let stamp : at x asked (itemAt d k) ≡ asks t d k = rw i at (held .asked refl k i) in
+      ap (Get d k) stamp
+
+  pub encodes-read : Encodes (readStarted b d s) (startedRead t d s)
+  unfolding load
+  encodes-read =
+      subst (λ (x : List ℕ). Encodes x (startedRead t d s))
+      (read-started b d s items (length (t .messages)) (sym (n .items)) (sym (n .messageCount)) _ _ _ refl refl refl)
+      (encodes-sent (busy askedBlock d 1 s) busyTables s items (λ x k. Get d k (at x asked (itemAt d k))) (λ k. Get d k (asks t d k))
+      encodes-reader (room-client t d (reader t d s) room narrow-reader) (omega (arith, a .load)) get-made)

@@ -1,0 +1,117 @@
+-- A block that holds tables, after the start of a write, holds the tables after that start: the client's words are those of the writer,
+-- and a prepare joins for each item of the set. Assumes nothing.
+use mathlib.Core.Bool.{true}
+use mathlib.Core.List.{List}
+use mathlib.Core.Path.{_≡_, refl, sym, ap, _∙_, subst}
+use Prim.Native.Nat.{ℕ, suc, _<_}
+use native.Mathlib.Omega.{arith}
+use lib.Dec.{lit<}
+use lib.ListN.{length}
+use Rattle.basics.specs.Cases.{not-both}
+use Rattle.basics.specs.Fold.{upTo}
+use Rattle.itemset.specs.Set.{has}
+use Rattle.itemset.specs.Laws.{has-below}
+use Rattle.protocol.specs.declared.Message.{Message}
+use Rattle.protocol.specs.declared.Message.the-variants.{Prepare}
+use Rattle.protocol.specs.Tables.{Tables, withClient, withMessages}
+use Rattle.protocol.specs.Range.{isWriting, load}
+use Rattle.protocol.specs.Steps.{version, valueOf, nextStamp, writer, startedWrite}
+use Rattle.protocol.proofs.Put.{put-same}
+use Rattle.protocol.proofs.Refusals.{AcceptedStart, AcceptedWrite}
+use Rattle.layout.specs.Layout.{scalars, values, at, store, countAt, stampAt, itemAt}
+use Rattle.layout.specs.Decode.{capacities}
+use Rattle.layout.specs.Encodes.{Encodes, HoldsClient}
+use Rattle.layout.proofs.Room.{HasRoom, NarrowClient, narrow-below, room-valid, room-client}
+use Rattle.layout.proofs.ClientWords.{Words, putScalar}
+use Rattle.layout.proofs.ClientHolds.{WordsHold, words-hold}
+use Rattle.layout.proofs.Changed.{Changed, changed-scalar, encodes-changed}
+use Rattle.start.specs.Start.{busy, valueItem, writeStarted}
+use Rattle.start.proofs.Filled.{Filled, filled-last}
+use Rattle.start.proofs.Valued.{bytesOf, ValuesKept, values-filled}
+use Rattle.start.proofs.Sent.{encodes-sent}
+use Rattle.start.proofs.Started.{write-started}
+
+-- an item's bytes are its value
+value-bytes : (s : ℕ) (bytes : List ℕ) (k : ℕ) → has s k ≡ true → bytesOf s bytes k ≡ valueOf s bytes k
+value-bytes s bytes k i = rw i refl
+
+module _ (b : List ℕ) (t : Tables) (d s : ℕ) (bytes : List ℕ) (n : Encodes b t) (w : AcceptedWrite capacities t d s bytes) where
+  abbrev a : AcceptedStart capacities t d s
+  a = w .start
+
+  abbrev items : ℕ
+  items = t .sizes .items
+
+  -- the write's number and stamp
+  abbrev number : ℕ
+  number = suc (t .client d .count)
+
+  room : HasRoom t
+  room = room-valid t (a .valid)
+
+  abbrev valuedBlock : List ℕ
+  valuedBlock = upTo (valueItem d s bytes) b items
+
+  filled : Filled d b valuedBlock (ValuesKept s bytes items)
+  filled = values-filled b d s bytes items (a .client .0) (omega (arith, a .client .1, room .clients)) (room .items) (n .long)
+
+  abbrev writerWords : Words
+  writerWords = putScalar (putScalar (putScalar (putScalar (putScalar (filled .words) 0 2) 2 s) 3 s) 1 number) 4 (nextStamp t d)
+
+  abbrev writerBlock : List ℕ
+  writerBlock = store (store (busy valuedBlock d 2 s) scalars (countAt d) number) scalars (stampAt d) (nextStamp t d)
+
+  writer-changed : Changed d b writerBlock writerWords
+  writer-changed =
+      changed-scalar
+      (changed-scalar
+      (changed-scalar (changed-scalar (changed-scalar (filled .changed) 0 2 (lit< tt)) 2 s (lit< tt)) 3 s (lit< tt))
+      1 number (lit< tt))
+      4 (nextStamp t d) (lit< tt)
+
+  writer-hold : WordsHold writerWords (writer t d s bytes)
+  unfolding isWriting
+  writer-hold =
+      let held = words-hold (n .client d (a .client .0) (a .client .1)) in
+      record {
+        mode = refl;
+        count = refl;
+        set = refl;
+        awaited = refl;
+        stamp = λ e. refl;
+        asked = λ e k i. not-both refl e;
+        values = λ k i. filled .done k (has-below s k items (a .set) i) i ∙ value-bytes s bytes k i;
+        last = filled-last filled (t .client d .last) (held .last);
+      }
+
+  narrow-writer : NarrowClient (writer t d s bytes)
+  narrow-writer =
+      record {
+        set = narrow-below s items (a .set) (room .items);
+        last = room .client d (a .client .0) (a .client .1) .last;
+      }
+
+  abbrev busyTables : Tables
+  busyTables = withClient t d (writer t d s bytes)
+
+  encodes-writer : Encodes writerBlock busyTables
+  encodes-writer = encodes-changed n room (a .client .1) writer-changed narrow-writer writer-hold
+
+  abbrev prepareOf : ℕ → ℕ → Message
+  prepareOf value k = Prepare (version k value (nextStamp t d) s)
+
+  -- what a turn of the send reads is what the writer keeps
+  prepare-made : (x : List ℕ) (ms : List Message) → Encodes x (withMessages busyTables ms) → (k : ℕ) → k < items → has s k ≡ true
+      → prepareOf (at x values (itemAt d k)) k ≡ prepareOf (valueOf s bytes k) k
+  prepare-made x ms h k l i =
+      let held : HoldsClient x d (writer t d s bytes) = subst (HoldsClient x d) (put-same (t .client) d (writer t d s bytes)) (h .client d (a .client .0) (a .client .1)) in
+      ap (λ (v : ℕ). prepareOf v k) (held .values k i)
+
+  pub encodes-write : Encodes (writeStarted b d s bytes) (startedWrite t d s bytes)
+  unfolding load
+  encodes-write =
+      subst (λ (x : List ℕ). Encodes x (startedWrite t d s bytes))
+      (write-started b d s items (length (t .messages)) (sym (n .items)) (sym (n .messageCount)) bytes number _ _ _ _ _
+      (ap suc (sym (n .client d (a .client .0) (a .client .1) .count))) refl refl refl refl refl)
+      (encodes-sent writerBlock busyTables s items (λ x k. prepareOf (at x values (itemAt d k)) k) (λ k. prepareOf (valueOf s bytes k) k)
+      encodes-writer (room-client t d (writer t d s bytes) room narrow-writer) (omega (arith, a .load)) prepare-made)

@@ -1,0 +1,57 @@
+-- `start::read::choose` meets its contract. The invariant: `stamp` is the choice among the first `i` entries. The measure is what is left
+-- of the items. Assumes nothing.
+use mathlib.Core.Path.{ap, _≡_, sym, _∙_}
+use Prim.Native.Nat.{_≤_, _-_}
+use native.Mathlib.Nat.{le-antisymm}
+use borrow.Author.Needs.{needs}
+use Rattle.protocol.specs.declared.Entry.{Entry}
+use Rattle.protocol.specs.Steps.{choice}
+use Rattle.layout.specs.Decode.{viewIn}
+use Rattle.start.proofs.Choice.{choice-turn, choice-none}
+use Rattle.start.proofs.read.choose.Statement.{statement}
+use Rattle.start.proofs.read.choose.Tie as tie
+
+abbrev Inv-loop : tie.InvT-loop
+Inv-loop b d k items stamp₀ i₀ stamp i = (i ≤ items) × (stamp ≡ choice (viewIn b d) k i)
+
+abbrev μ-loop : tie.MeasureT-loop
+μ-loop b d k items stamp₀ i₀ stamp i = items - i
+
+view-requires : tie.Need-view-requires Inv-loop μ-loop
+view-requires c κs = search needs
+
+loop-holds : tie.Need-loop-holds Inv-loop μ-loop
+loop-holds c = (search needs, ap (λ (e : Entry). e .stamp) (c .view .ensures) ∙ sym (choice-none _ _))
+
+sibling-requires : tie.Need-sibling-requires Inv-loop μ-loop
+sibling-requires c κs = search needs
+
+later-requires : tie.Need-later-requires Inv-loop μ-loop
+later-requires c κs = search needs
+
+add-i : tie.Need-add-i Inv-loop μ-loop
+add-i c = search needs
+
+loop-less : tie.Need-loop-less Inv-loop μ-loop
+loop-less c = search needs
+
+loop-again : tie.Need-loop-again Inv-loop μ-loop
+loop-again c = (search needs, choice-turn _ _ _ _ _ _ (c .before .before .before .loop .inv .1) (c .before .sibling .ensures) (c .later .ensures))
+
+returns : tie.Need-returns Inv-loop μ-loop
+returns c = rw (le-antisymm (c .before .loop .inv .0) (c .loop-test .left)) at (c .before .loop .inv .1)
+
+pub choose-spec : {M : Type 1} → statement M
+choose-spec =
+    tie.close
+    (tie.spec
+    Inv-loop
+    μ-loop
+    view-requires
+    loop-holds
+    sibling-requires
+    later-requires
+    add-i
+    loop-less
+    loop-again
+    returns)

@@ -1,0 +1,52 @@
+-- `start::read::get_items` meets its contract. The invariant: `k` turns of the fold are done. The measure is what is left of the items. Assumes nothing.
+use mathlib.Core.Path.{_≡_}
+use Prim.Native.Nat.{_≤_, _-_}
+use native.Mathlib.Nat.{le-antisymm}
+use borrow.Author.Needs.{needs}
+use lib.ListN.{length}
+use Rattle.basics.specs.Fold.{upTo}
+use Rattle.start.specs.Start.{sendGet}
+use Rattle.start.proofs.Turns.{turns-none, turns-more}
+use Rattle.start.proofs.read.get_items.Statement.{statement}
+use Rattle.start.proofs.read.get_items.Tie as tie
+
+abbrev Inv-loop : tie.InvT-loop
+Inv-loop b₀ n d s items k₀ b k = (k ≤ items) × (b ≡ upTo (sendGet n d s) b₀ k) × (length b ≡ length b₀)
+
+abbrev μ-loop : tie.MeasureT-loop
+μ-loop b₀ n d s items k₀ b k = items - k
+
+loop-holds : tie.Need-loop-holds Inv-loop μ-loop
+loop-holds c = (search needs, turns-none _ _, search needs)
+
+get-item-requires : tie.Need-get-item-requires Inv-loop μ-loop
+get-item-requires c κs = search needs
+
+add-k : tie.Need-add-k Inv-loop μ-loop
+add-k c = search needs
+
+loop-less : tie.Need-loop-less Inv-loop μ-loop
+loop-less c = search needs
+
+loop-again : tie.Need-loop-again Inv-loop μ-loop
+loop-again c = (search needs, turns-more _ _ _ _ _ (c .before .before .before .before .before .loop .inv .1) (c .before .before .get-item .ensures), search needs)
+
+same-length : tie.Need-same-length Inv-loop μ-loop
+same-length c = search needs
+
+returns : tie.Need-returns Inv-loop μ-loop
+returns c = rw (le-antisymm (c .before .loop .inv .0) (c .loop-test .left)) at (c .before .loop .inv .1)
+
+pub get-items-spec : {M : Type 1} → statement M
+get-items-spec =
+    tie.close
+    (tie.spec
+    Inv-loop
+    μ-loop
+    loop-holds
+    get-item-requires
+    add-k
+    loop-less
+    loop-again
+    same-length
+    returns)

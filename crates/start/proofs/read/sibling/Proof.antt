@@ -1,0 +1,22 @@
+-- `start::read::sibling` meets its contract: the entry counts by its test. Assumes nothing.
+use mathlib.Core.Bool.{true, false}
+use mathlib.Core.Path.{sym, _∙_}
+use borrow.Author.Needs.{needs}
+use Rattle.start.proofs.Choice.{counts-by}
+use Rattle.start.proofs.read.sibling.Statement.{statement}
+use Rattle.start.proofs.read.sibling.Tie as tie
+
+view-requires : tie.Need-view-requires
+view-requires c κs = search needs
+
+has-requires : tie.Need-has-requires
+has-requires c κs = search needs
+
+returns : tie.Need-returns
+returns c = counts-by (c .before .before .view .result) _ _ true (c .before .before .view .ensures) (sym (c .before .has .ensures) ∙ c .if1 .taken)
+
+returns-2 : tie.Need-returns-2
+returns-2 c = counts-by (c .before .before .view .result) _ _ false (c .before .before .view .ensures) (sym (c .before .has .ensures) ∙ c .if1 .left)
+
+pub sibling-spec : {M : Type 1} → statement M
+sibling-spec = tie.close (tie.spec view-requires has-requires returns returns-2)

@@ -1,0 +1,32 @@
+-- `start::read::start_read` meets its contract: its three calls are the steps of `readStarted`. Assumes nothing.
+use denote.Ref.{now}
+use borrow.Author.Needs.{needs}
+use Rattle.start.proofs.Started.{read-started}
+use Rattle.start.proofs.read.start_read.Statement.{statement}
+use Rattle.start.proofs.read.start_read.Tie as tie
+
+ask-items-requires : tie.Need-ask-items-requires
+ask-items-requires c κs = search needs
+
+put-busy-requires : tie.Need-put-busy-requires
+put-busy-requires c κs = search needs
+
+get-items-requires : tie.Need-get-items-requires
+get-items-requires c κs = search needs
+
+same-length : tie.Need-same-length
+same-length c = search needs
+
+returns : tie.Need-returns
+returns c =
+    let sent = c .before .before in
+    let set = sent .before .before .before .before in
+    let asked = set .before .before .before .before in
+    let start = asked .before .before .before in
+    read-started (now (start .args .b)) _ _ _ _ (start .pre .4) (start .pre .5) _ _ _
+    (asked .ask-items .ensures) (set .put-busy .ensures) (sent .get-items .ensures)
+
+pub start-read-spec : {M : Type 1} → statement M
+start-read-spec =
+    tie.close
+    (tie.spec ask-items-requires put-busy-requires get-items-requires same-length returns)

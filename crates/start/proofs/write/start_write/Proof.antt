@@ -1,0 +1,72 @@
+use mathlib.Core.Path.{ap, _∙_}
+use Prim.Native.Nat.{suc, _+_}
+use native.Mathlib.Numerals.{add-one}
+-- `start::write::start_write` meets its contract: its calls are the steps of `writeStarted`. Assumes nothing.
+use denote.Ref.{now}
+use borrow.Author.Needs.{needs}
+use Rattle.start.proofs.Started.{write-started}
+use Rattle.start.proofs.write.start_write.Statement.{statement}
+use Rattle.start.proofs.write.start_write.Tie as tie
+
+count-requires : tie.Need-count-requires
+count-requires c κs = search needs
+
+add-number : tie.Need-add-number
+add-number c = search needs
+
+mul-stamp : tie.Need-mul-stamp
+mul-stamp c = search needs
+
+add-stamp : tie.Need-add-stamp
+add-stamp c = search needs
+
+keep-items-requires : tie.Need-keep-items-requires
+keep-items-requires c κs = search needs
+
+put-busy-requires : tie.Need-put-busy-requires
+put-busy-requires c κs = search needs
+
+put-count-requires : tie.Need-put-count-requires
+put-count-requires c κs = search needs
+
+put-stamp-requires : tie.Need-put-stamp-requires
+put-stamp-requires c κs = search needs
+
+prepare-items-requires : tie.Need-prepare-items-requires
+prepare-items-requires c κs = search needs
+
+same-length : tie.Need-same-length
+same-length c = search needs
+
+returns : tie.Need-returns
+returns c =
+    let sent = c .before .before in
+    let stamped = sent .before .before .before .before in
+    let counted = stamped .before .before .before .before in
+    let set = counted .before .before .before .before in
+    let kept = set .before .before .before .before in
+    let count = kept .before .before .count in
+    let start = kept .before .before .before .before .before .before in
+    write-started (now (start .args .b)) _ _ _ _ (start .pre .4) (start .pre .5) (now (start .args .bytes)) (count .result + 1) _ _ _ _ _
+    (add-one (count .result) ∙ ap suc (count .ensures))
+    (kept .keep-items .ensures)
+    (set .put-busy .ensures)
+    (counted .put-count .ensures)
+    (stamped .put-stamp .ensures)
+    (sent .prepare-items .ensures)
+
+pub start-write-spec : {M : Type 1} → statement M
+start-write-spec =
+    tie.close
+    (tie.spec
+    count-requires
+    add-number
+    mul-stamp
+    add-stamp
+    keep-items-requires
+    put-busy-requires
+    put-count-requires
+    put-stamp-requires
+    prepare-items-requires
+    same-length
+    returns)

@@ -1,0 +1,2 @@
+-- The starts on the block: what they write.
+pub mod Start

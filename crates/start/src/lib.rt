@@ -1,0 +1,20 @@
+// The starts of a read and of a write on the block (document 01: Steps), for a caller that has tested that they are accepted.
+ghost use mathlib.Core.Path.{_≡_};
+ghost use Prim.Native.Nat.{_≤_};
+ghost use Rattle.start.specs.Start.{busy};
+use layout::client::put_awaited;
+use layout::client::put_mode;
+use layout::client::put_set;
+
+pub mod read;
+pub mod write;
+
+// Client `d` is busy with the items of `s`, all of them awaited: mode 1 is a read, 2 a write.
+pub fn put_busy(b: &mut [u64], d: u64, mode: u64, s: u64)
+    requires { ⌜ (1 ≤ d) × (d ≤ 8) ⌝ }
+    ensures { λ _. ⌜ now (b .exit) ≡ busy (now (b .entry)) d mode s ⌝ }
+{
+    put_mode(b, d, mode);
+    put_set(b, d, s);
+    put_awaited(b, d, s);
+}
