@@ -1,0 +1,43 @@
+-- `deliver::commit::commit_version` meets its contract: by the test. Assumes nothing.
+use mathlib.Core.Path.{refl, sym, ap, _∙_}
+use borrow.Author.Tests.{eq-eqb, ne-eqb}
+use Rattle.protocol.specs.declared.Version.{Version}
+use Rattle.ends.proofs.Chosen.{when, unless}
+use Rattle.deliver.specs.Deliver.{commitItem}
+use borrow.Author.Needs.{needs}
+use denote.Ref.{now}
+use Rattle.deliver.proofs.commit.commit_version.Statement.{statement}
+use Rattle.deliver.proofs.commit.commit_version.Tie as tie
+
+version-requires : tie.Need-version-requires
+version-requires c κs = search needs
+
+commit-item-requires : tie.Need-commit-item-requires
+commit-item-requires c κs = search needs
+
+same-length : tie.Need-same-length
+same-length c = search needs
+
+returns : tie.Need-returns
+returns c =
+    let a = c .before .before .before .before .before .before .before .before .before .args in
+    let e = c .before .before .before .before .before .before .version .ensures in
+    when _ _ _ _ (eq-eqb _ _ (ap (λ (v : Version). v .stamp) (sym e) ∙ c .before .before .before .before .if1 .taken))
+    (c .before .before .commit-item .ensures ∙ ap (commitItem (a .partitions) (a .p) (now (a .b))) e)
+
+same-length-2 : tie.Need-same-length-2
+same-length-2 c = search needs
+
+returns-2 : tie.Need-returns-2
+returns-2 c = unless _ _ _ _ (ne-eqb _ _ (λ e. c .if1 .left (ap (λ (v : Version). v .stamp) (c .before .before .version .ensures) ∙ e))) refl
+
+pub commit-version-spec : {M : Type 1} → statement M
+commit-version-spec =
+    tie.close
+    (tie.spec
+    version-requires
+    commit-item-requires
+    same-length
+    returns
+    same-length-2
+    returns-2)

@@ -1,0 +1,25 @@
+-- `deliver::deliver_message` meets its contract: the message is taken out, and does its work. Assumes nothing.
+use borrow.Author.Needs.{needs}
+use Rattle.deliver.proofs.deliver_message.Statement.{statement}
+use Rattle.deliver.proofs.deliver_message.Tie as tie
+
+take-out-requires : tie.Need-take-out-requires
+take-out-requires c κs = search needs
+
+work-requires : tie.Need-work-requires
+work-requires c κs = search needs
+
+same-length : tie.Need-same-length
+same-length c = search needs
+
+returns : tie.Need-returns
+returns c = cc
+
+pub deliver-message-spec : {M : Type 1} → statement M
+deliver-message-spec =
+    tie.close
+    (tie.spec
+    take-out-requires
+    work-requires
+    same-length
+    returns)

@@ -1,0 +1,81 @@
+-- The five deliveries as changes of the block. Assumes nothing.
+use mathlib.Core.Bool.{cond, _&&_}
+use mathlib.Core.List.{List, []}
+use Prim.Native.Nat.{ℕ, _%_}
+use lib.Dec.{eqb, ltb}
+use Rattle.basics.specs.Fold.{upTo}
+use Rattle.itemset.specs.Set.{remove}
+use Rattle.protocol.specs.declared.Version.{Version}
+use Rattle.protocol.specs.declared.Entry.{Entry}
+use Rattle.protocol.specs.declared.Message.{Message}
+use Rattle.protocol.specs.declared.Message.the-variants.{Prepare, Prepared, Commit, Get, Got}
+use Rattle.protocol.specs.Tables.{writerOf, laterOf}
+use Rattle.protocol.specs.Steps.{version}
+use Rattle.layout.specs.Layout.{header, scalars, values, at, store, partitionsAt, itemsAt, versionsAt, messagesAt, awaitedAt, itemAt}
+use Rattle.layout.specs.Decode.{latestIn, viewIn, versionIn, messageIn}
+use Rattle.layout.specs.Store.{storeLatest, storeView, takeOut}
+use Rattle.deliver.specs.declared.Counts.{Counts}
+use Rattle.deliver.specs.Tests.{testedIn}
+use Rattle.ends.specs.Room.{keep, send}
+use Rattle.ends.specs.Ends.{readEnded, writeEnded}
+
+-- ---- Prepare: the version is stored, the reply joins
+
+unfoldable pub prepareDelivered : List ℕ → Version → List ℕ
+prepareDelivered b v = send (keep b v) (Prepared (v .item) (v .stamp))
+
+-- ---- Prepared: item k is struck; with the last one the write ends
+
+unfoldable pub preparedDelivered : List ℕ → ℕ → ℕ → ℕ → ℕ → List ℕ
+preparedDelivered b partitions items k stamp =
+    let d = writerOf stamp in
+    let rest = remove (at b scalars (awaitedAt d)) k in
+    cond (eqb rest 0) (writeEnded b partitions items d stamp) (store b scalars (awaitedAt d) rest)
+
+-- ---- Commit: one pass over the stored versions; the first alike counts, since at equal stamps the latest already there stays
+
+abbrev pub commitItem : ℕ → ℕ → List ℕ → Version → List ℕ
+commitItem partitions p b v =
+    cond (eqb (v .item % partitions) p && ltb (v .item) 64)
+    (storeLatest b (v .item) (laterOf (latestIn b (v .item)) (record { stamp = v .stamp; set = v .set }))) b
+
+abbrev pub commitVersion : ℕ → ℕ → ℕ → List ℕ → ℕ → List ℕ
+commitVersion partitions p stamp b i = cond (eqb (versionIn b i .stamp) stamp) (commitItem partitions p b (versionIn b i)) b
+
+unfoldable pub commitDelivered : List ℕ → ℕ → ℕ → ℕ → ℕ → List ℕ
+commitDelivered b partitions versions p stamp = upTo (commitVersion partitions p stamp) b versions
+
+-- ---- Get: the reply joins, with this value, the version's, and the item's latest
+
+unfoldable pub getDelivered : List ℕ → ℕ → ℕ → ℕ → ℕ → List ℕ
+getDelivered b value d k stamp = send b (Got d (version k value stamp 0) (latestIn b k))
+
+-- ---- Got: the version is kept as the answer, the view takes the later; with the last one the read ends
+
+abbrev pub answered : List ℕ → ℕ → Version → Entry → List ℕ
+answered b d v latest =
+    store (storeView b d (v .item) (laterOf (viewIn b d (v .item)) latest)) values (itemAt d (v .item)) (v .value)
+
+unfoldable pub gotDelivered : List ℕ → ℕ → ℕ → Version → Entry → List ℕ
+gotDelivered b items d v latest =
+    let rest = remove (at b scalars (awaitedAt d)) (v .item) in
+    let kept = answered b d v latest in
+    cond (eqb rest 0) (readEnded kept items d) (store kept scalars (awaitedAt d) rest)
+
+-- ---- the message at place i is taken out, and does its work
+
+unfoldable pub messageDelivered : List ℕ → Counts → ℕ → Message → List ℕ
+messageDelivered b n value (Prepare v) = prepareDelivered b v
+messageDelivered b n value (Prepared k stamp) = preparedDelivered b (n .partitions) (n .items) k stamp
+messageDelivered b n value (Commit p stamp) = commitDelivered b (n .partitions) (n .versions) p stamp
+messageDelivered b n value (Get d k stamp) = getDelivered b value d k stamp
+messageDelivered b n value (Got d v latest) = gotDelivered b (n .items) d v latest
+
+abbrev pub countsIn : List ℕ → Counts
+countsIn b =
+    record { partitions = at b header partitionsAt; items = at b header itemsAt; versions = at b header versionsAt }
+
+unfoldable pub deliveredBlock : List ℕ → ℕ → List ℕ
+deliveredBlock b i =
+    messageDelivered (takeOut b (at b header messagesAt) i) (countsIn b) (testedIn b (at b header versionsAt) (messageIn b i) .value)
+    (messageIn b i)

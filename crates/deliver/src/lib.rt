@@ -1,0 +1,75 @@
+// Deliveries on the block: what is told of a message before it is delivered (`tests`), and its delivery. The message is taken out,
+// later ones move up, and it does its work.
+ghost use mathlib.Core.Path.{_≡_};
+ghost use Prim.Native.Nat.{_≤_, _<_};
+ghost use lib.ListN.{length};
+ghost use Rattle.layout.specs.Layout.{needed};
+ghost use Rattle.layout.specs.Store.{takeOut};
+ghost use Rattle.deliver.specs.Tests.{Bounded};
+ghost use Rattle.deliver.specs.Deliver.{messageDelivered};
+use protocol::Message;
+use slots::message::take_out;
+
+pub mod commit;
+pub mod replies;
+pub mod requests;
+pub mod tests;
+
+// What a block's header says of partitions, items and stored versions.
+pub struct Counts {
+    pub partitions: u64,
+    pub items: u64,
+    pub versions: u64,
+}
+
+// What is told of a message before it is delivered: the refusal (11, 12 or 0), the outcome (0 none ended, 1 a read ended, 2 a write
+// ended), and the value that answers a get.
+pub struct Tested {
+    pub refusal: u64,
+    pub outcome: u64,
+    pub value: u64,
+}
+
+// The work of message `m`, taken out before; a get is answered with `value`.
+fn work(b: &mut [u64], counts: Counts, value: u64, m: Message)
+    requires { ⌜ (1 ≤ counts .partitions) × (counts .partitions ≤ 8) × (counts .items ≤ 64) × (counts .versions ≤ 512) × Bounded m ⌝ }
+    ensures { λ _. ⌜ now (b .exit) ≡ messageDelivered (now (b .entry)) counts value m ⌝ }
+{
+    match m {
+        Message::Prepare(v) => requests::prepare(b, v),
+        Message::Prepared { item, stamp } => replies::prepared(
+            b,
+            counts.partitions,
+            counts.items,
+            item,
+            stamp,
+        ),
+        Message::Commit { partition, stamp } => commit::commit(
+            b,
+            counts.partitions,
+            counts.versions,
+            partition,
+            stamp,
+        ),
+        Message::Get {
+            client,
+            item,
+            stamp,
+        } => requests::get(b, value, client, item, stamp),
+        Message::Got {
+            client,
+            version,
+            latest,
+        } => replies::got(b, counts.items, client, version, latest),
+    }
+}
+
+// Of `n` messages the one at place `i`, which is `m`, is delivered; a get is answered with `value`.
+pub fn deliver_message(b: &mut [u64], n: u64, i: u64, counts: Counts, value: u64, m: Message)
+    requires { ⌜ (i < n) × (n ≤ 128) × (needed ≤ length (now b)) ⌝ }
+    requires { ⌜ (1 ≤ counts .partitions) × (counts .partitions ≤ 8) × (counts .items ≤ 64) × (counts .versions ≤ 512) × Bounded m ⌝ }
+    ensures { λ _. ⌜ now (b .exit) ≡ messageDelivered (takeOut (now (b .entry)) n i) counts value m ⌝ }
+{
+    take_out(b, n, i);
+    work(b, counts, value, m);
+}

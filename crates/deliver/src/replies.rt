@@ -1,0 +1,53 @@
+// Prepared and got replies: each strikes its item from those awaited, and the last one ends the transaction.
+ghost use mathlib.Core.Path.{_≡_};
+ghost use Prim.Native.Nat.{_≤_, _<_};
+ghost use Rattle.protocol.specs.Tables.{writerOf};
+ghost use Rattle.deliver.specs.Deliver.{preparedDelivered, answered, gotDelivered};
+use ends::read::read_end;
+use ends::write::write_end;
+use itemset::remove;
+use layout::client::awaited;
+use layout::client::put_awaited;
+use layout::client::put_value;
+use layout::entry::put_view;
+use layout::entry::view;
+use protocol::Entry;
+use protocol::Version;
+
+// The prepared reply for `item`, to the client of this stamp.
+pub fn prepared(b: &mut [u64], partitions: u64, items: u64, item: u64, stamp: u64)
+    requires { ⌜ (1 ≤ partitions) × (items ≤ 64) × (1 ≤ writerOf stamp) × (writerOf stamp ≤ 8) ⌝ }
+    ensures { λ _. ⌜ now (b .exit) ≡ preparedDelivered (now (b .entry)) partitions items item stamp ⌝ }
+{
+    let d = stamp % 16;
+    let rest = remove(awaited(b, d), item);
+    if rest == 0 {
+        write_end(b, partitions, items, d, stamp);
+    } else {
+        put_awaited(b, d, rest);
+    }
+}
+
+// The version is the answer for its item, and the item's view entry becomes the later of itself and the reply's latest.
+fn answer(b: &mut [u64], d: u64, v: Version, latest: Entry)
+    requires { ⌜ (1 ≤ d) × (d ≤ 8) × (v .item < 64) ⌝ }
+    ensures { λ _. ⌜ now (b .exit) ≡ answered (now (b .entry)) d v latest ⌝ }
+{
+    let entry = view(b, d, v.item).later(latest);
+    put_view(b, d, v.item, entry);
+    put_value(b, d, v.item, v.value);
+}
+
+// The got reply to client `d`.
+pub fn got(b: &mut [u64], items: u64, d: u64, v: Version, latest: Entry)
+    requires { ⌜ (items ≤ 64) × (1 ≤ d) × (d ≤ 8) × (v .item < 64) ⌝ }
+    ensures { λ _. ⌜ now (b .exit) ≡ gotDelivered (now (b .entry)) items d v latest ⌝ }
+{
+    let rest = remove(awaited(b, d), v.item);
+    answer(b, d, v, latest);
+    if rest == 0 {
+        read_end(b, items, d);
+    } else {
+        put_awaited(b, d, rest);
+    }
+}

@@ -1,0 +1,44 @@
+// Prepares and gets: each makes one reply join.
+ghost use mathlib.Core.Path.{_≡_};
+ghost use Prim.Native.Nat.{_<_};
+ghost use Rattle.deliver.specs.Deliver.{prepareDelivered, getDelivered};
+use ends::room::keep;
+use ends::room::send;
+use layout::entry::latest;
+use protocol::Message;
+use protocol::Version;
+
+// The version is stored, and the reply joins.
+pub fn prepare(b: &mut [u64], v: Version)
+    ensures { λ _. ⌜ now (b .exit) ≡ prepareDelivered (now (b .entry)) v ⌝ }
+{
+    keep(b, v);
+    send(
+        b,
+        Message::Prepared {
+            item: v.item,
+            stamp: v.stamp,
+        },
+    );
+}
+
+// The reply to client `d` joins: the version of `item` with this stamp, whose value is `value`, and the item's latest.
+pub fn get(b: &mut [u64], value: u64, d: u64, item: u64, stamp: u64)
+    requires { ⌜ item < 64 ⌝ }
+    ensures { λ _. ⌜ now (b .exit) ≡ getDelivered (now (b .entry)) value d item stamp ⌝ }
+{
+    let entry = latest(b, item);
+    send(
+        b,
+        Message::Got {
+            client: d,
+            version: Version {
+                item,
+                value,
+                stamp,
+                set: 0,
+            },
+            latest: entry,
+        },
+    );
+}

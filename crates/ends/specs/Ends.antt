@@ -1,0 +1,58 @@
+-- The end of a transaction of client d as a change of the block. Assumes nothing.
+use mathlib.Core.Bool.{cond}
+use mathlib.Core.List.{List}
+use Prim.Native.Nat.{ℕ, _%_}
+use Rattle.basics.specs.Fold.{upTo}
+use Rattle.itemset.specs.Set.{has, insert64}
+use Rattle.protocol.specs.declared.Message.the-variants.{Commit}
+use Rattle.protocol.specs.Tables.{laterOf}
+use Rattle.layout.specs.Layout.{scalars, asked, values, lastStamps, lastValues, at, store, modeAt, setAt, awaitedAt, lastKindAt, lastSetAt, lastStampAt, itemAt}
+use Rattle.layout.specs.Decode.{viewIn}
+use Rattle.layout.specs.Store.{storeView}
+use Rattle.ends.specs.Room.{send}
+
+-- ---- either kind: the last ended transaction takes kind (1 a read, 2 a write) and set, the client is idle, with no set
+
+abbrev pub ended : List ℕ → ℕ → ℕ → ℕ → List ℕ
+ended b d kind s =
+    store (store (store (store (store b scalars (lastKindAt d) kind) scalars (lastSetAt d) s) scalars (modeAt d) 0) scalars (setAt d) 0) scalars (awaitedAt d) 0
+
+-- ---- a read: the last ended transaction takes, item by item, the stamps and the values
+
+abbrev pub keepAnswer : ℕ → ℕ → List ℕ → ℕ → List ℕ
+keepAnswer d s b k =
+    cond (has s k)
+    (store (store b lastStamps (itemAt d k) (at b asked (itemAt d k))) lastValues (itemAt d k) (at b values (itemAt d k))) b
+
+unfoldable pub readEnded : List ℕ → ℕ → ℕ → List ℕ
+readEnded b items d =
+    let s = at b scalars (setAt d) in
+    ended (upTo (keepAnswer d s) b items) d 1 s
+
+-- ---- a write: the view takes it, item by item; the last ended transaction takes the values and the stamp; commits join
+
+abbrev pub seeItem : ℕ → ℕ → ℕ → List ℕ → ℕ → List ℕ
+seeItem d s stamp b k = cond (has s k) (storeView b d k (laterOf (viewIn b d k) (record { stamp = stamp; set = s }))) b
+
+abbrev pub keepValue : ℕ → ℕ → List ℕ → ℕ → List ℕ
+keepValue d s b k = cond (has s k) (store b lastValues (itemAt d k) (at b values (itemAt d k))) b
+
+-- the partitions that the items of s below n lie in, as a set
+abbrev pub touchItem : ℕ → ℕ → ℕ → ℕ → ℕ
+touchItem partitions s ps k = cond (has s k) (insert64 ps (k % partitions)) ps
+
+unfoldable pub touched : ℕ → ℕ → ℕ → ℕ
+touched partitions s n = upTo (touchItem partitions s) 0 n
+
+abbrev pub sendCommit : ℕ → ℕ → List ℕ → ℕ → List ℕ
+sendCommit ps stamp b p = cond (has ps p) (send b (Commit p stamp)) b
+
+-- the client's words, and its view
+unfoldable pub writeKept : List ℕ → ℕ → ℕ → ℕ → ℕ → List ℕ
+writeKept b items d s stamp =
+    store (ended (upTo (keepValue d s) (upTo (seeItem d s stamp) b items) items) d 2 s) scalars (lastStampAt d) stamp
+
+unfoldable pub writeEnded : List ℕ → ℕ → ℕ → ℕ → ℕ → List ℕ
+writeEnded b partitions items d stamp =
+    let s = at b scalars (setAt d) in
+    upTo (sendCommit (touched partitions s items) stamp) (writeKept b items d s stamp) partitions

@@ -1,0 +1,3 @@
+-- Ends of transactions on the block: what they write.
+pub mod Room
+pub mod Ends

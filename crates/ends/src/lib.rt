@@ -1,0 +1,25 @@
+// Ends of transactions on the block: what the last reply does, and how versions and messages join.
+ghost use mathlib.Core.Path.{_≡_};
+ghost use Prim.Native.Nat.{_≤_};
+ghost use Rattle.ends.specs.Ends.{ended};
+use layout::client::put_awaited;
+use layout::client::put_last_kind;
+use layout::client::put_last_set;
+use layout::client::put_mode;
+use layout::client::put_set;
+
+pub mod read;
+pub mod room;
+pub mod write;
+
+// A transaction of client `d` with set `s` ends: a read (1) or a write (2). The client is idle, with no set.
+fn end(b: &mut [u64], d: u64, kind: u64, s: u64)
+    requires { ⌜ (1 ≤ d) × (d ≤ 8) ⌝ }
+    ensures { λ _. ⌜ now (b .exit) ≡ ended (now (b .entry)) d kind s ⌝ }
+{
+    put_last_kind(b, d, kind);
+    put_last_set(b, d, s);
+    put_mode(b, d, 0);
+    put_set(b, d, 0);
+    put_awaited(b, d, 0);
+}
