@@ -1,2 +1,14 @@
 //! An independent reading of the handover store and its log judge, on plain tables.
 //! It is written from the specification alone and shares nothing with the proved crates.
+
+pub mod block;
+pub mod frames;
+pub mod judge;
+pub mod layout;
+pub mod promise;
+#[cfg(feature = "proved")]
+pub mod proved;
+pub mod random;
+pub mod runs;
+pub mod store;
+pub mod trials;

@@ -1,0 +1,118 @@
+//! The five calls on a lent block of words, whoever serves them.
+
+use crate::layout::{decode, store_fresh, store_step, NEEDED};
+use crate::promise::{Call, Event};
+use crate::store::answer::Answer;
+use crate::store::fault::Fault;
+use crate::store::tables::Sizes;
+use crate::store::Store;
+
+/// Whoever serves the five calls. Each answers the number of its answer.
+pub trait Calls {
+    fn fresh(&self, block: &mut [u64], clients: u64, partitions: u64, items: u64) -> u64;
+    fn start_read(&self, block: &mut [u64], client: u64, set: u64) -> u64;
+    fn start_write(&self, block: &mut [u64], client: u64, set: u64, values: &[u8]) -> u64;
+    fn deliver(&self, block: &mut [u64], place: u64) -> u64;
+    fn show(&self, block: &[u64], client: u64, output: &mut [u8]) -> u64;
+}
+
+/// Makes the call on the block; a fresh on a block that is not long enough gets a part that isn't.
+pub fn make(served: &dyn Calls, block: &mut [u64], call: &Call) -> Event {
+    let mut lent = Vec::new();
+    let answer = match call {
+        Call::Fresh {
+            long_enough,
+            clients,
+            partitions,
+            items,
+        } => {
+            let length = match long_enough {
+                true => block.len(),
+                false => block.len().min(NEEDED - 1),
+            };
+            served.fresh(&mut block[..length], *clients, *partitions, *items)
+        }
+        Call::Read { client, set } => served.start_read(block, *client, *set),
+        Call::Write {
+            client,
+            set,
+            values,
+        } => served.start_write(block, *client, *set, values),
+        Call::Deliver { place } => served.deliver(block, *place),
+        Call::Show { client, output } => {
+            lent = output.clone();
+            served.show(block, *client, &mut lent)
+        }
+    };
+    Event {
+        call: call.clone(),
+        answer,
+        output: lent,
+    }
+}
+
+/// The model's store on blocks, by way of their layout; for tests alone with a fault.
+#[derive(Clone, Copy, Debug, Default)]
+pub struct Modelled {
+    pub fault: Option<Fault>,
+}
+
+impl Modelled {
+    /// The store whose tables the block holds; or that the block is refused by 1.
+    fn store(&self, block: &[u64]) -> Result<Store, Answer> {
+        let tables = decode(block).ok_or(Answer::Refused(1))?;
+        let store = Store::with_tables(tables);
+        Ok(match self.fault {
+            Some(fault) => store.with_fault(fault),
+            None => store,
+        })
+    }
+
+    /// A start, or the delivery of the message at a place.
+    fn step(
+        &self,
+        block: &mut [u64],
+        delivered: Option<u64>,
+        step: impl FnOnce(&mut Store) -> Answer,
+    ) -> u64 {
+        let mut store = match self.store(block) {
+            Ok(store) => store,
+            Err(refusal) => return refusal.number(),
+        };
+        let answer = step(&mut store);
+        if !matches!(answer, Answer::Refused(_)) {
+            store_step(block, delivered.map(|place| place as usize), &store.tables);
+        }
+        answer.number()
+    }
+}
+
+impl Calls for Modelled {
+    fn fresh(&self, block: &mut [u64], clients: u64, partitions: u64, items: u64) -> u64 {
+        let sizes = Sizes::new(clients, partitions, items);
+        let answer = Store::new().fresh(block.len() >= NEEDED, sizes);
+        if answer == Answer::Fresh {
+            store_fresh(block, sizes);
+        }
+        answer.number()
+    }
+
+    fn start_read(&self, block: &mut [u64], client: u64, set: u64) -> u64 {
+        self.step(block, None, |store| store.start_read(client, set))
+    }
+
+    fn start_write(&self, block: &mut [u64], client: u64, set: u64, values: &[u8]) -> u64 {
+        self.step(block, None, |store| store.start_write(client, set, values))
+    }
+
+    fn deliver(&self, block: &mut [u64], place: u64) -> u64 {
+        self.step(block, Some(place), |store| store.deliver(place))
+    }
+
+    fn show(&self, block: &[u64], client: u64, output: &mut [u8]) -> u64 {
+        match self.store(block) {
+            Ok(store) => store.show(client, output).number(),
+            Err(refusal) => refusal.number(),
+        }
+    }
+}

@@ -1,0 +1,105 @@
+//! What a random read shows: entries of the log's writes, whole or not.
+
+use super::{choose, once_in, pick, Below};
+use crate::frames::log::{LogFrame, Shown};
+
+const INITIAL: Shown = Shown {
+    number: 0,
+    client: 0,
+    value: 0,
+};
+
+/// Entries for the read at this place; none if there is a write.
+pub fn random_entries(log: &[LogFrame], place: usize, below: &mut Below) -> Vec<Shown> {
+    let LogFrame::Read { client, set, .. } = log[place] else {
+        return Vec::new();
+    };
+    let items = (0..64).filter(|item| set >> item & 1 == 1);
+    let mut entries: Vec<Shown> = if once_in(2, below) {
+        items.map(|item| any_entry(log, item, below)).collect()
+    } else {
+        let mut seen = some_frames(log, below);
+        if !once_in(3, below) {
+            seen.extend(own_frames(log, place, client));
+        }
+        items.map(|item| latest_entry(&seen, item)).collect()
+    };
+    if once_in(12, below) {
+        let place = pick(entries.len(), below);
+        entries[place] = altered_entry(entries[place], below);
+    }
+    entries
+}
+
+/// Entries without fault for the read at this place; none if there is a write.
+pub fn faultless_entries(log: &[LogFrame], place: usize, below: &mut Below) -> Vec<Shown> {
+    let LogFrame::Read { client, set, .. } = log[place] else {
+        return Vec::new();
+    };
+    let mut seen = some_frames(log, below);
+    seen.extend(own_frames(log, place, client));
+    let items = (0..64).filter(|item| set >> item & 1 == 1);
+    items.map(|item| latest_entry(&seen, item)).collect()
+}
+
+/// Half of the log's frames. The latest entries of whole writes are never fractured.
+fn some_frames<'a>(log: &'a [LogFrame], below: &mut Below) -> Vec<&'a LogFrame> {
+    log.iter().filter(|_| once_in(2, below)).collect()
+}
+
+/// All that the client itself wrote above this place.
+fn own_frames(log: &[LogFrame], place: usize, client: u8) -> impl Iterator<Item = &LogFrame> {
+    log[..place]
+        .iter()
+        .filter(move |frame| frame.client() == client)
+}
+
+/// The latest of the frames' entries for the item.
+fn latest_entry(frames: &[&LogFrame], item: u32) -> Shown {
+    frames
+        .iter()
+        .filter_map(|frame| entry(frame, item))
+        .max_by_key(|entry| (entry.number, entry.client))
+        .unwrap_or(INITIAL)
+}
+
+/// Any of the log's entries for the item, or the initial one.
+fn any_entry(log: &[LogFrame], item: u32, below: &mut Below) -> Shown {
+    let mut entries = vec![INITIAL];
+    entries.extend(log.iter().filter_map(|frame| entry(frame, item)));
+    choose(&entries, below)
+}
+
+/// What a write leaves to be shown of the item.
+fn entry(frame: &LogFrame, item: u32) -> Option<Shown> {
+    match frame {
+        LogFrame::Write {
+            client,
+            set,
+            number,
+            values,
+        } if set >> item & 1 == 1 => {
+            let smaller_items = set & ((1 << item) - 1);
+            Some(Shown {
+                number: *number,
+                client: *client,
+                value: values[smaller_items.count_ones() as usize],
+            })
+        }
+        _ => None,
+    }
+}
+
+/// The entry with another value, number or client, or initial but for its value.
+fn altered_entry(mut entry: Shown, below: &mut Below) -> Shown {
+    (entry.number, entry.client) = match below(4) {
+        0 => (entry.number.saturating_add(1), entry.client.max(1)),
+        1 => (entry.number.max(1), 1 + below(8) as u8),
+        2 => (0, 0),
+        _ => {
+            entry.value ^= 1;
+            (entry.number, entry.client)
+        }
+    };
+    entry
+}

@@ -1,0 +1,85 @@
+//! Every log of two writes and a read, over two items, two writing clients and two numbers.
+
+use crate::frames::log::{LogFrame, Shown};
+
+/// The read stands above, between or below the writes, by a writing client or a third one, and
+/// shows each item as initial or under any of the four stamps. A value is fixed by its stamp
+/// and item. Of the pairs of writes, 54 of 144 have numbers that don't rise.
+pub fn every_small_log() -> Vec<Vec<u8>> {
+    let writes = every_write();
+    let reads = every_read();
+    let mut logs = Vec::new();
+    for first in &writes {
+        for second in &writes {
+            for read in &reads {
+                for order in [
+                    [read, first, second],
+                    [first, read, second],
+                    [first, second, read],
+                ] {
+                    logs.push(order.map(String::as_bytes).concat());
+                }
+            }
+        }
+    }
+    logs
+}
+
+/// Number and client of the writes.
+const STAMPS: [(u32, u8); 4] = [(1, 1), (1, 2), (2, 1), (2, 2)];
+const SETS: [u64; 3] = [0b01, 0b10, 0b11];
+
+fn every_write() -> Vec<String> {
+    let mut writes = Vec::new();
+    for (number, client) in STAMPS {
+        for set in SETS {
+            let values = (0..2).filter(|item| set >> item & 1 == 1);
+            let write = LogFrame::Write {
+                client,
+                set,
+                number,
+                values: values.map(|item| value(number, client, item)).collect(),
+            };
+            writes.push(write.line());
+        }
+    }
+    writes
+}
+
+fn every_read() -> Vec<String> {
+    let mut reads = Vec::new();
+    for client in 1..=3 {
+        let mut read = |set, shown| reads.push(LogFrame::Read { client, set, shown }.line());
+        for first in every_entry(0) {
+            read(0b01, vec![first]);
+            for second in every_entry(1) {
+                read(0b11, vec![first, second]);
+            }
+        }
+        for second in every_entry(1) {
+            read(0b10, vec![second]);
+        }
+    }
+    reads
+}
+
+/// The initial entry of an item, and one for each stamp.
+fn every_entry(item: u32) -> Vec<Shown> {
+    let mut entries = vec![Shown {
+        number: 0,
+        client: 0,
+        value: 0,
+    }];
+    for (number, client) in STAMPS {
+        entries.push(Shown {
+            number,
+            client,
+            value: value(number, client, item),
+        });
+    }
+    entries
+}
+
+fn value(number: u32, client: u8, item: u32) -> u32 {
+    100 * number + 10 * u32::from(client) + item
+}

@@ -1,0 +1,25 @@
+//! The tables as the words of a lent block, and back.
+//!
+//! Written from docs/LAYOUT.md alone. A stamp is one word, its number times 16 and its client added.
+
+mod after;
+mod decode;
+mod fields;
+pub mod places;
+mod sort;
+
+pub use after::{store_fresh, store_step};
+pub use decode::{decode, is_valid};
+pub use fields::{encode, fields, Field};
+pub use places::NEEDED;
+pub use sort::Sort;
+
+use crate::store::stamp::Stamp;
+
+fn stamp_word(stamp: Stamp) -> u64 {
+    stamp.number * 16 + stamp.client
+}
+
+fn stamp_of(word: u64) -> Stamp {
+    Stamp::new(word / 16, word % 16)
+}

@@ -1,0 +1,134 @@
+//! The tables that the words of a block are.
+
+use super::places::{self, Scalar, NEEDED};
+use super::stamp_of;
+use crate::store::message::Message;
+use crate::store::range::is_usable;
+use crate::store::set::items;
+use crate::store::stamp::{Entry, Stamp};
+use crate::store::tables::{
+    Client, Ended, Sizes, Tables, Version, IDLE, LOAD_CAPACITY, NONE, READ, READING,
+    VERSION_CAPACITY, WRITE, WRITING,
+};
+
+/// Whether refusal 1 doesn't apply to these words.
+pub fn is_valid(words: &[u64]) -> bool {
+    decode(words).is_some_and(|tables| is_usable(&tables))
+}
+
+/// The tables that the words encode, in range or not, initial outside sizes, counts and sets. None where the block
+/// is too short, its sizes are ones that 2 refuses, or a count, mode or kind is the number of none.
+pub fn decode(words: &[u64]) -> Option<Tables> {
+    if words.len() < NEEDED {
+        return None;
+    }
+    let sizes = Sizes::new(
+        words[places::CLIENTS],
+        words[places::PARTITIONS],
+        words[places::ITEMS],
+    );
+    let (versions, messages) = (words[places::VERSIONS], words[places::MESSAGES]);
+    if !sizes.are_allowed() || versions > VERSION_CAPACITY || messages > LOAD_CAPACITY {
+        return None;
+    }
+    let mut tables = Tables::fresh(sizes);
+    for item in 0..sizes.items as usize {
+        tables.latest[item] = entry(words, places::latest(item));
+    }
+    for client in 1..=sizes.clients as usize {
+        for item in 0..sizes.items as usize {
+            tables.view[client - 1][item] = entry(words, places::view(client, item));
+        }
+        running(words, client, &mut tables.clients[client - 1])?;
+        last(words, client, &mut tables.clients[client - 1].last)?;
+    }
+    for place in 0..versions as usize {
+        tables.versions.push(version(words, places::version(place)));
+    }
+    for place in 0..messages as usize {
+        tables
+            .messages
+            .push(message(words, places::message(place))?);
+    }
+    Some(tables)
+}
+
+fn stamp(words: &[u64], place: usize) -> Stamp {
+    stamp_of(words[place])
+}
+
+fn entry(words: &[u64], place: usize) -> Entry {
+    Entry::new(stamp(words, place), words[place + 1])
+}
+
+fn running(words: &[u64], client: usize, record: &mut Client) -> Option<()> {
+    let scalar = |scalar| words[places::scalar(client, scalar)];
+    record.mode = scalar(Scalar::Mode);
+    record.count = scalar(Scalar::Count);
+    record.set = scalar(Scalar::Set);
+    record.awaited = scalar(Scalar::Awaited);
+    let written = stamp(words, places::scalar(client, Scalar::Stamp));
+    for item in items(record.set) {
+        let item = item as usize;
+        record.stamps[item] = match record.mode {
+            WRITING => written,
+            _ => stamp(words, places::asked(client, item)),
+        };
+        record.values[item] = words[places::value(client, item)];
+    }
+    [IDLE, READING, WRITING]
+        .contains(&record.mode)
+        .then_some(())
+}
+
+fn last(words: &[u64], client: usize, last: &mut Ended) -> Option<()> {
+    last.kind = words[places::scalar(client, Scalar::LastKind)];
+    if last.kind == NONE {
+        return Some(());
+    }
+    last.set = words[places::scalar(client, Scalar::LastSet)];
+    if last.kind == WRITE {
+        last.stamp = stamp(words, places::scalar(client, Scalar::LastStamp));
+    }
+    for item in items(last.set) {
+        let item = item as usize;
+        if last.kind == READ {
+            last.stamps[item] = stamp(words, places::last_stamp(client, item));
+        }
+        last.values[item] = words[places::last_value(client, item)];
+    }
+    [READ, WRITE].contains(&last.kind).then_some(())
+}
+
+fn version(words: &[u64], place: usize) -> Version {
+    Version {
+        item: words[place],
+        value: words[place + 1],
+        stamp: stamp(words, place + 2),
+        set: words[place + 3],
+    }
+}
+
+fn message(words: &[u64], place: usize) -> Option<Message> {
+    let (client, partition) = (words[place + 1], words[place + 1]);
+    let (item, value) = (words[place + 2], words[place + 3]);
+    let stamp = stamp(words, place + 4);
+    match words[place] {
+        1 => Some(Message::Prepare(version(words, place + 2))),
+        2 => Some(Message::Prepared { item, stamp }),
+        3 => Some(Message::Commit { partition, stamp }),
+        4 => Some(Message::Get {
+            client,
+            item,
+            stamp,
+        }),
+        5 => Some(Message::Got {
+            client,
+            item,
+            value,
+            stamp,
+            latest: entry(words, place + 6),
+        }),
+        _ => None,
+    }
+}

@@ -1,0 +1,210 @@
+//! Which words of a block are fields of its tables, and what each holds.
+
+use super::places::{self, Scalar, NEEDED};
+use super::sort::Sort;
+use super::stamp_word;
+use crate::store::message::Message;
+use crate::store::set::items;
+use crate::store::stamp::Entry;
+use crate::store::tables::{Client, Tables, Version, NONE, READ, WRITE, WRITING};
+
+/// A word of the block that is a field of the tables.
+#[derive(Clone, Copy, Debug, PartialEq, Eq)]
+pub struct Field {
+    pub place: usize,
+    pub word: u64,
+    pub sort: Sort,
+}
+
+/// The fields of tables whose sizes and counts are in range, by section.
+pub fn fields(tables: &Tables) -> Vec<Field> {
+    let mut fields = Vec::new();
+    visit(tables, &mut |field| fields.push(field));
+    fields
+}
+
+/// The block of these tables: fields, and 0 in every other word.
+pub fn encode(tables: &Tables) -> Vec<u64> {
+    let mut words = vec![0; NEEDED];
+    store_fields(&mut words, tables);
+    words
+}
+
+/// Writes the fields and no other word.
+pub(super) fn store_fields(words: &mut [u64], tables: &Tables) {
+    visit(tables, &mut |field| words[field.place] = field.word);
+}
+
+type Visit<'a> = dyn FnMut(Field) + 'a;
+
+fn visit(tables: &Tables, to: &mut Visit) {
+    let sizes = &tables.sizes;
+    one(to, places::CLIENTS, sizes.clients, Sort::NumberOfClients);
+    one(
+        to,
+        places::PARTITIONS,
+        sizes.partitions,
+        Sort::NumberOfPartitions,
+    );
+    one(to, places::ITEMS, sizes.items, Sort::NumberOfItems);
+    let (versions, messages) = (tables.versions.len(), tables.messages.len());
+    one(
+        to,
+        places::VERSIONS,
+        versions as u64,
+        Sort::NumberOfVersions,
+    );
+    one(
+        to,
+        places::MESSAGES,
+        messages as u64,
+        Sort::NumberOfMessages,
+    );
+    for (item, latest) in (0..sizes.items as usize).zip(&tables.latest) {
+        entry(to, places::latest(item), latest);
+    }
+    for client in 1..=sizes.clients as usize {
+        for (item, seen) in (0..sizes.items as usize).zip(&tables.view[client - 1]) {
+            entry(to, places::view(client, item), seen);
+        }
+        running(to, client, &tables.clients[client - 1]);
+        last(to, client, &tables.clients[client - 1]);
+    }
+    for (place, stored) in tables.versions.iter().enumerate() {
+        version(to, places::version(place), stored);
+    }
+    for (place, in_flight) in tables.messages.iter().enumerate() {
+        message(to, places::message(place), in_flight);
+    }
+}
+
+fn one(to: &mut Visit, place: usize, word: u64, sort: Sort) {
+    to(Field { place, word, sort });
+}
+
+fn entry(to: &mut Visit, place: usize, entry: &Entry) {
+    one(to, place, stamp_word(entry.stamp), Sort::Stamp);
+    one(to, place + 1, entry.set, Sort::Set);
+}
+
+/// A writing client has one stamp, any other one for each item of its set.
+fn running(to: &mut Visit, client: usize, record: &Client) {
+    let scalar = |scalar| places::scalar(client, scalar);
+    one(to, scalar(Scalar::Mode), record.mode, Sort::Mode);
+    one(to, scalar(Scalar::Count), record.count, Sort::Count);
+    one(to, scalar(Scalar::Set), record.set, Sort::Set);
+    one(to, scalar(Scalar::Awaited), record.awaited, Sort::Set);
+    let stamp_of = |item: u64| stamp_word(record.stamps[item as usize]);
+    if record.mode == WRITING {
+        let stamp = items(record.set).next().map_or(0, stamp_of);
+        one(to, scalar(Scalar::Stamp), stamp, Sort::Stamp);
+    }
+    for item in items(record.set) {
+        let place = item as usize;
+        if record.mode != WRITING {
+            one(
+                to,
+                places::asked(client, place),
+                stamp_of(item),
+                Sort::Stamp,
+            );
+        }
+        one(
+            to,
+            places::value(client, place),
+            record.values[place],
+            Sort::Value,
+        );
+    }
+}
+
+/// Nothing but the kind where none has ended; one stamp of a write, and of a read one for each item.
+fn last(to: &mut Visit, client: usize, record: &Client) {
+    let scalar = |scalar| places::scalar(client, scalar);
+    let last = &record.last;
+    one(to, scalar(Scalar::LastKind), last.kind, Sort::LastKind);
+    if last.kind == NONE {
+        return;
+    }
+    one(to, scalar(Scalar::LastSet), last.set, Sort::Set);
+    if last.kind == WRITE {
+        one(
+            to,
+            scalar(Scalar::LastStamp),
+            stamp_word(last.stamp),
+            Sort::Stamp,
+        );
+    }
+    for item in items(last.set) {
+        let item = item as usize;
+        if last.kind == READ {
+            one(
+                to,
+                places::last_stamp(client, item),
+                stamp_word(last.stamps[item]),
+                Sort::Stamp,
+            );
+        }
+        one(
+            to,
+            places::last_value(client, item),
+            last.values[item],
+            Sort::Value,
+        );
+    }
+}
+
+fn version(to: &mut Visit, place: usize, version: &Version) {
+    one(to, place, version.item, Sort::Item);
+    one(to, place + 1, version.value, Sort::Value);
+    one(to, place + 2, stamp_word(version.stamp), Sort::Stamp);
+    one(to, place + 3, version.set, Sort::Set);
+}
+
+/// The words that the message's kind uses.
+fn message(to: &mut Visit, place: usize, message: &Message) {
+    one(to, place, u64::from(message.kind()), Sort::MessageKind);
+    match *message {
+        Message::Prepare(Version {
+            item,
+            value,
+            stamp,
+            set,
+        }) => {
+            one(to, place + 2, item, Sort::Item);
+            one(to, place + 3, value, Sort::Value);
+            one(to, place + 4, stamp_word(stamp), Sort::Stamp);
+            one(to, place + 5, set, Sort::Set);
+        }
+        Message::Prepared { item, stamp } => {
+            one(to, place + 2, item, Sort::Item);
+            one(to, place + 4, stamp_word(stamp), Sort::Stamp);
+        }
+        Message::Commit { partition, stamp } => {
+            one(to, place + 1, partition, Sort::Partition);
+            one(to, place + 4, stamp_word(stamp), Sort::Stamp);
+        }
+        Message::Get {
+            client,
+            item,
+            stamp,
+        } => {
+            one(to, place + 1, client, Sort::Client);
+            one(to, place + 2, item, Sort::Item);
+            one(to, place + 4, stamp_word(stamp), Sort::Stamp);
+        }
+        Message::Got {
+            client,
+            item,
+            value,
+            stamp,
+            latest,
+        } => {
+            one(to, place + 1, client, Sort::Client);
+            one(to, place + 2, item, Sort::Item);
+            one(to, place + 3, value, Sort::Value);
+            one(to, place + 4, stamp_word(stamp), Sort::Stamp);
+            entry(to, place + 6, &latest);
+        }
+    }
+}

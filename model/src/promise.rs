@@ -1,0 +1,89 @@
+//! Condition 3, checked of a list of calls from the calls, answers and outputs alone.
+//!
+//! The checker runs a list of labels beside the calls, as the steps say which messages join and leave, and never
+//! sees the store's tables. Each clause of the condition is one function and one `Clause`.
+
+mod answers;
+mod checker;
+mod clauses;
+mod event;
+mod history;
+mod refusals;
+mod showings;
+
+pub use event::{Call, Event};
+
+use checker::Checker;
+
+/// A clause of condition 3 that an event of the list breaks.
+#[derive(Clone, Copy, Debug, PartialEq, Eq)]
+pub enum Clause {
+    /// The list starts from tables that an accepted fresh made.
+    Fresh,
+    /// The number answered is one that such a call can answer.
+    Answer,
+    /// The output keeps its bytes past an accepted frame, and all of them otherwise.
+    Output,
+    /// A delivery at any place within the list is accepted.
+    DeliveryWithinTheList,
+    /// A delivery past the list's end is answered 10.
+    DeliveryPastTheEnd,
+    /// A delivery answers the kind of the message that lies there.
+    Kind,
+    /// A start or delivery answers the length of the list after it.
+    Length,
+    /// A read has exactly one message for each item it awaits.
+    OneMessageForEachAwaited { client: u64, item: u64 },
+    /// A read is reported ended by the delivery of its n-th reply and no other, after n requests and n replies.
+    ReadEnd,
+    /// A write is reported ended by the delivery of its last prepared reply and no other.
+    WriteEnd,
+    /// A showing with room enough after an end and before the client's next start is accepted.
+    ShowingAfterAnEnd,
+    /// The frame shown is one of the transaction that ended last.
+    Frame,
+    /// A shown entry is initial or of an accepted write with that stamp, item and value.
+    Unwritten { item: u64 },
+    /// Where an entry's write also wrote another shown item, that one isn't shown older.
+    Fractured { item: u64, older: u64 },
+    /// An entry's write was stored at all its partitions before the get behind the reply was delivered.
+    AnsweredBeforeStored { item: u64 },
+    /// No entry is older than a write of that item which the client had ended before the read's start.
+    OwnWriteMissed { item: u64 },
+    /// A call is refused as the refusal table says; 0 is accepted.
+    Refusal { stated: u8, answered: u8 },
+}
+
+/// The first event that breaks a clause, counted from 0, and the clause.
+#[derive(Clone, Copy, Debug, PartialEq, Eq)]
+pub struct Violation {
+    pub event: usize,
+    pub clause: Clause,
+}
+
+/// What a list that keeps condition 3 held.
+#[derive(Clone, Debug, Default, PartialEq, Eq)]
+pub struct Summary {
+    pub reads_ended: usize,
+    pub writes_ended: usize,
+    pub reads_shown: usize,
+    /// Entries shown that were not initial.
+    pub written_entries_shown: usize,
+    pub greatest_load: u64,
+    pub items_written: u64,
+    /// How often each refusal was answered.
+    pub refused: [usize; 17],
+}
+
+/// Whether the events keep every clause of condition 3. The first is an accepted fresh; another accepted fresh
+/// begins a new list.
+pub fn check(events: &[Event]) -> Result<Summary, Violation> {
+    let mut checker = Checker::default();
+    for (place, event) in events.iter().enumerate() {
+        checker.check(place, event).map_err(|clause| Violation {
+            event: place,
+            clause,
+        })?;
+    }
+    Ok(checker.summary)
+}

@@ -1,0 +1,95 @@
+//! The walk along the list: each event moves the history on and is held against the clauses.
+
+use super::answers::Answer;
+use super::event::{Call, Event};
+use super::history::History;
+use super::{clauses, refusals, showings, Clause, Summary};
+
+/// The history and summary of the events so far.
+#[derive(Default)]
+pub(super) struct Checker {
+    history: History,
+    begun: bool,
+    pub(super) summary: Summary,
+}
+
+impl Checker {
+    /// Holds the event at this place in the list against every clause.
+    pub(super) fn check(&mut self, place: usize, event: &Event) -> Result<(), Clause> {
+        let answer = Answer::of(&event.call, event.answer).ok_or(Clause::Answer)?;
+        let stated = refusals::stated(&self.history, &event.call);
+        clauses::output_keeps_its_bytes(event, answer)?;
+        match (&event.call, answer) {
+            (
+                Call::Fresh {
+                    clients,
+                    partitions,
+                    items,
+                    ..
+                },
+                Answer::Fresh,
+            ) => {
+                clauses::refused_as_stated(stated, answer)?;
+                self.begun = true;
+                self.history = History::new(*clients, *partitions, *items);
+            }
+            _ if !self.begun => return Err(Clause::Fresh),
+            (Call::Read { client, set }, Answer::Started { .. }) => {
+                self.history.start_read(place, *client, *set);
+            }
+            (
+                Call::Write {
+                    client,
+                    set,
+                    values,
+                },
+                Answer::Started { .. },
+            ) => {
+                self.history.start_write(place, *client, *set, values);
+            }
+            (Call::Deliver { place: at }, _) => self.deliver(place, *at, answer)?,
+            (Call::Show { client, .. }, _) => self.show(*client, event, answer)?,
+            _ => (),
+        }
+        clauses::length_is_that_of_the_list(&self.history, answer)?;
+        clauses::one_message_for_each_awaited_item(&self.history)?;
+        clauses::refused_as_stated(stated, answer)?;
+        self.sum_up(answer);
+        Ok(())
+    }
+
+    fn deliver(&mut self, place: usize, at: u64, answer: Answer) -> Result<(), Clause> {
+        clauses::delivery_accepted_within_the_list_alone(&self.history, at, answer)?;
+        let Answer::Delivered { kind, outcome, .. } = answer else {
+            return Ok(());
+        };
+        let label = self.history.deliver(place, at as usize);
+        clauses::kind_is_that_of_the_message(&label, kind)?;
+        clauses::read_ends_with_its_last_reply_alone(&self.history, &label, outcome)?;
+        clauses::write_ends_with_its_last_prepared_alone(&self.history, &label, outcome)?;
+        if outcome != 0 {
+            self.history.end(place, label.client);
+        }
+        Ok(())
+    }
+
+    fn show(&mut self, client: u64, event: &Event, answer: Answer) -> Result<(), Clause> {
+        if let Some(written) = showings::check(&self.history, client, event, answer)? {
+            self.summary.reads_shown += 1;
+            self.summary.written_entries_shown += written;
+        }
+        Ok(())
+    }
+
+    fn sum_up(&mut self, answer: Answer) {
+        let summary = &mut self.summary;
+        match answer {
+            Answer::Refused(refusal) => summary.refused[usize::from(refusal)] += 1,
+            Answer::Delivered { outcome: 1, .. } => summary.reads_ended += 1,
+            Answer::Delivered { outcome: 2, .. } => summary.writes_ended += 1,
+            _ => (),
+        }
+        summary.greatest_load = summary.greatest_load.max(self.history.load());
+        summary.items_written = summary.items_written.max(self.history.items_written());
+    }
+}

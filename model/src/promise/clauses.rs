@@ -1,0 +1,127 @@
+//! The clauses about answers, messages and ends.
+
+use super::answers::Answer;
+use super::event::{Call, Event};
+use super::history::{items_of, History, Kind, Label, Part};
+use super::Clause;
+
+fn holds(kept: bool, clause: Clause) -> Result<(), Clause> {
+    if kept {
+        Ok(())
+    } else {
+        Err(clause)
+    }
+}
+
+/// Output past an accepted frame keeps its bytes; a refused showing keeps them all.
+pub(super) fn output_keeps_its_bytes(event: &Event, answer: Answer) -> Result<(), Clause> {
+    let Call::Show { output: lent, .. } = &event.call else {
+        return holds(event.output.is_empty(), Clause::Output);
+    };
+    let written = match answer {
+        Answer::Shown { length } => lent.len().min(length as usize),
+        _ => 0,
+    };
+    holds(
+        event.output.len() == lent.len() && event.output[written..] == lent[written..],
+        Clause::Output,
+    )
+}
+
+/// A delivery at any place within the list is accepted; outside it, it is answered 10.
+pub(super) fn delivery_accepted_within_the_list_alone(
+    history: &History,
+    place: u64,
+    answer: Answer,
+) -> Result<(), Clause> {
+    if place < history.messages.len() as u64 {
+        holds(answer.refusal() == 0, Clause::DeliveryWithinTheList)
+    } else {
+        holds(answer.refusal() == 10, Clause::DeliveryPastTheEnd)
+    }
+}
+
+/// The kind answered is the delivered message's.
+pub(super) fn kind_is_that_of_the_message(label: &Label, kind: u64) -> Result<(), Clause> {
+    holds(kind == label.kind as u64, Clause::Kind)
+}
+
+/// The delivery of a read's n-th reply, and no other, reports it ended, after exactly n requests and n replies.
+pub(super) fn read_ends_with_its_last_reply_alone(
+    history: &History,
+    label: &Label,
+    outcome: u64,
+) -> Result<(), Clause> {
+    let mut reads = 0;
+    for transaction in history.running(label.client) {
+        let Part::Read(read) = &transaction.part else {
+            continue;
+        };
+        reads += 1;
+        let n = items_of(transaction.set).len();
+        let is_last_reply = label.kind == Kind::Got && read.replies.len() == n;
+        let stated = if is_last_reply { 1 } else { 0 };
+        holds(outcome == stated, Clause::ReadEnd)?;
+        holds(!is_last_reply || read.requests == n, Clause::ReadEnd)?;
+    }
+    holds(outcome != 1 || reads > 0, Clause::ReadEnd)
+}
+
+/// The delivery of a write's last prepared reply, and no other, reports it ended.
+pub(super) fn write_ends_with_its_last_prepared_alone(
+    history: &History,
+    label: &Label,
+    outcome: u64,
+) -> Result<(), Clause> {
+    let mut writes = 0;
+    for transaction in history.running(label.client) {
+        let Part::Write(write) = &transaction.part else {
+            continue;
+        };
+        writes += 1;
+        let is_last_prepared = label.kind == Kind::Prepared && write.unprepared.is_empty();
+        let stated = if is_last_prepared { 2 } else { 0 };
+        holds(outcome == stated, Clause::WriteEnd)?;
+    }
+    holds(outcome < 2 || outcome == 2 && writes > 0, Clause::WriteEnd)
+}
+
+/// The length answered is that of the list.
+pub(super) fn length_is_that_of_the_list(history: &History, answer: Answer) -> Result<(), Clause> {
+    match answer {
+        Answer::Started { messages } | Answer::Delivered { messages, .. } => {
+            holds(messages == history.messages.len() as u64, Clause::Length)
+        }
+        Answer::Refused(_) | Answer::Fresh | Answer::Shown { .. } => Ok(()),
+    }
+}
+
+/// Every running read has exactly one get or got of its client in the list for each item without a reply.
+pub(super) fn one_message_for_each_awaited_item(history: &History) -> Result<(), Clause> {
+    let running = history.transactions.iter().filter(|of| of.ended.is_none());
+    for transaction in running {
+        let Part::Read(read) = &transaction.part else {
+            continue;
+        };
+        let client = transaction.client;
+        for item in items_of(transaction.set) {
+            let awaited = !read.replies.iter().any(|reply| reply.item == item);
+            let messages = history.messages.iter().filter(|label| {
+                [Kind::Get, Kind::Got].contains(&label.kind)
+                    && label.client == client
+                    && label.item == item
+            });
+            holds(
+                !awaited || messages.count() == 1,
+                Clause::OneMessageForEachAwaited { client, item },
+            )?;
+        }
+    }
+    Ok(())
+}
+
+/// Every call is accepted or refused as the refusal table says.
+pub(super) fn refused_as_stated(stated: u8, answer: Answer) -> Result<(), Clause> {
+    let answered = answer.refusal();
+    holds(answered == stated, Clause::Refusal { stated, answered })
+}

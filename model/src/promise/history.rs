@@ -1,0 +1,268 @@
+//! The list of labels beside the calls: which message lies where, and whose it is.
+//!
+//! A message is of the client whose start put it there, or of the same client as the message whose delivery did.
+
+/// The kinds of message, with their numbers.
+#[derive(Clone, Copy, Debug, PartialEq, Eq)]
+pub(super) enum Kind {
+    Prepare = 1,
+    Prepared = 2,
+    Commit = 3,
+    Get = 4,
+    Got = 5,
+}
+
+/// What is known of a message in flight.
+#[derive(Clone, Copy, Debug)]
+pub(super) struct Label {
+    pub(super) kind: Kind,
+    pub(super) client: u64,
+    /// The item; of a commit the partition.
+    pub(super) item: u64,
+    /// The transaction whose start it goes back to, by its place among them.
+    pub(super) transaction: usize,
+    /// Of a got, the event that delivered the get behind it.
+    pub(super) answered: usize,
+}
+
+/// A stamp, number first, as pairs are ordered.
+pub(super) type Stamp = (u64, u64);
+
+/// A reply of a read: its item, and the event that delivered the get behind it.
+#[derive(Clone, Copy, Debug)]
+pub(super) struct Reply {
+    pub(super) item: u64,
+    pub(super) answered: usize,
+}
+
+/// A read from its accepted start.
+#[derive(Clone, Debug, Default)]
+pub(super) struct Read {
+    /// Gets of its client that joined from its start to its end.
+    pub(super) requests: usize,
+    /// Gots of its client that were delivered from its start to its end.
+    pub(super) replies: Vec<Reply>,
+}
+
+/// A write from its accepted start.
+#[derive(Clone, Debug)]
+pub(super) struct Write {
+    pub(super) stamp: Stamp,
+    /// Item and value, ascending.
+    pub(super) values: Vec<(u64, u32)>,
+    /// Items whose own prepare is not delivered.
+    unstored: Vec<u64>,
+    /// Items whose own prepared reply is not delivered.
+    pub(super) unprepared: Vec<u64>,
+    /// The event with which it was stored at all its partitions.
+    pub(super) stored: Option<usize>,
+}
+
+impl Write {
+    /// The value it put on an item.
+    pub(super) fn value(&self, item: u64) -> Option<u32> {
+        let written = self.values.iter().find(|(written, _)| *written == item);
+        written.map(|(_, value)| *value)
+    }
+}
+
+/// What a transaction is, a read or a write.
+#[derive(Clone, Debug)]
+pub(super) enum Part {
+    Read(Read),
+    Write(Write),
+}
+
+/// A read or write from its accepted start, with the events of its start and end.
+#[derive(Clone, Debug)]
+pub(super) struct Transaction {
+    pub(super) client: u64,
+    pub(super) set: u64,
+    pub(super) started: usize,
+    pub(super) ended: Option<usize>,
+    pub(super) part: Part,
+}
+
+/// The list of messages and all transactions so far, with the sizes of the fresh.
+#[derive(Clone, Debug, Default)]
+pub(super) struct History {
+    pub(super) clients: u64,
+    pub(super) partitions: u64,
+    pub(super) items: u64,
+    pub(super) messages: Vec<Label>,
+    pub(super) transactions: Vec<Transaction>,
+}
+
+/// The items of a set, ascending.
+pub(super) fn items_of(set: u64) -> Vec<u64> {
+    (0..64).filter(|item| set & (1 << item) != 0).collect()
+}
+
+impl History {
+    pub(super) fn new(clients: u64, partitions: u64, items: u64) -> History {
+        History {
+            clients,
+            partitions,
+            items,
+            messages: Vec::new(),
+            transactions: Vec::new(),
+        }
+    }
+
+    /// An accepted read start: one get per item joins.
+    pub(super) fn start_read(&mut self, event: usize, client: u64, set: u64) {
+        self.start(event, client, set, Part::Read(Read::default()), Kind::Get);
+        let joined = items_of(set).len();
+        for read in self.running_reads_mut(client) {
+            read.requests += joined;
+        }
+    }
+
+    /// An accepted write start: one prepare per item joins.
+    pub(super) fn start_write(&mut self, event: usize, client: u64, set: u64, values: &[u8]) {
+        let items = items_of(set);
+        let values = values
+            .chunks_exact(4)
+            .map(|value| u32::from_be_bytes([value[0], value[1], value[2], value[3]]));
+        let number = 1 + self.writes().filter(|(of, _)| of.client == client).count();
+        let write = Write {
+            stamp: (number as u64, client),
+            values: items.iter().copied().zip(values).collect(),
+            unstored: items.clone(),
+            unprepared: items,
+            stored: None,
+        };
+        self.start(event, client, set, Part::Write(write), Kind::Prepare);
+    }
+
+    fn start(&mut self, event: usize, client: u64, set: u64, part: Part, kind: Kind) {
+        let transaction = self.transactions.len();
+        self.transactions.push(Transaction {
+            client,
+            set,
+            started: event,
+            ended: None,
+            part,
+        });
+        for item in items_of(set) {
+            self.messages.push(Label {
+                kind,
+                client,
+                item,
+                transaction,
+                answered: 0,
+            });
+        }
+    }
+
+    /// An accepted delivery within the list: the message leaves, and what its step sends joins.
+    pub(super) fn deliver(&mut self, event: usize, place: usize) -> Label {
+        let label = self.messages.remove(place);
+        match label.kind {
+            Kind::Prepare => {
+                if let Part::Write(write) = &mut self.transactions[label.transaction].part {
+                    write.unstored.retain(|item| *item != label.item);
+                    if write.unstored.is_empty() {
+                        write.stored = Some(event);
+                    }
+                }
+                self.join(label, Kind::Prepared, label.item, 0);
+            }
+            Kind::Prepared => self.deliver_prepared(label),
+            Kind::Commit => (),
+            Kind::Get => self.join(label, Kind::Got, label.item, event),
+            Kind::Got => {
+                for read in self.running_reads_mut(label.client) {
+                    read.replies.push(Reply {
+                        item: label.item,
+                        answered: label.answered,
+                    });
+                }
+            }
+        }
+        label
+    }
+
+    fn deliver_prepared(&mut self, label: Label) {
+        let of = &mut self.transactions[label.transaction];
+        let Part::Write(write) = &mut of.part else {
+            return;
+        };
+        write.unprepared.retain(|item| *item != label.item);
+        if write.unprepared.is_empty() {
+            let written = items_of(of.set);
+            for partition in 0..self.partitions {
+                if written
+                    .iter()
+                    .any(|item| item % self.partitions == partition)
+                {
+                    self.join(label, Kind::Commit, partition, 0);
+                }
+            }
+        }
+    }
+
+    fn join(&mut self, sender: Label, kind: Kind, item: u64, answered: usize) {
+        self.messages.push(Label {
+            kind,
+            item,
+            answered,
+            ..sender
+        });
+    }
+
+    /// A delivery of the client's message reported an end.
+    pub(super) fn end(&mut self, event: usize, client: u64) {
+        let running = self.transactions.iter_mut();
+        for transaction in running.filter(|of| of.client == client && of.ended.is_none()) {
+            transaction.ended = Some(event);
+        }
+    }
+
+    /// The client's transactions that have started and not ended.
+    pub(super) fn running(&self, client: u64) -> impl Iterator<Item = &Transaction> {
+        let all = self.transactions.iter();
+        all.filter(move |of| of.client == client && of.ended.is_none())
+    }
+
+    fn running_reads_mut(&mut self, client: u64) -> impl Iterator<Item = &mut Read> {
+        let all = self.transactions.iter_mut();
+        all.filter(move |of| of.client == client && of.ended.is_none())
+            .filter_map(|of| match &mut of.part {
+                Part::Read(read) => Some(read),
+                Part::Write(_) => None,
+            })
+    }
+
+    /// The client's transaction that ended last, if none of it is running.
+    pub(super) fn last_ended(&self, client: u64) -> Option<&Transaction> {
+        if self.running(client).next().is_some() {
+            return None;
+        }
+        let all = self.transactions.iter();
+        all.filter(|of| of.client == client)
+            .max_by_key(|of| of.ended)
+    }
+
+    /// All accepted writes so far.
+    pub(super) fn writes(&self) -> impl Iterator<Item = (&Transaction, &Write)> {
+        self.transactions.iter().filter_map(|of| match &of.part {
+            Part::Write(write) => Some((of, write)),
+            Part::Read(_) => None,
+        })
+    }
+
+    /// Messages, and the prepared replies that have come for writes that are running.
+    pub(super) fn load(&self) -> u64 {
+        let running = self.writes().filter(|(of, _)| of.ended.is_none());
+        let come = running.map(|(of, write)| items_of(of.set).len() - write.unprepared.len());
+        (self.messages.len() + come.sum::<usize>()) as u64
+    }
+
+    /// Items of all accepted writes: each is a prepare in flight or a stored version.
+    pub(super) fn items_written(&self) -> u64 {
+        self.writes()
+            .map(|(_, write)| write.values.len() as u64)
+            .sum()
+    }
+}

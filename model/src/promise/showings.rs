@@ -1,0 +1,173 @@
+//! The clauses about what a showing gives after an end and before the client's next start.
+
+use super::answers::Answer;
+use super::event::{Call, Event};
+use super::history::{items_of, History, Part, Read, Stamp, Transaction, Write};
+use super::refusals::frame_length;
+use super::Clause;
+use crate::frames::log::LogFrame;
+
+/// An entry that a read shows.
+#[derive(Clone, Copy, Debug)]
+struct Entry {
+    item: u64,
+    stamp: Stamp,
+    value: u32,
+}
+
+/// Checks a showing; of an accepted one of a read, gives how many entries it shows that are not initial.
+pub(super) fn check(
+    history: &History,
+    client: u64,
+    event: &Event,
+    answer: Answer,
+) -> Result<Option<usize>, Clause> {
+    let Some(last) = history.last_ended(client) else {
+        return Ok(None);
+    };
+    accepted_with_room_enough(last, event, answer)?;
+    let Answer::Shown { length } = answer else {
+        return Ok(None);
+    };
+    let frame = event.output.get(..length as usize);
+    let frame = LogFrame::parse(frame.ok_or(Clause::Frame)?).ok_or(Clause::Frame)?;
+    match &last.part {
+        Part::Write(write) => {
+            frame_is_that_of_the_write(last, write, &frame)?;
+            Ok(None)
+        }
+        Part::Read(read) => {
+            let entries = entries_of_the_read(last, &frame)?;
+            let mut writes = Vec::new();
+            for entry in &entries {
+                writes.extend(put_there_by_a_write(history, entry)?.map(|write| (entry, write)));
+            }
+            for (entry, write) in &writes {
+                no_sibling_is_older(write, entry, &entries)?;
+            }
+            for (entry, write) in &writes {
+                stored_before_the_answer(write, read, entry)?;
+            }
+            for entry in &entries {
+                no_own_write_is_missed(history, last, entry)?;
+            }
+            Ok(Some(writes.len()))
+        }
+    }
+}
+
+/// A showing with room enough after an end and before the client's next start is accepted.
+fn accepted_with_room_enough(
+    last: &Transaction,
+    event: &Event,
+    answer: Answer,
+) -> Result<(), Clause> {
+    let Call::Show { output, .. } = &event.call else {
+        return Ok(());
+    };
+    if output.len() >= frame_length(last) && answer.refusal() != 0 {
+        return Err(Clause::ShowingAfterAnEnd);
+    }
+    Ok(())
+}
+
+/// A write is shown with its client, set, number and the values of its start.
+fn frame_is_that_of_the_write(
+    last: &Transaction,
+    write: &Write,
+    frame: &LogFrame,
+) -> Result<(), Clause> {
+    let (number, _) = write.stamp;
+    let stated = LogFrame::Write {
+        client: last.client as u8,
+        set: last.set,
+        number: number as u32,
+        values: write.values.iter().map(|(_, value)| *value).collect(),
+    };
+    if *frame == stated {
+        Ok(())
+    } else {
+        Err(Clause::Frame)
+    }
+}
+
+/// A read is shown with its client and set, and an entry for each item.
+fn entries_of_the_read(last: &Transaction, frame: &LogFrame) -> Result<Vec<Entry>, Clause> {
+    let LogFrame::Read { client, set, shown } = frame else {
+        return Err(Clause::Frame);
+    };
+    if u64::from(*client) != last.client || *set != last.set {
+        return Err(Clause::Frame);
+    }
+    let entries = items_of(*set).into_iter().zip(shown);
+    Ok(entries
+        .map(|(item, shown)| Entry {
+            item,
+            stamp: (u64::from(shown.number), u64::from(shown.client)),
+            value: shown.value,
+        })
+        .collect())
+}
+
+/// An entry is initial, or its write is an accepted write of the list with that stamp, item and value.
+fn put_there_by_a_write<'a>(
+    history: &'a History,
+    entry: &Entry,
+) -> Result<Option<&'a Write>, Clause> {
+    if entry.stamp == (0, 0) && entry.value == 0 {
+        return Ok(None);
+    }
+    let mut writes = history.writes().map(|(_, write)| write);
+    let found = writes
+        .find(|write| write.stamp == entry.stamp && write.value(entry.item) == Some(entry.value));
+    found
+        .map(Some)
+        .ok_or(Clause::Unwritten { item: entry.item })
+}
+
+/// Wherever the read shows an entry of a write that also wrote another item it shows, that one isn't older.
+fn no_sibling_is_older(write: &Write, entry: &Entry, entries: &[Entry]) -> Result<(), Clause> {
+    let older = entries
+        .iter()
+        .find(|other| write.value(other.item).is_some() && other.stamp < entry.stamp);
+    match older {
+        Some(older) => Err(Clause::Fractured {
+            item: entry.item,
+            older: older.item,
+        }),
+        None => Ok(()),
+    }
+}
+
+/// The entry's write was stored at all its partitions before the get behind the item's reply was delivered.
+fn stored_before_the_answer(write: &Write, read: &Read, entry: &Entry) -> Result<(), Clause> {
+    let reply = read.replies.iter().find(|reply| reply.item == entry.item);
+    let in_time = match (write.stored, reply) {
+        (Some(stored), Some(reply)) => stored < reply.answered,
+        _ => false,
+    };
+    if in_time {
+        Ok(())
+    } else {
+        Err(Clause::AnsweredBeforeStored { item: entry.item })
+    }
+}
+
+/// No entry is older than a write of that item which the client itself had ended before starting the read.
+fn no_own_write_is_missed(
+    history: &History,
+    read: &Transaction,
+    entry: &Entry,
+) -> Result<(), Clause> {
+    let missed = history.writes().any(|(of, write)| {
+        of.client == read.client
+            && of.ended.is_some_and(|ended| ended < read.started)
+            && write.value(entry.item).is_some()
+            && entry.stamp < write.stamp
+    });
+    if missed {
+        Err(Clause::OwnWriteMissed { item: entry.item })
+    } else {
+        Ok(())
+    }
+}

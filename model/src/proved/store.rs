@@ -1,0 +1,68 @@
+//! The five calls.
+
+use crate::block::Calls;
+
+mod library {
+    #[link(name = "store", kind = "static")]
+    extern "C" {
+        pub fn koolvent_fresh(
+            block: *mut u64,
+            length: usize,
+            clients: u64,
+            partitions: u64,
+            items: u64,
+        ) -> u64;
+        pub fn koolvent_start_read(block: *mut u64, length: usize, client: u64, set: u64) -> u64;
+        pub fn koolvent_start_write(
+            block: *mut u64,
+            length: usize,
+            client: u64,
+            set: u64,
+            values: *const u8,
+            bytes: usize,
+        ) -> u64;
+        pub fn koolvent_deliver(block: *mut u64, length: usize, place: u64) -> u64;
+        pub fn koolvent_show(
+            block: *const u64,
+            length: usize,
+            client: u64,
+            output: *mut u8,
+            room: usize,
+        ) -> u64;
+    }
+}
+
+/// The proved store.
+pub struct Proved;
+
+impl Calls for Proved {
+    #[inline]
+    fn fresh(&self, block: &mut [u64], clients: u64, partitions: u64, items: u64) -> u64 {
+        let (words, length) = (block.as_mut_ptr(), block.len());
+        unsafe { library::koolvent_fresh(words, length, clients, partitions, items) }
+    }
+
+    #[inline]
+    fn start_read(&self, block: &mut [u64], client: u64, set: u64) -> u64 {
+        unsafe { library::koolvent_start_read(block.as_mut_ptr(), block.len(), client, set) }
+    }
+
+    #[inline]
+    fn start_write(&self, block: &mut [u64], client: u64, set: u64, values: &[u8]) -> u64 {
+        let (words, length) = (block.as_mut_ptr(), block.len());
+        let (bytes, count) = (values.as_ptr(), values.len());
+        unsafe { library::koolvent_start_write(words, length, client, set, bytes, count) }
+    }
+
+    #[inline]
+    fn deliver(&self, block: &mut [u64], place: u64) -> u64 {
+        unsafe { library::koolvent_deliver(block.as_mut_ptr(), block.len(), place) }
+    }
+
+    #[inline]
+    fn show(&self, block: &[u64], client: u64, output: &mut [u8]) -> u64 {
+        let (words, length) = (block.as_ptr(), block.len());
+        let (bytes, room) = (output.as_mut_ptr(), output.len());
+        unsafe { library::koolvent_show(words, length, client, bytes, room) }
+    }
+}

@@ -1,0 +1,233 @@
+//! Random runs: a list of calls from an accepted fresh, refused ones included, with its log.
+
+mod choices;
+mod make;
+
+pub use make::make;
+
+use crate::frames::hex::to_hex;
+use crate::promise::{Call, Event};
+use crate::random::Random;
+use crate::store::answer::{Answer, Outcome};
+use crate::store::message::Message;
+use crate::store::tables::{Sizes, Tables};
+use crate::store::Store;
+
+/// The most bytes and lines of a log that the judge takes.
+const LOG_BYTES: usize = 32_768;
+const LOG_LINES: usize = 256;
+
+/// What sort of run.
+#[derive(Clone, Copy, Debug, PartialEq, Eq)]
+pub enum Sort {
+    /// Few clients and items, so that they meet often.
+    Small,
+    /// Any sizes.
+    AnySize,
+    /// The largest sizes and wide sets, so that the store fills.
+    Crowded,
+}
+
+/// A run that has been made.
+pub struct Run {
+    /// All calls from the accepted fresh on.
+    pub events: Vec<Event>,
+    /// Each ended transaction, shown right after its end, up to the judge's limits.
+    pub log: Vec<u8>,
+    pub most_versions: usize,
+    /// How often each refusal was answered, before the fresh as well.
+    pub refused: [usize; 17],
+    pub store: Store,
+}
+
+/// Which message is delivered next.
+#[derive(Clone, Copy)]
+enum Order {
+    Any,
+    First,
+    Last,
+    /// Commits only when nothing else lies there.
+    CommitsLast,
+    /// This client's messages only when no other lies there.
+    ClientLast(u64),
+}
+
+/// What is told of each call: what it was and gave, and the tables after it.
+pub type Watch<'a> = dyn FnMut(&Event, &Tables) + 'a;
+
+struct Runner<'a, 'b> {
+    random: Random,
+    sort: Sort,
+    sizes: Sizes,
+    order: Order,
+    log_lines: usize,
+    run: Run,
+    watch: &'a mut Watch<'b>,
+}
+
+/// The run that a seed gives.
+pub fn run(sort: Sort, seed: u64) -> Run {
+    run_watched(sort, seed, &mut |_, _| ())
+}
+
+/// The run that a seed gives, watched call by call, from those before the accepted fresh on.
+pub fn run_watched(sort: Sort, seed: u64, watch: &mut Watch) -> Run {
+    let mut runner = Runner::new(sort, seed, watch);
+    runner.before_the_fresh();
+    for _ in 0..sort.calls() {
+        runner.call_something();
+    }
+    if runner.random.percent(90) {
+        runner.deliver_all();
+    }
+    runner.run
+}
+
+/// Tables from the middle of a run.
+pub fn tables_amid(sort: Sort, seed: u64) -> Tables {
+    let watch: &mut Watch = &mut |_, _| ();
+    let mut runner = Runner::new(sort, seed, watch);
+    runner.before_the_fresh();
+    let calls = runner.random.between(sort.calls() / 4, sort.calls());
+    for _ in 0..calls {
+        runner.call_something();
+    }
+    runner.run.store.tables
+}
+
+impl Sort {
+    /// How many calls are made, deliveries of what is left at the end and showings after ends not counted.
+    fn calls(self) -> u64 {
+        match self {
+            Sort::Small => 120,
+            Sort::AnySize => 200,
+            Sort::Crowded => 3_000,
+        }
+    }
+
+    fn sizes(self, random: &mut Random) -> Sizes {
+        match self {
+            Sort::Small => Sizes::new(
+                random.between(1, 3),
+                random.between(1, 3),
+                random.between(1, 4),
+            ),
+            Sort::AnySize => Sizes::new(
+                random.between(1, 8),
+                random.between(1, 8),
+                random.between(1, 64),
+            ),
+            Sort::Crowded => Sizes::new(8, random.between(1, 8), random.between(60, 64)),
+        }
+    }
+}
+
+impl<'a, 'b> Runner<'a, 'b> {
+    fn new(sort: Sort, seed: u64, watch: &'a mut Watch<'b>) -> Runner<'a, 'b> {
+        let mut random = Random::new(seed);
+        let sizes = sort.sizes(&mut random);
+        let order = match random.below(6) {
+            0 => Order::First,
+            1 => Order::Last,
+            2 => Order::CommitsLast,
+            3 => Order::ClientLast(random.between(1, sizes.clients)),
+            _ => Order::Any,
+        };
+        Runner {
+            random,
+            sort,
+            sizes,
+            order,
+            log_lines: 0,
+            run: Run {
+                events: Vec::new(),
+                log: Vec::new(),
+                most_versions: 0,
+                refused: [0; 17],
+                store: Store::new(),
+            },
+            watch,
+        }
+    }
+
+    fn call_something(&mut self) {
+        match self.random.below(100) {
+            0..60 => self.deliver_next(),
+            60..90 => self.start(),
+            90..94 => self.show_again(),
+            _ => self.call_amiss(),
+        }
+    }
+
+    fn before_the_fresh(&mut self) {
+        let Sizes {
+            clients,
+            partitions,
+            items,
+        } = self.sizes;
+        let fresh = |long_enough, clients| Call::Fresh {
+            long_enough,
+            clients,
+            partitions,
+            items,
+        };
+        self.call(Call::Deliver { place: 0 });
+        self.call(fresh(true, 9));
+        self.call(fresh(false, clients));
+        self.call(Call::Read { client: 1, set: 1 });
+        self.run.events.clear();
+        self.call(fresh(true, clients));
+    }
+
+    /// Makes the call; shows and logs what it ended.
+    fn call(&mut self, call: Call) -> Answer {
+        let before = self.run.store.tables.clone();
+        let (answer, event) = make(&mut self.run.store, call);
+        (self.watch)(&event, &self.run.store.tables);
+        if let Answer::Refused(refusal) = answer {
+            self.run.refused[usize::from(refusal)] += 1;
+            let after = &self.run.store.tables;
+            assert_eq!(*after, before, "refusal {refusal} changed the tables");
+        }
+        let ended = match (&event.call, &answer) {
+            (_, Answer::Delivered { outcome, .. }) if *outcome == Outcome::NoneEnded => None,
+            (Call::Deliver { place }, Answer::Delivered { .. }) => {
+                Some(client_of(&before.messages[*place as usize]))
+            }
+            _ => None,
+        };
+        self.run.events.push(event);
+        self.run.most_versions = self
+            .run
+            .most_versions
+            .max(self.run.store.tables.versions.len());
+        if let Some(client) = ended {
+            self.show_and_log(client);
+        }
+        answer
+    }
+
+    fn show_and_log(&mut self, client: u64) {
+        let room = 586 + self.random.below(20) as usize;
+        let output = self.random.bytes(room);
+        let Answer::Shown(frame) = self.call(Call::Show { client, output }) else {
+            panic!("a showing after an end was refused");
+        };
+        let line = to_hex(&frame) + "\n";
+        if self.log_lines < LOG_LINES && self.run.log.len() + line.len() <= LOG_BYTES {
+            self.run.log.extend(line.bytes());
+            self.log_lines += 1;
+        } else {
+            self.log_lines = LOG_LINES;
+        }
+    }
+}
+
+/// The client whose transaction a message serves.
+fn client_of(message: &Message) -> u64 {
+    match message {
+        Message::Prepare(version) => version.stamp.client,
+        Message::Prepared { stamp, .. } | Message::Commit { stamp, .. } => stamp.client,
+        Message::Get { client, .. } | Message::Got { client, .. } => *client,
+    }
+}

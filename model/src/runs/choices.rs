@@ -1,0 +1,154 @@
+//! The next call of a random run.
+
+use super::{client_of, Order, Runner, Sort};
+use crate::promise::Call;
+use crate::store::answer::Answer;
+use crate::store::message::Message;
+use crate::store::tables::{IDLE, LOAD_CAPACITY, VERSION_CAPACITY};
+
+impl Runner<'_, '_> {
+    pub(super) fn deliver_next(&mut self) {
+        let messages = &self.run.store.tables.messages;
+        let count = messages.len() as u64;
+        if count == 0 {
+            return;
+        }
+        let is_preferred = |message: &Message| match self.order {
+            Order::CommitsLast => !matches!(message, Message::Commit { .. }),
+            Order::ClientLast(client) => client_of(message) != client,
+            _ => true,
+        };
+        let preferred: Vec<u64> = (0..count)
+            .filter(|place| is_preferred(&messages[*place as usize]))
+            .collect();
+        let place = match self.order {
+            Order::First => 0,
+            Order::Last => count - 1,
+            _ if preferred.is_empty() => self.random.below(count),
+            _ => self.random.pick(&preferred),
+        };
+        self.call(Call::Deliver { place });
+    }
+
+    /// Delivers what is in flight; then nobody waits.
+    pub(super) fn deliver_all(&mut self) {
+        while !self.run.store.tables.messages.is_empty() {
+            let refused = self.run.refused;
+            self.deliver_next();
+            assert_eq!(self.run.refused, refused, "a delivery was refused");
+        }
+        let mut clients = self.run.store.tables.existing_clients();
+        assert!(clients.all(|client| client.mode == IDLE));
+    }
+
+    pub(super) fn start(&mut self) {
+        let idle: Vec<u64> = (1..=self.sizes.clients)
+            .filter(|client| self.run.store.tables.client(*client).mode == IDLE)
+            .collect();
+        if idle.is_empty() {
+            return self.deliver_next();
+        }
+        let client = self.random.pick(&idle);
+        let set = self.some_set();
+        let writes = if self.sort == Sort::Crowded { 70 } else { 50 };
+        if self.random.percent(writes) {
+            let values = self.random.bytes(4 * set.count_ones() as usize);
+            self.call(Call::Write {
+                client,
+                set,
+                values,
+            });
+        } else {
+            self.call(Call::Read { client, set });
+        }
+    }
+
+    /// A nonempty set of existing items; in a crowded run often one that just fits.
+    fn some_set(&mut self) -> u64 {
+        let all = u64::MAX >> (64 - self.sizes.items);
+        let tables = &self.run.store.tables;
+        let room = LOAD_CAPACITY - tables.load();
+        let versions = VERSION_CAPACITY - tables.versions_and_prepares();
+        let fitting = room.min(versions).min(self.sizes.items);
+        if self.sort == Sort::Crowded && fitting > 0 && self.random.percent(60) {
+            return u64::MAX >> (64 - fitting);
+        }
+        let chosen = match self.random.below(4) {
+            0 => all,
+            1 => self.random.number() & self.random.number() & all,
+            _ => self.random.number() & all,
+        };
+        if chosen == 0 {
+            1 << self.random.below(self.sizes.items)
+        } else {
+            chosen
+        }
+    }
+
+    /// A showing, often with just room enough or a byte less.
+    pub(super) fn show_again(&mut self) {
+        let client = self.random.between(1, self.sizes.clients);
+        let frame = match self.run.store.show(client, &mut [0; 600]) {
+            Answer::Shown(frame) => frame.len(),
+            _ => 0,
+        };
+        let room = self
+            .random
+            .pick(&[0, frame.saturating_sub(1), frame, frame + 1, 600]);
+        let output = self.random.bytes(room);
+        self.call(Call::Show { client, output });
+    }
+
+    /// A call that is refused, or would be if some client's state were another.
+    pub(super) fn call_amiss(&mut self) {
+        let client = self.random.between(1, self.sizes.clients);
+        let beyond = self.sizes.clients + 1;
+        let nobody = self
+            .random
+            .pick(&[0, beyond, 256 + client, 1 << 63, u64::MAX]);
+        let set = self.some_set();
+        let past_the_end = self.run.store.tables.messages.len() as u64;
+        let call = match self.random.below(11) {
+            0 => Call::Read {
+                client: nobody,
+                set,
+            },
+            1 => Call::Show {
+                client: nobody,
+                output: vec![1; 600],
+            },
+            2 => Call::Read { client, set },
+            3 => Call::Read { client, set: 0 },
+            4 if self.sizes.items < 64 => Call::Read {
+                client,
+                set: set | 1 << self.sizes.items,
+            },
+            5 | 4 => Call::Write {
+                client,
+                set,
+                values: vec![7; self.random.below(300) as usize],
+            },
+            6 => Call::Deliver {
+                place: past_the_end,
+            },
+            7 => Call::Deliver { place: u64::MAX },
+            8 => Call::Show {
+                client,
+                output: vec![2; self.random.below(20) as usize],
+            },
+            9 => Call::Fresh {
+                long_enough: true,
+                clients: 1,
+                partitions: (1 << 32) + 1,
+                items: 1,
+            },
+            _ => Call::Fresh {
+                long_enough: false,
+                clients: 1,
+                partitions: 1,
+                items: 1,
+            },
+        };
+        self.call(call);
+    }
+}

@@ -1,0 +1,108 @@
+//! The five calls. Any number may be passed; a refusal changes nothing.
+
+use super::answer::Answer;
+use super::fault::Fault;
+use super::refusals;
+use super::shown::shown_frame;
+use super::tables::{Sizes, Tables};
+use super::Store;
+use crate::frames::log::{LogFrame, Shown};
+
+impl Store {
+    /// Makes fresh tables. Whether the block is long enough is known to the layer that holds it.
+    pub fn fresh(&mut self, long_enough: bool, sizes: Sizes) -> Answer {
+        if let Some(refusal) = refusals::fresh(long_enough, sizes) {
+            return Answer::Refused(refusal);
+        }
+        self.tables = Tables::fresh(sizes);
+        Answer::Fresh
+    }
+
+    /// Starts a read of the items of the set.
+    pub fn start_read(&mut self, client: u64, set: u64) -> Answer {
+        let refusal = refusals::start_read(&self.tables, client, set);
+        if let Some(refusal) = self.spoilt(refusal, 8) {
+            return Answer::Refused(refusal);
+        }
+        self.step_start_read(client, set);
+        self.started()
+    }
+
+    /// Starts a write of the set, with four value bytes for each of its items, ascending.
+    pub fn start_write(&mut self, client: u64, set: u64, values: &[u8]) -> Answer {
+        let refusal = refusals::start_write(&self.tables, client, set, values);
+        if let Some(refusal) = self.spoilt(refusal, 9) {
+            return Answer::Refused(refusal);
+        }
+        self.step_start_write(client, set, values);
+        self.started()
+    }
+
+    /// Delivers the message at a place in the list.
+    pub fn deliver(&mut self, place: u64) -> Answer {
+        let refusal = refusals::deliver(&self.tables, place);
+        if let Some(refusal) = self.spoilt(refusal, 0) {
+            return Answer::Refused(refusal);
+        }
+        let kind = self.tables.messages[place as usize].kind();
+        let outcome = self.step_deliver(place as usize);
+        Answer::Delivered {
+            kind,
+            messages: self.answered_length(),
+            outcome,
+        }
+    }
+
+    /// Writes the log frame of the client's last ended transaction; output past it keeps its bytes.
+    pub fn show(&self, client: u64, output: &mut [u8]) -> Answer {
+        let refusal = refusals::show(&self.tables, client, output.len());
+        if let Some(refusal) = self.spoilt(refusal, 0) {
+            return Answer::Refused(refusal);
+        }
+        let mut frame = shown_frame(&self.tables, client).expect("a transaction has ended");
+        if self.has(Fault::InitialReads) {
+            frame = with_initial_entries(frame);
+        }
+        let bytes = frame.bytes();
+        output[..bytes.len()].copy_from_slice(&bytes);
+        Answer::Shown(bytes)
+    }
+
+    fn started(&self) -> Answer {
+        Answer::Started {
+            messages: self.answered_length(),
+        }
+    }
+
+    fn answered_length(&self) -> u16 {
+        let made_up = u16::from(self.has(Fault::LengthMadeUp));
+        self.tables.messages.len() as u16 + made_up
+    }
+
+    /// The refusal, unless a fault gives another: `full` is what a full store answers, 0 if it never does.
+    fn spoilt(&self, refusal: Option<u8>, full: u8) -> Option<u8> {
+        if self.has(Fault::TurnsAllAway) {
+            return Some(1);
+        }
+        if self.has(Fault::FullWhileEmpty) && full != 0 {
+            return refusal.or(Some(full));
+        }
+        refusal
+    }
+}
+
+fn with_initial_entries(frame: LogFrame) -> LogFrame {
+    let initial = Shown {
+        number: 0,
+        client: 0,
+        value: 0,
+    };
+    match frame {
+        LogFrame::Read { client, set, shown } => LogFrame::Read {
+            client,
+            set,
+            shown: vec![initial; shown.len()],
+        },
+        write => write,
+    }
+}

@@ -1,0 +1,26 @@
+//! Wrong stores. For tests alone: each shows that some test would notice a store that is wrong in this way.
+
+/// One way in which a store can be wrong.
+#[derive(Clone, Copy, Debug, PartialEq, Eq)]
+pub enum Fault {
+    /// A get is answered with the item's newest stored version.
+    NewestVersion,
+    /// A write is put in the writer's view at its start.
+    ViewAtStart,
+    /// A commit replaces the latest even if that is later.
+    LateCommit,
+    /// Stamps are compared by client before number.
+    ClientsBeforeNumbers,
+    /// Reads always show initial entries.
+    InitialReads,
+    /// Messages are sent at the starts, and a delivery takes its message out and does nothing.
+    NothingAtDelivery,
+    /// A read is reported ended at its first reply.
+    EndAtFirstReply,
+    /// The message-list length in an answer is made up.
+    LengthMadeUp,
+    /// Every call but fresh is turned away.
+    TurnsAllAway,
+    /// Every start that could be accepted is told that the store is full.
+    FullWhileEmpty,
+}

@@ -1,0 +1,42 @@
+//! Messages in flight, of five kinds.
+
+use super::stamp::{Entry, Stamp};
+use super::tables::Version;
+
+/// A message in flight.
+#[derive(Clone, Copy, Debug, PartialEq, Eq)]
+pub enum Message {
+    /// Kind 1: a version to store.
+    Prepare(Version),
+    /// Kind 2: that version is stored.
+    Prepared { item: u64, stamp: Stamp },
+    /// Kind 3: the write of that stamp may become latest at this partition (cabinet).
+    Commit { partition: u64, stamp: Stamp },
+    /// Kind 4: the version of the item with exactly this stamp is wanted.
+    Get {
+        client: u64,
+        item: u64,
+        stamp: Stamp,
+    },
+    /// Kind 5: that version, and the item's latest.
+    Got {
+        client: u64,
+        item: u64,
+        value: u64,
+        stamp: Stamp,
+        latest: Entry,
+    },
+}
+
+impl Message {
+    /// The number of its kind.
+    pub fn kind(&self) -> u8 {
+        match self {
+            Message::Prepare(_) => 1,
+            Message::Prepared { .. } => 2,
+            Message::Commit { .. } => 3,
+            Message::Get { .. } => 4,
+            Message::Got { .. } => 5,
+        }
+    }
+}

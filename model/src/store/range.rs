@@ -1,0 +1,218 @@
+//! What "in range" means of tables, clause by clause.
+
+use super::message::Message;
+use super::set::{has, items, lies_in};
+use super::stamp::{Entry, Stamp};
+use super::tables::{
+    Client, Tables, Version, IDLE, LOAD_CAPACITY, NONE, READ, READING, VERSION_CAPACITY, WRITE,
+    WRITING,
+};
+
+/// The greatest count, stamp number and value.
+pub const GREATEST: u64 = u32::MAX as u64;
+
+/// A clause of "in range".
+#[derive(Clone, Copy, Debug, PartialEq, Eq)]
+pub enum Clause {
+    Sizes,
+    Existence,
+    Modes,
+    CountsAndValues,
+    Sets,
+    Stamps,
+    Versions,
+    PreparedAndCommits,
+    OneStamp,
+    AwaitedInSet,
+    IdleAwaitsNone,
+}
+
+type Holds = fn(&Tables) -> bool;
+
+/// Each clause and what holds of tables that keep it.
+const CLAUSES: [(Clause, Holds); 11] = [
+    (Clause::Sizes, sizes_are_allowed),
+    (Clause::Existence, named_things_exist),
+    (Clause::Modes, modes_and_kinds_are_known),
+    (Clause::CountsAndValues, counts_and_values_fit),
+    (Clause::Sets, sets_hold_existing_items),
+    (Clause::Stamps, stamps_are_initial_or_in_range),
+    (Clause::Versions, versions_are_of_writes_with_their_item),
+    (
+        Clause::PreparedAndCommits,
+        prepared_and_commits_are_of_writes,
+    ),
+    (Clause::OneStamp, writers_have_one_stamp),
+    (Clause::AwaitedInSet, awaited_lie_in_the_set),
+    (Clause::IdleAwaitsNone, idle_exactly_when_none_awaited),
+];
+
+/// Whether every field of the tables is in range.
+pub fn in_range(tables: &Tables) -> bool {
+    CLAUSES.iter().all(|(_, holds)| holds(tables))
+}
+
+/// Whether every field is in range, and the load and the versions are within their capacities.
+pub fn is_usable(tables: &Tables) -> bool {
+    in_range(tables)
+        && tables.load() <= LOAD_CAPACITY
+        && tables.versions_and_prepares() <= VERSION_CAPACITY
+}
+
+/// The clauses that the tables break.
+pub fn broken_clauses(tables: &Tables) -> Vec<Clause> {
+    let broken = CLAUSES.iter().filter(|(_, holds)| !holds(tables));
+    broken.map(|(clause, _)| *clause).collect()
+}
+
+/// The sizes are ones that 2 allows.
+fn sizes_are_allowed(tables: &Tables) -> bool {
+    tables.sizes.are_allowed()
+}
+
+/// Clients, items and partitions exist.
+fn named_things_exist(tables: &Tables) -> bool {
+    let item_exists = |item: u64| item < tables.sizes.items;
+    tables
+        .versions
+        .iter()
+        .all(|version| item_exists(version.item))
+        && tables.messages.iter().all(|message| match *message {
+            Message::Prepare(Version { item, .. }) | Message::Prepared { item, .. } => {
+                item_exists(item)
+            }
+            Message::Commit { partition, .. } => partition < tables.sizes.partitions,
+            Message::Get { client, item, .. } | Message::Got { client, item, .. } => {
+                tables.has_client(client) && item_exists(item)
+            }
+        })
+}
+
+/// A client is idle, reading or writing, and what it ended last is nothing, a read or a write.
+fn modes_and_kinds_are_known(tables: &Tables) -> bool {
+    tables.existing_clients().all(|client| {
+        [IDLE, READING, WRITING].contains(&client.mode)
+            && [NONE, READ, WRITE].contains(&client.last.kind)
+    })
+}
+
+/// Counts are at most 4,294,967,295 and values of 32 bits.
+fn counts_and_values_fit(tables: &Tables) -> bool {
+    let fits = |number: u64| number <= GREATEST;
+    tables.existing_clients().all(|client| {
+        fits(client.count)
+            && items(client.set).all(|item| fits(client.values[item as usize]))
+            && (client.last.kind == NONE
+                || items(client.last.set).all(|item| fits(client.last.values[item as usize])))
+    }) && tables.versions.iter().all(|version| fits(version.value))
+        && tables.messages.iter().all(|message| match *message {
+            Message::Prepare(Version { value, .. }) | Message::Got { value, .. } => fits(value),
+            Message::Prepared { .. } | Message::Commit { .. } | Message::Get { .. } => true,
+        })
+}
+
+/// Sets hold only existing items.
+fn sets_hold_existing_items(tables: &Tables) -> bool {
+    let exist = |set: u64| tables.holds_only_existing(set);
+    entries(tables).all(|entry| exist(entry.set))
+        && tables.existing_clients().all(|client| {
+            exist(client.set)
+                && exist(client.awaited)
+                && (client.last.kind == NONE || exist(client.last.set))
+        })
+        && tables.versions.iter().all(|version| exist(version.set))
+        && tables.messages.iter().all(|message| match *message {
+            Message::Prepare(Version { set, .. }) => exist(set),
+            Message::Got { latest, .. } => exist(latest.set),
+            Message::Prepared { .. } | Message::Commit { .. } | Message::Get { .. } => true,
+        })
+}
+
+/// A stamp is initial or has both parts in range.
+fn stamps_are_initial_or_in_range(tables: &Tables) -> bool {
+    let known = |stamp: Stamp| {
+        stamp == Stamp::INITIAL
+            || (1..=GREATEST).contains(&stamp.number) && tables.has_client(stamp.client)
+    };
+    entries(tables).all(|entry| known(entry.stamp))
+        && tables.existing_clients().all(|client| {
+            running_stamps(client).all(known) && last_stamps(client).into_iter().all(known)
+        })
+        && tables.versions.iter().all(|version| known(version.stamp))
+        && tables.messages.iter().all(|message| match *message {
+            Message::Prepare(Version { stamp, .. })
+            | Message::Prepared { stamp, .. }
+            | Message::Commit { stamp, .. }
+            | Message::Get { stamp, .. } => known(stamp),
+            Message::Got { stamp, latest, .. } => known(stamp) && known(latest.stamp),
+        })
+}
+
+/// Stored versions and prepares have a later stamp than the initial one and a set with their item.
+fn versions_are_of_writes_with_their_item(tables: &Tables) -> bool {
+    let of_a_write_with_its_item = |version: &Version| {
+        version.stamp.is_later_than(Stamp::INITIAL) && has(version.set, version.item)
+    };
+    tables.versions.iter().all(of_a_write_with_its_item)
+        && tables.messages.iter().all(|message| match message {
+            Message::Prepare(version) => of_a_write_with_its_item(version),
+            _ => true,
+        })
+}
+
+/// A prepared reply or commit isn't of the initial stamp.
+fn prepared_and_commits_are_of_writes(tables: &Tables) -> bool {
+    tables.messages.iter().all(|message| match *message {
+        Message::Prepared { stamp, .. } | Message::Commit { stamp, .. } => stamp != Stamp::INITIAL,
+        _ => true,
+    })
+}
+
+/// A writing client has one stamp for all its items.
+fn writers_have_one_stamp(tables: &Tables) -> bool {
+    tables
+        .existing_clients()
+        .filter(|client| client.mode == WRITING)
+        .all(|client| {
+            let first = running_stamps(client).next();
+            running_stamps(client).all(|stamp| Some(stamp) == first)
+        })
+}
+
+/// Awaited items lie in the client's set.
+fn awaited_lie_in_the_set(tables: &Tables) -> bool {
+    tables
+        .existing_clients()
+        .all(|client| lies_in(client.awaited, client.set))
+}
+
+/// A client is idle exactly when it awaits none.
+fn idle_exactly_when_none_awaited(tables: &Tables) -> bool {
+    tables
+        .existing_clients()
+        .all(|client| (client.mode == IDLE) == (client.awaited == 0))
+}
+
+/// Latest and view entries of the items and clients that exist.
+fn entries(tables: &Tables) -> impl Iterator<Item = &Entry> {
+    let existing_items = tables.sizes.items as usize;
+    let views = tables.view.iter().take(tables.sizes.clients as usize);
+    let latest = tables.latest.iter().take(existing_items);
+    latest.chain(views.flat_map(move |view| view.iter().take(existing_items)))
+}
+
+/// The stamps of the items of a client's set.
+fn running_stamps(client: &Client) -> impl Iterator<Item = Stamp> + '_ {
+    items(client.set).map(|item| client.stamps[item as usize])
+}
+
+/// The stamps of a client's last ended transaction.
+fn last_stamps(client: &Client) -> Vec<Stamp> {
+    match client.last.kind {
+        READ => items(client.last.set)
+            .map(|item| client.last.stamps[item as usize])
+            .collect(),
+        WRITE => vec![client.last.stamp],
+        _ => Vec::new(),
+    }
+}

@@ -1,0 +1,97 @@
+//! The refusal table: for each call its tests in order, of which the first that applies is returned.
+
+use super::message::Message;
+use super::range::{is_usable, GREATEST};
+use super::set::{has, size};
+use super::shown::shown_frame;
+use super::stamp::Stamp;
+use super::tables::{Sizes, Tables, IDLE, LOAD_CAPACITY, READING, VERSION_CAPACITY, WRITING};
+
+/// A refusal and whether it applies; later tests may rely on earlier ones not applying.
+type Test<'a> = (u8, &'a dyn Fn() -> bool);
+
+fn first(tests: &[Test]) -> Option<u8> {
+    let (refusal, _) = tests.iter().find(|(_, applies)| applies())?;
+    Some(*refusal)
+}
+
+pub(super) fn fresh(long_enough: bool, sizes: Sizes) -> Option<u8> {
+    first(&[(2, &|| !sizes.are_allowed()), (1, &|| !long_enough)])
+}
+
+pub(super) fn start_read(tables: &Tables, client: u64, set: u64) -> Option<u8> {
+    first(&[
+        (1, &|| !is_usable(tables)),
+        (3, &|| !tables.has_client(client)),
+        (4, &|| tables.client(client).mode != IDLE),
+        (5, &|| set == 0 || !tables.holds_only_existing(set)),
+        (8, &|| tables.load() + size(set) > LOAD_CAPACITY),
+    ])
+}
+
+pub(super) fn start_write(tables: &Tables, client: u64, set: u64, values: &[u8]) -> Option<u8> {
+    first(&[
+        (1, &|| !is_usable(tables)),
+        (3, &|| !tables.has_client(client)),
+        (4, &|| tables.client(client).mode != IDLE),
+        (5, &|| set == 0 || !tables.holds_only_existing(set)),
+        (6, &|| values.len() as u64 != 4 * size(set)),
+        (7, &|| tables.client(client).count == GREATEST),
+        (8, &|| tables.load() + size(set) > LOAD_CAPACITY),
+        (9, &|| {
+            tables.versions_and_prepares() + size(set) > VERSION_CAPACITY
+        }),
+    ])
+}
+
+pub(super) fn deliver(tables: &Tables, place: u64) -> Option<u8> {
+    let message = || &tables.messages[place as usize];
+    first(&[
+        (1, &|| !is_usable(tables)),
+        (10, &|| place >= tables.messages.len() as u64),
+        (11, &|| is_unwanted(tables, message())),
+        (12, &|| asks_for_a_version_not_stored(tables, message())),
+    ])
+}
+
+pub(super) fn show(tables: &Tables, client: u64, room: usize) -> Option<u8> {
+    first(&[
+        (1, &|| !is_usable(tables)),
+        (3, &|| !tables.has_client(client)),
+        (4, &|| tables.client(client).mode != IDLE),
+        (13, &|| shown_frame(tables, client).is_none()),
+        (14, &|| {
+            shown_frame(tables, client).is_some_and(|frame| room < frame.bytes().len())
+        }),
+    ])
+}
+
+/// A prepare of an item and stamp already stored; a prepared whose client isn't writing, a got whose client
+/// isn't reading, or either not awaited with that item and stamp.
+fn is_unwanted(tables: &Tables, message: &Message) -> bool {
+    let awaits = |client: u64, mode: u64, item: u64, stamp: Stamp| {
+        let record = tables.client(client);
+        record.mode == mode && has(record.awaited, item) && record.stamps[item as usize] == stamp
+    };
+    match *message {
+        Message::Prepare(version) => tables.version(version.item, version.stamp).is_some(),
+        Message::Prepared { item, stamp } => !awaits(stamp.client, WRITING, item, stamp),
+        Message::Got {
+            client,
+            item,
+            stamp,
+            ..
+        } => !awaits(client, READING, item, stamp),
+        Message::Commit { .. } | Message::Get { .. } => false,
+    }
+}
+
+/// A get of a version that isn't stored, the initial one excepted.
+fn asks_for_a_version_not_stored(tables: &Tables, message: &Message) -> bool {
+    match *message {
+        Message::Get { item, stamp, .. } => {
+            stamp != Stamp::INITIAL && tables.version(item, stamp).is_none()
+        }
+        _ => false,
+    }
+}

@@ -1,0 +1,36 @@
+//! The log frame of a client's last ended transaction.
+
+use super::set::items;
+use super::tables::{Tables, READ, WRITE};
+use crate::frames::log::{LogFrame, Shown};
+
+/// The frame that a showing gives for a client of tables in range, if a transaction of it has ended.
+pub(super) fn shown_frame(tables: &Tables, client: u64) -> Option<LogFrame> {
+    let last = &tables.client(client).last;
+    let item_values = items(last.set).map(|item| narrow(last.values[item as usize]));
+    match last.kind {
+        READ => Some(LogFrame::Read {
+            client: narrow(client) as u8,
+            set: last.set,
+            shown: items(last.set)
+                .zip(item_values)
+                .map(|(item, value)| Shown {
+                    number: narrow(last.stamps[item as usize].number),
+                    client: narrow(last.stamps[item as usize].client) as u8,
+                    value,
+                })
+                .collect(),
+        }),
+        WRITE => Some(LogFrame::Write {
+            client: narrow(client) as u8,
+            set: last.set,
+            number: narrow(last.stamp.number),
+            values: item_values.collect(),
+        }),
+        _ => None,
+    }
+}
+
+fn narrow(number: u64) -> u32 {
+    u32::try_from(number).expect("a number of tables in range")
+}

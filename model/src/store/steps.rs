@@ -1,0 +1,231 @@
+//! The steps: what an accepted start or delivery does to the tables, which are in range.
+
+use super::answer::Outcome;
+use super::fault::Fault;
+use super::message::Message;
+use super::set::{has, items, without};
+use super::stamp::{Entry, Stamp};
+use super::tables::{Client, Ended, Version, ITEMS, READ, READING, WRITE, WRITING};
+use super::Store;
+
+impl Store {
+    /// One get per item, ascending, for the stamp that the client's view chooses.
+    pub(super) fn step_start_read(&mut self, client: u64, set: u64) {
+        let mut stamps = [Stamp::INITIAL; ITEMS];
+        for item in items(set) {
+            let stamp = self.stamp_to_ask_for(client, item);
+            stamps[item as usize] = stamp;
+            self.tables.messages.push(Message::Get {
+                client,
+                item,
+                stamp,
+            });
+        }
+        let record = self.tables.client_mut(client);
+        *record = Client {
+            mode: READING,
+            set,
+            awaited: set,
+            stamps,
+            values: [0; ITEMS],
+            ..*record
+        };
+    }
+
+    /// The latest stamp among the view's own entry for the item and all view entries whose set contains it.
+    fn stamp_to_ask_for(&self, client: u64, item: u64) -> Stamp {
+        let view = &self.tables.view(client)[..self.tables.sizes.items as usize];
+        let mut chosen = view[item as usize].stamp;
+        for entry in view.iter().filter(|entry| has(entry.set, item)) {
+            if self.is_later(entry.stamp, chosen) {
+                chosen = entry.stamp;
+            }
+        }
+        chosen
+    }
+
+    /// The count rises and with the client makes the stamp; one prepare per item, ascending.
+    pub(super) fn step_start_write(&mut self, client: u64, set: u64, given: &[u8]) {
+        let count = self.tables.client(client).count + 1;
+        let stamp = Stamp::new(count, client);
+        let mut stamps = [Stamp::INITIAL; ITEMS];
+        let mut values = [0; ITEMS];
+        for (item, value) in items(set).zip(given.chunks(4)) {
+            let value = value
+                .iter()
+                .fold(0, |number, byte| number * 256 + u64::from(*byte));
+            stamps[item as usize] = stamp;
+            values[item as usize] = value;
+            self.tables.messages.push(Message::Prepare(Version {
+                item,
+                value,
+                stamp,
+                set,
+            }));
+        }
+        let record = self.tables.client_mut(client);
+        *record = Client {
+            mode: WRITING,
+            count,
+            set,
+            awaited: set,
+            stamps,
+            values,
+            ..*record
+        };
+        if self.has(Fault::ViewAtStart) {
+            self.see_own_write(client, stamp, set);
+        }
+    }
+
+    /// Takes the message out and does what its kind says.
+    pub(super) fn step_deliver(&mut self, place: usize) -> Outcome {
+        let message = self.tables.messages.remove(place);
+        if self.has(Fault::NothingAtDelivery) {
+            return Outcome::NoneEnded;
+        }
+        match message {
+            Message::Prepare(version) => {
+                self.tables.versions.push(version);
+                self.tables.messages.push(Message::Prepared {
+                    item: version.item,
+                    stamp: version.stamp,
+                });
+                Outcome::NoneEnded
+            }
+            Message::Prepared { item, stamp } => self.deliver_prepared(item, stamp),
+            Message::Commit { partition, stamp } => self.deliver_commit(partition, stamp),
+            Message::Get {
+                client,
+                item,
+                stamp,
+            } => self.deliver_get(client, item, stamp),
+            Message::Got {
+                client,
+                item,
+                value,
+                latest,
+                ..
+            } => self.deliver_got(client, item, value, latest),
+        }
+    }
+
+    /// Strikes the item from those awaited; with the last one the write ends.
+    fn deliver_prepared(&mut self, item: u64, stamp: Stamp) -> Outcome {
+        let client = stamp.client;
+        let record = self.tables.client_mut(client);
+        record.awaited = without(record.awaited, item);
+        if record.awaited != 0 {
+            return Outcome::NoneEnded;
+        }
+        let set = record.set;
+        let ended = Ended {
+            kind: WRITE,
+            set,
+            stamp,
+            values: record.values,
+            ..Ended::NONE
+        };
+        *record = Client::resting(record.count, ended);
+        self.see_own_write(client, stamp, set);
+        for partition in 0..self.tables.sizes.partitions {
+            if items(set).any(|item| self.tables.partition_of(item) == partition) {
+                self.tables
+                    .messages
+                    .push(Message::Commit { partition, stamp });
+            }
+        }
+        Outcome::WriteEnded
+    }
+
+    /// Each written item's view entry becomes the later of itself and this write.
+    fn see_own_write(&mut self, client: u64, stamp: Stamp, set: u64) {
+        for item in items(set) {
+            self.see(client, item, Entry::new(stamp, set));
+        }
+    }
+
+    /// The view entry becomes the later of itself and this one; with equal stamps it stays.
+    fn see(&mut self, client: u64, item: u64, entry: Entry) {
+        let present = self.tables.view(client)[item as usize];
+        if self.is_later(entry.stamp, present.stamp) {
+            self.tables.view_mut(client)[item as usize] = entry;
+        }
+    }
+
+    /// Each item of the partition with a stored version of the stamp takes it as latest if it is later.
+    fn deliver_commit(&mut self, partition: u64, stamp: Stamp) -> Outcome {
+        for item in 0..self.tables.sizes.items {
+            if self.tables.partition_of(item) != partition {
+                continue;
+            }
+            let Some(version) = self.tables.version(item, stamp) else {
+                continue;
+            };
+            let entry = Entry::new(stamp, version.set);
+            let present = self.tables.latest[item as usize].stamp;
+            if self.is_later(stamp, present) || self.has(Fault::LateCommit) {
+                self.tables.latest[item as usize] = entry;
+            }
+        }
+        Outcome::NoneEnded
+    }
+
+    /// Appends a got with the version of exactly that stamp, and the item's latest.
+    fn deliver_get(&mut self, client: u64, item: u64, stamp: Stamp) -> Outcome {
+        let mut value = match self.tables.version(item, stamp) {
+            Some(version) => version.value,
+            None => 0,
+        };
+        let mut stamp = stamp;
+        if self.has(Fault::NewestVersion) {
+            for version in self.tables.versions.iter().filter(|v| v.item == item) {
+                if version.stamp.is_later_than(stamp) {
+                    (value, stamp) = (version.value, version.stamp);
+                }
+            }
+            self.tables.client_mut(client).stamps[item as usize] = stamp;
+        }
+        self.tables.messages.push(Message::Got {
+            client,
+            item,
+            value,
+            stamp,
+            latest: self.tables.latest[item as usize],
+        });
+        Outcome::NoneEnded
+    }
+
+    /// Keeps the version as the item's answer and sees the latest; with the last one the read ends.
+    fn deliver_got(&mut self, client: u64, item: u64, value: u64, latest: Entry) -> Outcome {
+        self.see(client, item, latest);
+        let ends_early = self.has(Fault::EndAtFirstReply);
+        let record = self.tables.client_mut(client);
+        record.values[item as usize] = value;
+        record.awaited = without(record.awaited, item);
+        if record.awaited != 0 {
+            return if ends_early {
+                Outcome::ReadEnded
+            } else {
+                Outcome::NoneEnded
+            };
+        }
+        let ended = Ended {
+            kind: READ,
+            set: record.set,
+            stamps: record.stamps,
+            values: record.values,
+            ..Ended::NONE
+        };
+        *record = Client::resting(record.count, ended);
+        Outcome::ReadEnded
+    }
+
+    /// Whether the stamp is later than the one already there.
+    fn is_later(&self, stamp: Stamp, present: Stamp) -> bool {
+        if self.has(Fault::ClientsBeforeNumbers) {
+            return (stamp.client, stamp.number) > (present.client, present.number);
+        }
+        stamp.is_later_than(present)
+    }
+}

@@ -1,0 +1,227 @@
+//! The tables: all state of the store.
+//!
+//! Numbers are wider than their ranges, so that damaged tables can be written down.
+//! What lies outside the sizes, or outside a client's set, is no field and stays initial.
+
+use super::message::Message;
+use super::set::{self, size};
+use super::stamp::{Entry, Stamp};
+
+/// The most clients a store has.
+pub const CLIENTS: usize = 8;
+/// The most partitions a store has.
+pub const PARTITIONS: usize = 8;
+/// The most items a store has.
+pub const ITEMS: usize = 64;
+/// The most stored versions, prepares in flight counted as well.
+pub const VERSION_CAPACITY: u64 = 512;
+/// The greatest load.
+pub const LOAD_CAPACITY: u64 = 128;
+
+/// How many clients (desks, from 1), partitions (cabinets, from 0) and items (lines, from 0) exist.
+#[derive(Clone, Copy, Debug, Default, PartialEq, Eq)]
+pub struct Sizes {
+    pub clients: u64,
+    pub partitions: u64,
+    pub items: u64,
+}
+
+impl Sizes {
+    pub fn new(clients: u64, partitions: u64, items: u64) -> Sizes {
+        Sizes {
+            clients,
+            partitions,
+            items,
+        }
+    }
+
+    /// Whether they are in 1..8, 1..8 and 1..64.
+    pub fn are_allowed(&self) -> bool {
+        (1..=CLIENTS as u64).contains(&self.clients)
+            && (1..=PARTITIONS as u64).contains(&self.partitions)
+            && (1..=ITEMS as u64).contains(&self.items)
+    }
+}
+
+/// What a write put on an item: its value, stamp and write set (the item and its siblings).
+#[derive(Clone, Copy, Debug, PartialEq, Eq)]
+pub struct Version {
+    pub item: u64,
+    pub value: u64,
+    pub stamp: Stamp,
+    pub set: u64,
+}
+
+/// The mode of a client that awaits nothing.
+pub const IDLE: u64 = 0;
+/// The mode of a client with a running read.
+pub const READING: u64 = 1;
+/// The mode of a client with a running write.
+pub const WRITING: u64 = 2;
+
+/// A client (desk): its mode and its running transaction. Steps leave an idle client no set; damage may.
+#[derive(Clone, Copy, Debug, PartialEq, Eq)]
+pub struct Client {
+    pub mode: u64,
+    /// Writes started.
+    pub count: u64,
+    pub set: u64,
+    /// The items of the set whose last message has not come.
+    pub awaited: u64,
+    /// By item of the set: the stamp asked for, or written.
+    pub stamps: [Stamp; ITEMS],
+    /// By item of the set: the value that came, or is written.
+    pub values: [u64; ITEMS],
+    pub last: Ended,
+}
+
+/// The kind of a last ended transaction when none has ended.
+pub const NONE: u64 = 0;
+/// The kind of a last ended read.
+pub const READ: u64 = 1;
+/// The kind of a last ended write.
+pub const WRITE: u64 = 2;
+
+/// A client's last ended transaction.
+#[derive(Clone, Copy, Debug, PartialEq, Eq)]
+pub struct Ended {
+    pub kind: u64,
+    pub set: u64,
+    /// Of a write, its one stamp.
+    pub stamp: Stamp,
+    /// Of a read, by item of the set.
+    pub stamps: [Stamp; ITEMS],
+    /// By item of the set.
+    pub values: [u64; ITEMS],
+}
+
+impl Ended {
+    /// No transaction has ended.
+    pub const NONE: Ended = Ended {
+        kind: NONE,
+        set: 0,
+        stamp: Stamp::INITIAL,
+        stamps: [Stamp::INITIAL; ITEMS],
+        values: [0; ITEMS],
+    };
+}
+
+impl Client {
+    /// Idle, nothing written, nothing ended.
+    pub const INITIAL: Client = Client::resting(0, Ended::NONE);
+
+    /// Idle, with no set, after so many writes started and with this transaction ended last.
+    pub const fn resting(count: u64, last: Ended) -> Client {
+        Client {
+            mode: IDLE,
+            count,
+            set: 0,
+            awaited: 0,
+            stamps: [Stamp::INITIAL; ITEMS],
+            values: [0; ITEMS],
+            last,
+        }
+    }
+}
+
+/// All state of the store.
+#[derive(Clone, Debug, PartialEq, Eq)]
+pub struct Tables {
+    pub sizes: Sizes,
+    /// By item, at its partition: the latest committed write.
+    pub latest: [Entry; ITEMS],
+    /// By client and item: the last-seen write.
+    pub view: [[Entry; ITEMS]; CLIENTS],
+    pub clients: [Client; CLIENTS],
+    /// Stored versions; of those alike in item and stamp the first counts.
+    pub versions: Vec<Version>,
+    /// Messages in flight (the pile).
+    pub messages: Vec<Message>,
+}
+
+impl Default for Tables {
+    fn default() -> Tables {
+        Tables::fresh(Sizes::default())
+    }
+}
+
+impl Tables {
+    /// The tables of an accepted fresh.
+    pub fn fresh(sizes: Sizes) -> Tables {
+        Tables {
+            sizes,
+            latest: [Entry::INITIAL; ITEMS],
+            view: [[Entry::INITIAL; ITEMS]; CLIENTS],
+            clients: [Client::INITIAL; CLIENTS],
+            versions: Vec::new(),
+            messages: Vec::new(),
+        }
+    }
+
+    /// The record of a client that exists.
+    pub fn client(&self, client: u64) -> &Client {
+        &self.clients[client as usize - 1]
+    }
+
+    /// The record of a client that exists, to change.
+    pub fn client_mut(&mut self, client: u64) -> &mut Client {
+        &mut self.clients[client as usize - 1]
+    }
+
+    /// The view of a client that exists.
+    pub fn view(&self, client: u64) -> &[Entry; ITEMS] {
+        &self.view[client as usize - 1]
+    }
+
+    /// The view of a client that exists, to change.
+    pub fn view_mut(&mut self, client: u64) -> &mut [Entry; ITEMS] {
+        &mut self.view[client as usize - 1]
+    }
+
+    /// The first stored version of the item with that stamp.
+    pub fn version(&self, item: u64, stamp: Stamp) -> Option<&Version> {
+        self.versions
+            .iter()
+            .find(|version| version.item == item && version.stamp == stamp)
+    }
+
+    /// The partition that an item lies in.
+    pub fn partition_of(&self, item: u64) -> u64 {
+        item % self.sizes.partitions
+    }
+
+    /// Messages, and for each writing client the prepared replies that have come.
+    pub fn load(&self) -> u64 {
+        let come: u64 = self
+            .existing_clients()
+            .filter(|client| client.mode == WRITING)
+            .map(|client| size(client.set & !client.awaited))
+            .sum();
+        self.messages.len() as u64 + come
+    }
+
+    /// Stored versions, and prepares in flight.
+    pub fn versions_and_prepares(&self) -> u64 {
+        let prepares = self
+            .messages
+            .iter()
+            .filter(|message| matches!(message, Message::Prepare(_)))
+            .count();
+        (self.versions.len() + prepares) as u64
+    }
+
+    /// The records of the clients that exist.
+    pub fn existing_clients(&self) -> impl Iterator<Item = &Client> {
+        self.clients.iter().take(self.sizes.clients as usize)
+    }
+
+    /// Whether there is such a client.
+    pub fn has_client(&self, client: u64) -> bool {
+        (1..=self.sizes.clients).contains(&client)
+    }
+
+    /// Whether the set holds only items that exist.
+    pub fn holds_only_existing(&self, items: u64) -> bool {
+        set::holds_only_below(items, self.sizes.items)
+    }
+}

@@ -1,0 +1,20 @@
+//! Trials of whoever serves the five calls on a block, or tells valid blocks from others: held against the model,
+//! call by call and word by word.
+
+mod agreement;
+mod brimming;
+mod busy;
+pub mod damage;
+pub mod edges;
+mod leftovers;
+mod met;
+pub mod range;
+pub mod runs;
+
+pub use brimming::brimming;
+pub use busy::Busy;
+pub use met::Met;
+
+/// What differed from the model, and on which call.
+#[derive(Clone, Debug, PartialEq, Eq)]
+pub struct Difference(pub String);

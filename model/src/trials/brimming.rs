@@ -1,0 +1,92 @@
+//! Blocks at and just below a capacity.
+
+use super::Busy;
+use crate::store::message::Message;
+use crate::store::stamp::Stamp;
+use crate::store::tables::{Client, Sizes, Tables, Version, WRITING};
+
+const STAMP: Stamp = Stamp {
+    number: 7,
+    client: 2,
+};
+const VERSION: Version = Version {
+    item: 3,
+    value: 9,
+    stamp: STAMP,
+    set: 0b1000,
+};
+const GET: Message = Message::Get {
+    client: 2,
+    item: 3,
+    stamp: Stamp::INITIAL,
+};
+
+/// Blocks full of messages, of messages and replies, of versions, and of versions and prepares, some that the
+/// widest start fills, and some whose count is the greatest; and the same with 1, 2 and 3 less.
+pub fn brimming() -> Vec<Busy> {
+    let sorts: [fn(usize) -> Tables; 6] = [
+        messages,
+        room_for_the_widest_start,
+        replies,
+        versions,
+        prepares,
+        count,
+    ];
+    let mut brimming = Vec::new();
+    for less in 0..4 {
+        for (place, sort) in sorts.iter().enumerate() {
+            brimming.push(Busy::holding(sort(less), (less + place) as u64));
+        }
+    }
+    brimming
+}
+
+fn small() -> Tables {
+    Tables::fresh(Sizes::new(2, 2, 4))
+}
+
+fn messages(less: usize) -> Tables {
+    let mut tables = small();
+    tables.messages = vec![GET; 128 - less];
+    tables
+}
+
+fn room_for_the_widest_start(less: usize) -> Tables {
+    let mut tables = Tables::fresh(Sizes::new(8, 8, 64));
+    tables.messages = vec![GET; 66 - less];
+    tables.versions = vec![VERSION; 450 - less];
+    tables
+}
+
+/// Of client 2's 64 prepared replies 62 have come.
+fn replies(less: usize) -> Tables {
+    let mut tables = Tables::fresh(Sizes::new(2, 1, 64));
+    *tables.client_mut(2) = Client {
+        mode: WRITING,
+        count: STAMP.number,
+        set: u64::MAX,
+        awaited: 0b11,
+        stamps: [STAMP; 64],
+        ..Client::INITIAL
+    };
+    tables.messages = vec![GET; 66 - less];
+    tables
+}
+
+fn versions(less: usize) -> Tables {
+    let mut tables = small();
+    tables.versions = vec![VERSION; 512 - less];
+    tables
+}
+
+fn prepares(less: usize) -> Tables {
+    let mut tables = versions(12);
+    tables.messages = vec![Message::Prepare(VERSION); 12 - less];
+    tables
+}
+
+fn count(less: usize) -> Tables {
+    let mut tables = small();
+    tables.client_mut(1).count = u64::from(u32::MAX) - less as u64;
+    tables
+}

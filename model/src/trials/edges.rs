@@ -1,0 +1,174 @@
+//! Lengths, numbers and rooms at their edges.
+
+use super::agreement::agree;
+use super::{Busy, Difference, Met};
+use crate::block::Calls;
+use crate::layout::NEEDED;
+use crate::promise::Call;
+use crate::store::answer::Answer;
+use crate::store::set::size;
+use crate::store::Store;
+
+/// Numbers that are far out of every range.
+const FAR: [u64; 6] = [
+    1 << 32,
+    (1 << 32) + 1,
+    1 << 61,
+    1 << 63,
+    (1 << 63) + 1,
+    u64::MAX,
+];
+
+/// Each call at every edge, on a copy of the block.
+pub fn edges(served: &dyn Calls, busy: &Busy, met: &mut Met) -> Result<(), Difference> {
+    lengths(served, busy, met)?;
+    let calls = [
+        sizes(),
+        reads(busy),
+        writes(busy),
+        deliveries(busy),
+        showings(busy),
+    ];
+    for call in calls.concat() {
+        met.count(&call, agree(served, &busy.words, &call)?);
+    }
+    Ok(())
+}
+
+/// Blocks of no word, one short, exact and longer.
+fn lengths(served: &dyn Calls, busy: &Busy, met: &mut Met) -> Result<(), Difference> {
+    let calls = [
+        fresh(8, 8, 64),
+        fresh(1, 1, 1),
+        fresh(9, 8, 64),
+        Call::Read { client: 1, set: 1 },
+        Call::Write {
+            client: 1,
+            set: 1,
+            values: vec![1; 4],
+        },
+        Call::Deliver { place: 0 },
+        Call::Show {
+            client: 1,
+            output: vec![1; 600],
+        },
+    ];
+    let mut words = busy.words.clone();
+    words.resize(NEEDED + 70, 5);
+    for length in [0, 1, 5, NEEDED - 1, NEEDED, NEEDED + 1, NEEDED + 70] {
+        for call in &calls {
+            met.count(call, agree(served, &words[..length], call)?);
+        }
+    }
+    Ok(())
+}
+
+fn fresh(clients: u64, partitions: u64, items: u64) -> Call {
+    Call::Fresh {
+        long_enough: true,
+        clients,
+        partitions,
+        items,
+    }
+}
+
+fn sizes() -> Vec<Call> {
+    let edges = [&[0, 1, 2, 7, 8, 9, 63, 64, 65][..], &FAR].concat();
+    let mut calls = Vec::new();
+    for clients in &edges {
+        for partitions in &edges {
+            for items in &edges {
+                calls.push(fresh(*clients, *partitions, *items));
+            }
+        }
+    }
+    calls
+}
+
+fn clients(busy: &Busy) -> Vec<u64> {
+    let existing = busy.tables.sizes.clients;
+    [
+        &(0..=existing + 1).collect::<Vec<u64>>()[..],
+        &[9, 15, 16, 17, 255, 256],
+        &FAR,
+    ]
+    .concat()
+}
+
+fn sets(busy: &Busy) -> Vec<u64> {
+    let items = busy.tables.sizes.items;
+    let all = u64::MAX >> (64 - items);
+    let past = (1 << (items - 1)) << 1;
+    vec![
+        0,
+        1,
+        0b11 & all,
+        0b111 & all,
+        1 << (items - 1),
+        all,
+        past,
+        all | past,
+        1 << 63,
+        u64::MAX,
+    ]
+}
+
+fn reads(busy: &Busy) -> Vec<Call> {
+    let mut calls = Vec::new();
+    for client in clients(busy) {
+        for set in sets(busy) {
+            calls.push(Call::Read { client, set });
+        }
+    }
+    calls
+}
+
+fn writes(busy: &Busy) -> Vec<Call> {
+    let mut calls = Vec::new();
+    for client in clients(busy) {
+        for set in sets(busy) {
+            let right = 4 * size(set) as usize;
+            for length in [
+                0,
+                right.saturating_sub(4),
+                right.saturating_sub(1),
+                right,
+                right + 1,
+            ] {
+                calls.push(Call::Write {
+                    client,
+                    set,
+                    values: (0..length).map(|place| place as u8).collect(),
+                });
+            }
+        }
+    }
+    calls
+}
+
+fn deliveries(busy: &Busy) -> Vec<Call> {
+    let messages = busy.tables.messages.len() as u64;
+    let places = (0..messages + 2)
+        .chain([127, 128, 129, 256, 65_536])
+        .chain(FAR);
+    places.map(|place| Call::Deliver { place }).collect()
+}
+
+/// Rooms of no byte, one short, exact and longer.
+fn showings(busy: &Busy) -> Vec<Call> {
+    let store = Store::with_tables(busy.tables.clone());
+    let mut calls = Vec::new();
+    for client in clients(busy) {
+        let frame = match store.show(client, &mut [0; 600]) {
+            Answer::Shown(frame) => frame.len(),
+            _ => 10,
+        };
+        for room in [0, 1, frame - 1, frame, frame + 1, frame + 300] {
+            calls.push(Call::Show {
+                client,
+                output: vec![0xee; room],
+            });
+        }
+    }
+    calls
+}

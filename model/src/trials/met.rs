@@ -1,0 +1,59 @@
+//! What a trial met, so that none passes on nothing.
+
+use crate::promise::Call;
+
+/// How often each answer was given.
+#[derive(Clone, Debug, Default, PartialEq, Eq)]
+pub struct Met {
+    pub calls: usize,
+    /// By refusal.
+    pub refused: [usize; 17],
+    pub fresh: usize,
+    pub reads: usize,
+    pub writes: usize,
+    /// By kind of message.
+    pub delivered: [usize; 6],
+    pub reads_ended: usize,
+    pub writes_ended: usize,
+    pub shown: usize,
+}
+
+impl Met {
+    /// Counts an answer that is the model's.
+    pub(super) fn count(&mut self, call: &Call, answer: u64) {
+        self.calls += 1;
+        if answer & 0xff != 0 {
+            self.refused[answer as usize] += 1;
+            return;
+        }
+        match call {
+            Call::Fresh { .. } => self.fresh += 1,
+            Call::Read { .. } => self.reads += 1,
+            Call::Write { .. } => self.writes += 1,
+            Call::Deliver { .. } => {
+                self.delivered[(answer >> 8 & 0xff) as usize] += 1;
+                match answer >> 32 {
+                    1 => self.reads_ended += 1,
+                    2 => self.writes_ended += 1,
+                    _ => (),
+                }
+            }
+            Call::Show { .. } => self.shown += 1,
+        }
+    }
+
+    /// The refusals that were answered at least so often.
+    pub fn refusals(&self, times: usize) -> Vec<usize> {
+        (1..self.refused.len())
+            .filter(|refusal| self.refused[*refusal] >= times)
+            .collect()
+    }
+
+    /// The least of the counts of accepted calls, by call, kind of message and end.
+    pub fn rarest_accepted(&self) -> usize {
+        let calls = [self.fresh, self.reads, self.writes, self.shown];
+        let ends = [self.reads_ended, self.writes_ended];
+        let all = calls.iter().chain(&ends).chain(&self.delivered[1..]);
+        *all.min().expect("there are some")
+    }
+}

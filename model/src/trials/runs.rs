@@ -1,0 +1,112 @@
+//! Random runs on a block, call by call beside the model's store on tables.
+
+use super::{Difference, Met};
+use crate::block::{make, Calls};
+use crate::layout::{decode, NEEDED};
+use crate::promise::{check, Event, Summary};
+use crate::random::Random;
+use crate::runs::{run_watched, Sort};
+use crate::store::tables::Tables;
+
+/// What the runs met.
+#[derive(Clone, Debug, Default, PartialEq, Eq)]
+pub struct Runs {
+    pub runs: usize,
+    pub met: Met,
+    pub longest: usize,
+    pub reads_shown: usize,
+    pub written_entries_shown: usize,
+    pub greatest_load: u64,
+    pub most_versions: usize,
+}
+
+/// The run of each seed: answers, outputs and tables are the model's, and condition 3 holds of the list of calls.
+pub fn random_runs(
+    served: &dyn Calls,
+    sort: Sort,
+    seeds: std::ops::Range<u64>,
+    runs: &mut Runs,
+) -> Result<(), Difference> {
+    for seed in seeds {
+        random_run(served, sort, seed, runs)
+            .map_err(|found| Difference(format!("{sort:?} run {seed}: {}", found.0)))?;
+    }
+    Ok(())
+}
+
+fn random_run(
+    served: &dyn Calls,
+    sort: Sort,
+    seed: u64,
+    runs: &mut Runs,
+) -> Result<(), Difference> {
+    let mut beside = Beside::new(served, seed);
+    let run = run_watched(sort, seed, &mut |event, tables| beside.watch(event, tables));
+    beside.held?;
+    for event in &run.events {
+        runs.met.count(&event.call, event.answer);
+    }
+    let summary: Summary =
+        check(&run.events).map_err(|violation| Difference(format!("{violation:?}")))?;
+    runs.runs += 1;
+    runs.longest = runs.longest.max(run.events.len());
+    runs.reads_shown += summary.reads_shown;
+    runs.written_entries_shown += summary.written_entries_shown;
+    runs.greatest_load = runs.greatest_load.max(summary.greatest_load);
+    runs.most_versions = runs.most_versions.max(run.most_versions);
+    Ok(())
+}
+
+/// A block on which each call of a run is made as well.
+struct Beside<'a> {
+    served: &'a dyn Calls,
+    words: Vec<u64>,
+    /// The words past the needed length, which no call touches.
+    past: Vec<u64>,
+    calls: usize,
+    held: Result<(), Difference>,
+}
+
+impl Beside<'_> {
+    /// Before the fresh the block holds anything, with sizes of 0.
+    fn new(served: &dyn Calls, seed: u64) -> Beside<'_> {
+        let mut random = Random::new(seed);
+        let length = NEEDED + random.below(4) as usize;
+        let mut words: Vec<u64> = (0..length).map(|_| random.number()).collect();
+        words[..3].fill(0);
+        Beside {
+            served,
+            past: words[NEEDED..].to_vec(),
+            words,
+            calls: 0,
+            held: Ok(()),
+        }
+    }
+
+    fn watch(&mut self, event: &Event, tables: &Tables) {
+        if self.held.is_ok() {
+            self.held = self.hold(event, tables);
+        }
+    }
+
+    fn hold(&mut self, event: &Event, tables: &Tables) -> Result<(), Difference> {
+        self.calls += 1;
+        let number = self.calls;
+        let found = |what: String| Difference(format!("call {number}, {:?}: {what}", event.call));
+        let given = make(self.served, &mut self.words, &event.call);
+        if given != *event {
+            let (given, model) = (given.answer, event.answer);
+            return Err(found(format!("answers {given:#x}, the model {model:#x}")));
+        }
+        if self.words[NEEDED..] != self.past {
+            return Err(found(
+                "words past the needed length have changed".to_owned(),
+            ));
+        }
+        let decoded = decode(&self.words);
+        if tables.sizes.are_allowed() && decoded.as_ref() != Some(tables) {
+            return Err(found("leaves other tables than the model".to_owned()));
+        }
+        Ok(())
+    }
+}

@@ -1,0 +1,4 @@
+//! The tables as words of a block.
+
+mod laws;
+mod session;

@@ -1,0 +1,51 @@
+//! Lengths, clients, places, sizes, sets, value bytes and rooms at and past their edges.
+
+use koolvent_model::proved::store::Proved;
+use koolvent_model::runs::Sort;
+use koolvent_model::store::tables::{Sizes, Tables};
+use koolvent_model::trials::edges::edges;
+use koolvent_model::trials::{brimming, Busy, Met};
+
+fn met(blocks: Vec<Busy>) -> Met {
+    let mut met = Met::default();
+    for busy in blocks {
+        let held = edges(&Proved, &busy, &mut met);
+        assert_eq!(held, Ok(()), "{:?}", busy.tables.sizes);
+    }
+    met
+}
+
+#[test]
+fn busy_blocks() {
+    let small = (0..20).map(|seed| Busy::new(Sort::Small, seed));
+    let any_size = (20..40).map(|seed| Busy::new(Sort::AnySize, seed));
+    let crowded = (40..44).map(|seed| Busy::new(Sort::Crowded, seed));
+    let met = met(small.chain(any_size).chain(crowded).collect());
+    assert!(met.rarest_accepted() >= 10, "{met:?}");
+    assert_eq!(
+        met.refusals(10),
+        [1, 2, 3, 4, 5, 6, 8, 9, 10, 13, 14],
+        "{met:?}"
+    );
+}
+
+#[test]
+fn fresh_blocks() {
+    let sizes = [(1, 1, 1), (8, 8, 64), (8, 1, 63), (1, 8, 2)];
+    let fresh = |(clients, partitions, items)| {
+        Busy::holding(Tables::fresh(Sizes::new(clients, partitions, items)), items)
+    };
+    let met = met(sizes.map(fresh).into());
+    assert!(met.reads.min(met.writes) >= 50, "{met:?}");
+    assert_eq!(met.refusals(10), [1, 2, 3, 5, 6, 10, 13], "{met:?}");
+}
+
+#[test]
+fn blocks_at_the_brim_of_a_capacity() {
+    let met = met(brimming());
+    assert!(met.reads.min(met.writes) >= 50, "{met:?}");
+    let refused = met.refusals(8);
+    for refusal in [7, 8, 9, 10, 11] {
+        assert!(refused.contains(&refusal), "{met:?}");
+    }
+}

@@ -1,0 +1,50 @@
+//! 5,030 random runs: answers, outputs and tables are the model's, and condition 3 holds of each.
+
+use koolvent_model::proved::store::Proved;
+use koolvent_model::runs::Sort;
+use koolvent_model::trials::runs::{random_runs, Runs};
+
+fn runs(sort: Sort, seeds: std::ops::Range<u64>) -> Runs {
+    let mut runs = Runs::default();
+    let held = random_runs(&Proved, sort, seeds, &mut runs);
+    assert_eq!(held, Ok(()));
+    runs
+}
+
+#[test]
+fn small_stores() {
+    let runs = runs(Sort::Small, 100_000..104_600);
+    assert!(runs.met.rarest_accepted() >= 4_600, "{runs:?}");
+    assert_eq!(
+        runs.met.refusals(500),
+        [1, 2, 3, 4, 5, 6, 10, 13, 14],
+        "{runs:?}"
+    );
+    assert!(runs.written_entries_shown >= 40_000, "{runs:?}");
+}
+
+#[test]
+fn stores_of_any_size() {
+    let runs = runs(Sort::AnySize, 110_000..110_400);
+    assert!(runs.met.rarest_accepted() >= 400, "{runs:?}");
+    assert_eq!(
+        runs.met.refusals(20),
+        [1, 2, 3, 4, 5, 6, 8, 10, 13, 14],
+        "{runs:?}"
+    );
+    assert!(runs.written_entries_shown >= 2_000, "{runs:?}");
+}
+
+#[test]
+fn crowded_stores_of_some_thousand_calls() {
+    let runs = runs(Sort::Crowded, 120_000..120_030);
+    assert!(runs.longest >= 3_000, "{runs:?}");
+    assert!(runs.met.rarest_accepted() >= 30, "{runs:?}");
+    assert_eq!(
+        runs.met.refusals(20),
+        [1, 2, 3, 4, 5, 6, 8, 9, 10, 13, 14],
+        "{runs:?}"
+    );
+    assert_eq!((runs.greatest_load, runs.most_versions), (128, 512));
+    assert!(runs.written_entries_shown >= 2_000, "{runs:?}");
+}

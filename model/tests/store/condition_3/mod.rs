@@ -1,0 +1,119 @@
+//! The checker of condition 3 finds each clause broken when it is, and only then.
+
+mod answers;
+mod showings;
+
+use crate::session::SESSION;
+use crate::support::{deliver, fresh, make_all, read, show, write};
+use koolvent_model::frames::hex::from_hex;
+use koolvent_model::frames::store::StoreFrame;
+use koolvent_model::promise::{check, Call, Clause, Event, Summary, Violation};
+use koolvent_model::store::Store;
+
+/// Client 1 writes 7 and 8 to items 0 and 1 and reads them back.
+fn own_read() -> Vec<Event> {
+    let mut calls = vec![fresh(2, 2, 2), write(1, &[(0, 7), (1, 8)])];
+    calls.extend(vec![deliver(0); 4]);
+    calls.push(show(1));
+    calls.extend(vec![deliver(0); 2]);
+    calls.push(read(1, &[0, 1]));
+    calls.extend(vec![deliver(0); 4]);
+    calls.push(show(1));
+    make_all(&mut Store::new(), &calls)
+}
+
+/// Places of events in that list.
+const WRITE: usize = 1;
+const FIRST_PREPARE: usize = 2;
+const FIRST_PREPARED: usize = 4;
+const LAST_PREPARED: usize = 5;
+const SHOW_WRITE: usize = 6;
+const COMMIT: usize = 7;
+const READ: usize = 9;
+const FIRST_GOT: usize = 12;
+const LAST_GOT: usize = 13;
+const SHOW_READ: usize = 14;
+
+/// The change of the list breaks this clause at this event.
+fn breaks(clause: Clause, event: usize, change: impl FnOnce(&mut Vec<Event>)) {
+    let mut events = own_read();
+    change(&mut events);
+    assert_eq!(check(&events), Err(Violation { event, clause }));
+}
+
+fn event(call: Call, answer: u64) -> Event {
+    let output = match &call {
+        Call::Show { output, .. } => output.clone(),
+        _ => Vec::new(),
+    };
+    Event {
+        call,
+        answer,
+        output,
+    }
+}
+
+#[test]
+fn a_write_and_its_read_keep_every_clause() {
+    let expected = Summary {
+        reads_ended: 1,
+        writes_ended: 1,
+        reads_shown: 1,
+        written_entries_shown: 2,
+        greatest_load: 2,
+        items_written: 2,
+        refused: [0; 17],
+    };
+    assert_eq!(check(&own_read()), Ok(expected));
+}
+
+#[test]
+fn the_session_keeps_every_clause() {
+    let mut events = Vec::new();
+    for (line, answer) in SESSION {
+        let answer = from_hex(answer.as_bytes()).unwrap();
+        events.push(match StoreFrame::parse(line.as_bytes()).unwrap() {
+            StoreFrame::Fresh { .. } => event(fresh(2, 2, 2), 0),
+            StoreFrame::Read { .. } => event(read(2, &[0, 1]), u64::from(answer[2]) << 8),
+            StoreFrame::Write { .. } => {
+                event(write(1, &[(0, 7), (1, 8)]), u64::from(answer[2]) << 8)
+            }
+            StoreFrame::Deliver { place } => event(
+                deliver(u64::from(place)),
+                u64::from(answer[1]) << 8 | u64::from(answer[3]) << 16 | u64::from(answer[4]) << 32,
+            ),
+            StoreFrame::Show { .. } => {
+                let frame = &answer[1..];
+                let mut shown = event(show(2), (frame.len() as u64) << 8);
+                shown.output[..frame.len()].copy_from_slice(frame);
+                shown
+            }
+        });
+    }
+    let summary = check(&events).unwrap();
+    assert_eq!((summary.reads_ended, summary.writes_ended), (2, 1));
+    assert_eq!(summary.written_entries_shown, 2);
+}
+
+#[test]
+fn a_list_that_does_not_start_with_an_accepted_fresh_is_found() {
+    breaks(Clause::Fresh, 0, |events| {
+        events.remove(0);
+    });
+    breaks(Clause::Fresh, 0, |events| events[0].answer = 1);
+}
+
+#[test]
+fn another_accepted_fresh_begins_a_new_list() {
+    let mut events = own_read();
+    events.extend(own_read());
+    assert_eq!(check(&events).unwrap().reads_shown, 2);
+    events.insert(SHOW_READ, event(fresh(2, 2, 2), 0));
+    let answered = 0;
+    let clause = Clause::Refusal {
+        stated: 13,
+        answered,
+    };
+    let event = SHOW_READ + 1;
+    assert_eq!(check(&events), Err(Violation { event, clause }));
+}

@@ -1,0 +1,95 @@
+//! The store driver's treatment of its input.
+
+use koolvent_model::frames::store::run;
+
+#[test]
+fn no_bytes_no_answer() {
+    assert_eq!(run(b""), "");
+}
+
+#[test]
+fn a_last_line_without_its_end_is_15() {
+    assert_eq!(run(b"01020202"), "0f\n");
+    assert_eq!(run(b"01020202\n0502"), "00\n0f\n");
+    assert_eq!(run(b"01020202\n\n "), "00\n0f\n0f\n");
+}
+
+#[test]
+fn other_lines_are_15_and_the_next_line_goes_on() {
+    let others: [&[u8]; 16] = [
+        b"",
+        b"\r",
+        b"01020202\r",
+        b" 01020202",
+        b"0102020",
+        b"010202",
+        b"0102020202",
+        b"0102020G",
+        b"0A",
+        b"00",
+        b"06",
+        b"20",
+        b"01\x00\x00\x00\x00\x00\x00",
+        b"0x020202",
+        b"05",
+        b"0400",
+    ];
+    for line in others {
+        let input = [b"01020202\n", line, b"\n0501\n"].concat();
+        assert_eq!(run(&input), "00\n0f\n0d\n", "{line:?}");
+    }
+}
+
+#[test]
+fn malformed_is_15_even_before_a_fresh() {
+    assert_eq!(run(b"\n06\n05\n"), "0f\n0f\n0f\n");
+}
+
+#[test]
+fn well_formed_frames_before_an_accepted_fresh_are_1() {
+    let frames = [
+        "02010000000000000001",
+        "0301000000000000000100000001",
+        "03010000000000000001",
+        "040000",
+        "0501",
+        "0500",
+    ];
+    for frame in frames {
+        let input = format!("{frame}\n01090101\n{frame}\n01010101\n");
+        assert_eq!(run(input.as_bytes()), "01\n02\n01\n00\n", "{frame}");
+    }
+}
+
+#[test]
+fn a_refused_fresh_leaves_the_store_usable() {
+    let input = b"01020202\n02010000000000000001\n01000202\n040000\n01020202\n040000\n";
+    assert_eq!(run(input), "00\n000001\n02\n0004000100\n00\n0a\n");
+}
+
+#[test]
+fn a_write_frame_takes_0_to_64_values_whatever_its_set() {
+    let frame = |values: usize| format!("03010000000000000001{}", "00000009".repeat(values));
+    let answer = |values: usize| run(format!("01020202\n{}\n", frame(values)).as_bytes());
+    assert_eq!(answer(0), "00\n06\n");
+    assert_eq!(answer(1), "00\n000001\n");
+    assert_eq!(answer(2), "00\n06\n");
+    assert_eq!(answer(64), "00\n06\n");
+    assert_eq!(answer(65), "00\n0f\n");
+    let odd = format!("01020202\n{}00\n", frame(1));
+    assert_eq!(run(odd.as_bytes()), "00\n0f\n");
+}
+
+#[test]
+fn refusals_are_one_byte_of_hexadecimal() {
+    let input = b"01010101\n0509\n02010000000000000000\n04ffff\n0501\n";
+    assert_eq!(run(input), "00\n03\n05\n0a\n0d\n");
+}
+
+#[test]
+fn a_write_is_shown_with_the_values_of_its_start() {
+    let input = b"01010101\n03010000000000000001deadbeef\n040000\n040000\n0501\n";
+    let shown = "00\n000001\n0001000100\n0002000102\n0020010000000000000001\
+                 00000001deadbeef\n";
+    assert_eq!(run(input), shown);
+}

@@ -1,0 +1,117 @@
+//! Parsers answer for any bytes.
+
+use koolvent_model::frames::store::{run, StoreFrame};
+use koolvent_model::random::Random;
+
+const GOOD: [&str; 7] = [
+    "01020202",
+    "02020000000000000003",
+    "030100000000000000030000000700000008",
+    "03010000000000000000",
+    "040001",
+    "0502",
+    "02ffffffffffffffffff",
+];
+
+/// The lengths in bytes that a frame of this first byte may have.
+fn has_a_length_of_its_kind(bytes: &[u8]) -> bool {
+    let length = bytes.len();
+    match bytes.first() {
+        Some(1) => length == 4,
+        Some(2) => length == 10,
+        Some(3) => (10..=266).contains(&length) && length % 4 == 2,
+        Some(4) => length == 3,
+        Some(5) => length == 2,
+        _ => false,
+    }
+}
+
+#[test]
+fn every_good_frame_is_parsed() {
+    for frame in GOOD {
+        assert!(StoreFrame::parse(frame.as_bytes()).is_some(), "{frame}");
+    }
+    let set = 3;
+    let values = vec![0, 0, 0, 7, 0, 0, 0, 8];
+    assert_eq!(
+        StoreFrame::parse(GOOD[2].as_bytes()),
+        Some(StoreFrame::Write {
+            client: 1,
+            set,
+            values
+        })
+    );
+}
+
+#[test]
+fn every_truncation_of_a_good_frame_is_malformed_unless_shorter_by_whole_values() {
+    for frame in GOOD {
+        for length in 0..frame.len() {
+            let shorter = &frame.as_bytes()[..length];
+            let whole_values = frame.starts_with("03") && length >= 20 && length % 8 == 4;
+            let parsed = StoreFrame::parse(shorter);
+            assert_eq!(parsed.is_some(), whole_values, "{length} of {frame}");
+        }
+    }
+}
+
+#[test]
+fn every_frame_with_a_digit_more_is_malformed() {
+    for frame in GOOD {
+        for digit in ["0", "00", "000000", "g", "\r"] {
+            let longer = format!("{frame}{digit}");
+            assert_eq!(StoreFrame::parse(longer.as_bytes()), None, "{longer}");
+        }
+    }
+}
+
+#[test]
+fn random_bytes_are_parsed_exactly_when_they_have_a_length_of_their_kind() {
+    let mut random = Random::new(15);
+    let mut parsed = 0;
+    for _ in 0..200_000 {
+        let length = random.below(24) as usize;
+        let mut bytes = random.bytes(length);
+        if let Some(first) = bytes.first_mut() {
+            *first %= 8;
+        }
+        let line: String = bytes.iter().map(|byte| format!("{byte:02x}")).collect();
+        let frame = StoreFrame::parse(line.as_bytes());
+        assert_eq!(frame.is_some(), has_a_length_of_its_kind(&bytes), "{line}");
+        parsed += usize::from(frame.is_some());
+    }
+    assert!(parsed > 1_000, "only {parsed} frames were well formed");
+}
+
+#[test]
+fn a_byte_that_is_no_lowercase_digit_makes_a_frame_malformed() {
+    for frame in GOOD {
+        for place in 0..frame.len() {
+            for byte in (0..=255).filter(|byte| !b"0123456789abcdef".contains(byte)) {
+                let mut line = frame.as_bytes().to_vec();
+                line[place] = byte;
+                assert_eq!(
+                    StoreFrame::parse(&line),
+                    None,
+                    "{byte} at {place} of {frame}"
+                );
+            }
+        }
+    }
+}
+
+#[test]
+fn random_text_never_stops_the_driver_and_has_an_answer_a_line() {
+    let mut random = Random::new(16);
+    for _ in 0..20_000 {
+        let length = random.below(60) as usize;
+        let alphabet = b"0123456789abcdef\n\n\r\0Ag";
+        let mut text = random.bytes(length);
+        if random.percent(70) {
+            text.fill_with(|| random.pick(alphabet));
+        }
+        let ends = text.iter().filter(|byte| **byte == b'\n').count();
+        let tail = usize::from(text.last().is_some_and(|last| *last != b'\n'));
+        assert_eq!(run(&text).lines().count(), ends + tail, "{text:?}");
+    }
+}

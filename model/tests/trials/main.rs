@@ -1,0 +1,68 @@
+//! The trials of blocks are tried themselves: the model passes them, and whoever is wrong in one way is caught.
+
+mod model;
+mod wrong_calls;
+mod wrong_range;
+mod wrong_store;
+
+use koolvent_model::block::Calls;
+use koolvent_model::random::Random;
+use koolvent_model::runs::Sort;
+use koolvent_model::trials::damage::{damaged_blocks, Damaged};
+use koolvent_model::trials::edges::edges;
+use koolvent_model::trials::range::{every_field, random_words, Judged, Valid};
+use koolvent_model::trials::runs::{random_runs, Runs};
+use koolvent_model::trials::{brimming, Busy, Difference, Met};
+
+/// Runs of every sort.
+fn runs(served: &dyn Calls) -> Result<Runs, Difference> {
+    let mut runs = Runs::default();
+    random_runs(served, Sort::Small, 0..150, &mut runs)?;
+    random_runs(served, Sort::AnySize, 0..20, &mut runs)?;
+    random_runs(served, Sort::Crowded, 0..2, &mut runs)?;
+    Ok(runs)
+}
+
+/// Damages of blocks of every sort.
+fn damages(served: &dyn Calls) -> Result<Damaged, Difference> {
+    let mut random = Random::new(1);
+    let mut damaged = Damaged::default();
+    for (sort, seeds) in [
+        (Sort::Small, 0..60),
+        (Sort::AnySize, 60..90),
+        (Sort::Crowded, 90..95),
+    ] {
+        for seed in seeds {
+            let busy = Busy::new(sort, seed);
+            damaged_blocks(served, &busy, 60, &mut random, &mut damaged)?;
+        }
+    }
+    Ok(damaged)
+}
+
+/// Edges of small blocks and of some at the brim of a capacity.
+fn edge_calls(served: &dyn Calls) -> Result<Met, Difference> {
+    let mut met = Met::default();
+    for seed in 0..4 {
+        edges(served, &Busy::new(Sort::Small, seed), &mut met)?;
+    }
+    for busy in brimming().iter().take(6) {
+        edges(served, busy, &mut met)?;
+    }
+    Ok(met)
+}
+
+/// Damaged blocks of every sort, valid or not.
+fn range(valid: &Valid) -> Result<Judged, Difference> {
+    let mut random = Random::new(1);
+    let mut judged = Judged::default();
+    for seed in 0..10 {
+        let small = Busy::new(Sort::Small, seed);
+        every_field(valid, &small, &mut random, &mut judged)?;
+    }
+    for busy in brimming().iter().take(6) {
+        every_field(valid, busy, &mut random, &mut judged)?;
+        random_words(valid, busy, 500, &mut random, &mut judged)?;
+    }
+    Ok(judged)
+}

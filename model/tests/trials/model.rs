@@ -1,0 +1,46 @@
+//! The model on blocks passes the trials, which meet every answer.
+
+use koolvent_model::block::Modelled;
+use koolvent_model::layout::is_valid;
+
+#[test]
+fn runs_meet_every_call_and_most_refusals() {
+    let runs = crate::runs(&Modelled::default()).expect("the model's own answers");
+    assert!(runs.met.rarest_accepted() >= 100, "{runs:?}");
+    assert_eq!(
+        runs.met.refusals(1),
+        [1, 2, 3, 4, 5, 6, 8, 9, 10, 13, 14],
+        "{runs:?}"
+    );
+    assert!(runs.longest >= 3_000, "{runs:?}");
+}
+
+#[test]
+fn damages_meet_every_call_and_refusal() {
+    let damaged = crate::damages(&Modelled::default()).expect("the model's own answers");
+    assert!(damaged.met.rarest_accepted() >= 30, "{damaged:?}");
+    assert_eq!(
+        damaged.met.refusals(1),
+        [1, 2, 3, 4, 5, 6, 8, 10, 11, 12, 13, 14],
+        "{damaged:?}"
+    );
+    assert!(damaged.valid >= 1_000, "{damaged:?}");
+}
+
+#[test]
+fn edges_meet_starts_deliveries_and_their_refusals() {
+    let met = crate::edge_calls(&Modelled::default()).expect("the model's own answers");
+    assert!(met.reads.min(met.writes).min(met.shown) >= 10, "{met:?}");
+    let refused = met.refusals(1);
+    for refusal in [1, 2, 3, 4, 5, 6, 7, 8, 9, 10, 13, 14] {
+        assert!(refused.contains(&refusal), "{met:?}");
+    }
+}
+
+#[test]
+fn damages_leave_blocks_valid_and_not() {
+    let judged = crate::range(&is_valid).expect("the model's own answers");
+    let valid: usize = judged.valid.values().sum();
+    let invalid: usize = judged.invalid.values().sum();
+    assert!(valid.min(invalid) >= 5_000, "{judged:?}");
+}

@@ -1,0 +1,82 @@
+//! Wrong stores on blocks, each caught by a trial.
+
+use crate::wrong_store::Wrong;
+use crate::{damages, edge_calls, runs};
+use koolvent_model::block::Modelled;
+use koolvent_model::store::fault::Fault;
+
+/// What the runs see: answers, outputs and tables.
+#[test]
+fn runs_catch_wrong_answers_outputs_and_tables() {
+    for wrong in [
+        Wrong::FreshPastTheEnd,
+        Wrong::KeepsTheSetAtAnEnd,
+        Wrong::NarrowClients,
+        Wrong::NarrowSizes,
+        Wrong::TooManyValues,
+        Wrong::OneWordShort,
+        Wrong::ShowsPastTheFrame,
+        Wrong::ShowsWhatFits,
+    ] {
+        assert!(runs(&wrong).is_err(), "{wrong:?}");
+    }
+}
+
+/// What damages see besides: every word.
+#[test]
+fn damages_catch_wrong_words() {
+    for wrong in [
+        Wrong::MarksARefusal,
+        Wrong::FreshLeavesAWord,
+        Wrong::FreshPastTheEnd,
+        Wrong::MovesFieldsAlone,
+        Wrong::JoinsFieldsAlone,
+        Wrong::ClearsThePlaceLeft,
+        Wrong::ClearsAskedAtAnEnd,
+        Wrong::KeepsTheSetAtAnEnd,
+        Wrong::TooManyValues,
+        Wrong::ShowsPastTheFrame,
+        Wrong::ShowsWhatFits,
+    ] {
+        assert!(damages(&wrong).is_err(), "{wrong:?}");
+    }
+}
+
+#[test]
+fn edges_catch_narrow_numbers_and_short_blocks() {
+    for wrong in [
+        Wrong::MarksARefusal,
+        Wrong::FreshLeavesAWord,
+        Wrong::FreshPastTheEnd,
+        Wrong::NarrowClients,
+        Wrong::NarrowPlaces,
+        Wrong::NarrowSizes,
+        Wrong::TooManyValues,
+        Wrong::OneWordShort,
+        Wrong::ShowsPastTheFrame,
+        Wrong::ShowsWhatFits,
+    ] {
+        assert!(edge_calls(&wrong).is_err(), "{wrong:?}");
+    }
+}
+
+/// The shortcuts that document 01 forbids and the stores of the buyer's note.
+#[test]
+fn runs_and_damages_catch_every_wrong_store() {
+    for fault in [
+        Fault::NewestVersion,
+        Fault::ViewAtStart,
+        Fault::LateCommit,
+        Fault::ClientsBeforeNumbers,
+        Fault::InitialReads,
+        Fault::NothingAtDelivery,
+        Fault::EndAtFirstReply,
+        Fault::LengthMadeUp,
+        Fault::TurnsAllAway,
+        Fault::FullWhileEmpty,
+    ] {
+        let wrong = Modelled { fault: Some(fault) };
+        assert!(runs(&wrong).is_err(), "{fault:?}");
+        assert!(damages(&wrong).is_err(), "{fault:?}");
+    }
+}

@@ -1,0 +1,178 @@
+//! Stores on blocks that are wrong in one way.
+
+use koolvent_model::block::{Calls, Modelled};
+use koolvent_model::layout::places::{self, Scalar, NEEDED};
+use koolvent_model::layout::{decode, fields};
+use koolvent_model::store::tables::IDLE;
+use std::ops::Range;
+
+const MODEL: Modelled = Modelled { fault: None };
+
+/// A store that is wrong in what it does to the words, or takes numbers too narrowly.
+#[derive(Clone, Copy, Debug, PartialEq, Eq)]
+pub enum Wrong {
+    /// A refusal leaves a mark in a word that is no field.
+    MarksARefusal,
+    /// A fresh leaves an old word that is no field of fresh tables.
+    FreshLeavesAWord,
+    /// A fresh clears the words past the needed length.
+    FreshPastTheEnd,
+    /// A message that moves up has 0 in the words that its kind doesn't use.
+    MovesFieldsAlone,
+    /// A message that joins leaves the words that its kind doesn't use.
+    JoinsFieldsAlone,
+    /// A delivery clears the words of the place that the last message left.
+    ClearsThePlaceLeft,
+    /// The end of a transaction clears the stamps asked for.
+    ClearsAskedAtAnEnd,
+    /// The end of a transaction leaves the client its set.
+    KeepsTheSetAtAnEnd,
+    /// Clients are taken modulo 256.
+    NarrowClients,
+    /// Places are taken modulo 65,536.
+    NarrowPlaces,
+    /// Sizes are taken modulo 2 to the power 32.
+    NarrowSizes,
+    /// Value bytes past those of the set are let pass.
+    TooManyValues,
+    /// A block of one word less than needed is taken.
+    OneWordShort,
+    /// A showing writes a byte past the frame.
+    ShowsPastTheFrame,
+    /// A showing without room writes what fits.
+    ShowsWhatFits,
+}
+
+impl Wrong {
+    /// Makes the model's call, and then what is wrong with it.
+    fn made(self, block: &mut [u64], call: impl FnOnce(&mut [u64]) -> u64) -> u64 {
+        let before = block.to_vec();
+        if self == Wrong::OneWordShort && block.len() == NEEDED - 1 {
+            let mut longer = [&before[..], &[0]].concat();
+            let answer = call(&mut longer);
+            block.copy_from_slice(&longer[..NEEDED - 1]);
+            return answer;
+        }
+        let answer = call(block);
+        if answer & 0xff == 0 {
+            self.spoil_messages(&before, block);
+            self.spoil_ends(&before, block);
+        } else if self == Wrong::MarksARefusal && block.len() > 10 {
+            block[10] = 1;
+        }
+        answer
+    }
+
+    fn spoil_messages(self, before: &[u64], after: &mut [u64]) {
+        let (was, is) = (before[places::MESSAGES], after[places::MESSAGES]);
+        let words = |first: u64, end: u64| {
+            places::message(first as usize)..places::message(end.max(first) as usize)
+        };
+        match self {
+            Wrong::MovesFieldsAlone if is < was => {
+                for place in unused(after, words(0, is)) {
+                    after[place] = 0;
+                }
+            }
+            Wrong::JoinsFieldsAlone => {
+                for place in unused(after, words(was, is)) {
+                    after[place] = before[place];
+                }
+            }
+            Wrong::ClearsThePlaceLeft => after[words(is, was)].fill(0),
+            _ => (),
+        }
+    }
+
+    fn spoil_ends(self, before: &[u64], after: &mut [u64]) {
+        for client in 1..=after[places::CLIENTS] as usize {
+            let mode = places::scalar(client, Scalar::Mode);
+            if before[mode] == IDLE || after[mode] != IDLE {
+                continue;
+            }
+            let set = places::scalar(client, Scalar::Set);
+            match self {
+                Wrong::ClearsAskedAtAnEnd => after[places::asked(client, 0)..][..64].fill(0),
+                Wrong::KeepsTheSetAtAnEnd => after[set] = before[set],
+                _ => (),
+            }
+        }
+    }
+
+    fn client(self, client: u64) -> u64 {
+        match self {
+            Wrong::NarrowClients => client % 256,
+            _ => client,
+        }
+    }
+}
+
+/// The words among these that are no field of the block.
+fn unused(block: &[u64], words: Range<usize>) -> Vec<usize> {
+    let tables = decode(block).expect("an accepted call left tables");
+    let mut is_field = vec![false; block.len()];
+    for field in fields(&tables) {
+        is_field[field.place] = true;
+    }
+    words.filter(|place| !is_field[*place]).collect()
+}
+
+impl Calls for Wrong {
+    fn fresh(&self, block: &mut [u64], clients: u64, partitions: u64, items: u64) -> u64 {
+        let size = |size: u64| match self {
+            Wrong::NarrowSizes => size % (1 << 32),
+            _ => size,
+        };
+        let before = block.to_vec();
+        let answer = self.made(block, |block| {
+            MODEL.fresh(block, size(clients), size(partitions), size(items))
+        });
+        match self {
+            Wrong::FreshLeavesAWord if answer == 0 => block[4_000] = before[4_000],
+            Wrong::FreshPastTheEnd if answer == 0 => block[NEEDED..].fill(0),
+            _ => (),
+        }
+        answer
+    }
+
+    fn start_read(&self, block: &mut [u64], client: u64, set: u64) -> u64 {
+        let client = self.client(client);
+        self.made(block, |block| MODEL.start_read(block, client, set))
+    }
+
+    fn start_write(&self, block: &mut [u64], client: u64, set: u64, values: &[u8]) -> u64 {
+        let client = self.client(client);
+        let right = 4 * set.count_ones() as usize;
+        let values = match self {
+            Wrong::TooManyValues => &values[..values.len().min(right)],
+            _ => values,
+        };
+        self.made(block, |block| MODEL.start_write(block, client, set, values))
+    }
+
+    fn deliver(&self, block: &mut [u64], place: u64) -> u64 {
+        let place = match self {
+            Wrong::NarrowPlaces => place % 65_536,
+            _ => place,
+        };
+        self.made(block, |block| MODEL.deliver(block, place))
+    }
+
+    fn show(&self, block: &[u64], client: u64, output: &mut [u8]) -> u64 {
+        let answer = MODEL.show(block, self.client(client), output);
+        let length = (answer >> 8) as usize;
+        match self {
+            Wrong::ShowsPastTheFrame if answer & 0xff == 0 && length < output.len() => {
+                output[length] ^= 1;
+            }
+            Wrong::ShowsWhatFits if answer == 14 => {
+                let mut whole = [0; 600];
+                MODEL.show(block, client, &mut whole);
+                let room = output.len();
+                output.copy_from_slice(&whole[..room]);
+            }
+            _ => (),
+        }
+        answer
+    }
+}
