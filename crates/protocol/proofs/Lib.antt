@@ -16,4 +16,5 @@ pub mod Kept
 pub mod Valid
 pub mod Invariant
 pub mod Runs
+pub mod Never
 pub mod Condition3
