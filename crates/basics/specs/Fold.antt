@@ -1,7 +1,8 @@
 -- A loop as a fold: f at each number below n, in order. Assumes nothing.
-use mathlib.Core.Path.{_≡_, refl}
-use Prim.Native.Nat.{ℕ, zero, suc, _<_, _≤_}
-use native.Mathlib.Nat.{le-refl}
+use mathlib.Core.Path.{_≡_, refl, ap, _∙_}
+use Prim.Native.Nat.{ℕ, zero, suc, _+_, _<_, _≤_}
+use native.Mathlib.Nat.{le-antisymm}
+use native.Mathlib.Numerals.{add-one}
 use native.Mathlib.Omega.{arith}
 
 unfoldable pub upTo : {A : Type 0} → (A → ℕ → A) → A → ℕ → A
@@ -18,3 +19,18 @@ pub upTo-all : {A : Type 0} (P : ℕ → A → Type 0) (f : A → ℕ → A) (a 
 unfolding upTo
 upTo-all P f a zero first turn = first
 upTo-all P f a (suc n) first turn = turn n (upTo f a n) (omega arith) (upTo-all P f a n first (λ k x h. turn k x (omega arith)))
+
+-- ---- a loop that runs a fold, turn by turn
+
+module _ {A : Type 0} (f : A → ℕ → A) (a : A) where
+  pub turn-first : a ≡ upTo f a 0
+  unfolding upTo
+  turn-first = refl
+
+  -- one turn more takes x to y
+  pub turn-next : (x y : A) (k : ℕ) → x ≡ upTo f a k → y ≡ f x k → y ≡ upTo f a (k + 1)
+  unfolding upTo
+  turn-next x y k e g = rw (add-one k) (g ∙ ap (λ (z : A). f z k) e)
+
+  pub turn-last : (x : A) (k n : ℕ) → x ≡ upTo f a k → k ≤ n → n ≤ k → x ≡ upTo f a n
+  turn-last x k n e l h = e ∙ ap (upTo f a) (le-antisymm l h)

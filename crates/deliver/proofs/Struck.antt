@@ -3,21 +3,16 @@ use mathlib.Core.Bool.{true}
 use mathlib.Core.Path.{_≡_, refl}
 use Prim.Native.Nat.{ℕ}
 use Rattle.itemset.specs.Set.{has, remove}
-use Rattle.protocol.specs.Tables.{Client, Ended, nothing, read, write, put}
+use Rattle.protocol.specs.Tables.{Client, put}
 use Rattle.protocol.specs.Steps.{struck}
 use Rattle.layout.proofs.Room.{NarrowClient}
 use Rattle.layout.proofs.ClientWords.{Words}
-use Rattle.layout.proofs.ClientHolds.{WordsHold, WordsEnded}
+use Rattle.layout.proofs.ClientHolds.{WordsHold}
 
 -- w with another awaited set and other values
 abbrev pub struckWords : Words → ℕ → (ℕ → ℕ) → Words
 struckWords w rest vs =
     record { scalar = put (w .scalar) 3 rest; asked = w .asked; values = vs; lastStamps = w .lastStamps; lastValues = w .lastValues }
-
-struck-ended : (w : Words) (rest : ℕ) (vs : ℕ → ℕ) (e : Ended) → WordsEnded w e → WordsEnded (struckWords w rest vs) e
-struck-ended w rest vs nothing h = h
-struck-ended w rest vs (read s stamps us) h = h
-struck-ended w rest vs (write s stamp us) h = h
 
 pub words-struck : (w : Words) (c : Client) (k : ℕ) (vs values : ℕ → ℕ) → WordsHold w c
     → ((j : ℕ) → has (c .set) j ≡ true → vs j ≡ values j) → WordsHold (struckWords w (remove (c .awaited) k) vs) (struck c k values)
@@ -30,7 +25,7 @@ words-struck w c k vs values h same =
       stamp = h .stamp;
       asked = h .asked;
       values = same;
-      last = struck-ended w (remove (c .awaited) k) vs (c .last) (h .last);
+      last = h .last;
     }
 
 pub narrow-struck : (c : Client) (k : ℕ) (values : ℕ → ℕ) → NarrowClient c → NarrowClient (struck c k values)

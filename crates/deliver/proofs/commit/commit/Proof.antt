@@ -5,9 +5,8 @@ use Prim.Native.Nat.{_-_, _≤_}
 use native.Mathlib.Omega.{arith}
 use borrow.Author.Needs.{needs}
 use lib.ListN.{length}
-use Rattle.basics.specs.Fold.{upTo}
+use Rattle.basics.specs.Fold.{upTo, turn-first, turn-next, turn-last}
 use Rattle.deliver.specs.Deliver.{commitVersion, commitDelivered}
-use Rattle.ends.proofs.Turns.{turn-first, turn-next, turn-last}
 use Rattle.deliver.proofs.commit.commit.Statement.{statement}
 use Rattle.deliver.proofs.commit.commit.Tie as tie
 

@@ -5,9 +5,8 @@ use Prim.Native.Nat.{_-_, _≤_}
 use native.Mathlib.Omega.{arith}
 use borrow.Author.Needs.{needs}
 use lib.ListN.{length}
-use Rattle.basics.specs.Fold.{upTo}
+use Rattle.basics.specs.Fold.{upTo, turn-first, turn-next, turn-last}
 use Rattle.ends.specs.Ends.{sendCommit}
-use Rattle.ends.proofs.Turns.{turn-first, turn-next, turn-last}
 use Rattle.ends.proofs.write.send_commits.Statement.{statement}
 use Rattle.ends.proofs.write.send_commits.Tie as tie
 

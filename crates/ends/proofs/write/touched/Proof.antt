@@ -4,9 +4,8 @@ use mathlib.Core.Path.{_≡_}
 use Prim.Native.Nat.{_-_, _≤_}
 use native.Mathlib.Omega.{arith}
 use borrow.Author.Needs.{needs}
-use Rattle.basics.specs.Fold.{upTo}
+use Rattle.basics.specs.Fold.{upTo, turn-first, turn-next, turn-last}
 use Rattle.ends.specs.Ends.{touchItem, touched}
-use Rattle.ends.proofs.Turns.{turn-first, turn-next, turn-last}
 use Rattle.ends.proofs.write.touched.Statement.{statement}
 use Rattle.ends.proofs.write.touched.Tie as tie
 

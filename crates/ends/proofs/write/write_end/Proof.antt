@@ -1,11 +1,6 @@
 -- `ends::write::write_end` meets its contract: call by call. Assumes nothing.
-use mathlib.Core.Path.{ap, _∙_}
-use mathlib.Core.List.{List}
-use Prim.Native.Nat.{ℕ}
-use Rattle.basics.specs.Fold.{upTo}
-use Rattle.ends.specs.Ends.{touched, sendCommit, writeKept, writeEnded}
 use borrow.Author.Needs.{needs}
-use denote.Ref.{now}
+use Rattle.ends.proofs.Rows.{write-row}
 use Rattle.ends.proofs.write.write_end.Statement.{statement}
 use Rattle.ends.proofs.write.write_end.Tie as tie
 
@@ -25,17 +20,9 @@ same-length : tie.Need-same-length
 same-length c = search needs
 
 returns : tie.Need-returns
-unfolding writeEnded
 returns c =
-    let a = c .before .before .before .before .before .before .before .before .before .before .before .before .args in
-    c .before .before .send-commits .ensures
-    ∙ (ap (λ (x : List ℕ). upTo (sendCommit (c .before .before .before .before .before .before .before .before .touched .result) (a .stamp)) x (a .partitions)) (c .before .before .before .before .before .before .write-kept .ensures)
-    ∙ (ap
-    (λ (ps : ℕ). upTo (sendCommit ps (a .stamp)) (writeKept (now (a .b)) (a .items) (a .d) (c .before .before .before .before .before .before .before .before .before .set-of .result) (a .stamp)) (a .partitions))
-    (c .before .before .before .before .before .before .before .before .touched .ensures)
-    ∙ ap
-    (λ (s : ℕ). upTo (sendCommit (touched (a .partitions) s (a .items)) (a .stamp)) (writeKept (now (a .b)) (a .items) (a .d) s (a .stamp)) (a .partitions))
-    (c .before .before .before .before .before .before .before .before .before .set-of .ensures)))
+    write-row _ _ _ _ _ _ _ (c .before .before .before .before .before .before .before .before .before .set-of .ensures) (c .before .before .before .before .before .before .before .before .touched .ensures)
+    (c .before .before .before .before .before .before .write-kept .ensures) (c .before .before .send-commits .ensures)
 
 pub write-end-spec : {M : Type 1} → statement M
 write-end-spec =

@@ -1,11 +1,6 @@
 -- `ends::write::write_kept` meets its contract: call by call. Assumes nothing.
-use mathlib.Core.Path.{ap, _∙_}
-use mathlib.Core.List.{List}
-use Prim.Native.Nat.{ℕ}
-use Rattle.basics.specs.Fold.{upTo}
-use Rattle.layout.specs.Layout.{scalars, store, lastStampAt}
-use Rattle.ends.specs.Ends.{ended, keepValue, writeKept}
 use borrow.Author.Needs.{needs}
+use Rattle.ends.proofs.Rows.{kept-row}
 use Rattle.ends.proofs.write.write_kept.Statement.{statement}
 use Rattle.ends.proofs.write.write_kept.Tie as tie
 
@@ -25,14 +20,10 @@ same-length : tie.Need-same-length
 same-length c = search needs
 
 returns : tie.Need-returns
-unfolding writeKept
 returns c =
-    let a = c .before .before .before .before .before .before .before .before .before .before .before .before .before .before .before .before .before .args in
-    c .before .before .put-last-stamp .ensures
-    ∙ ap (λ (x : List ℕ). store x scalars (lastStampAt (a .d)) (a .stamp))
-    (c .before .before .before .before .before .before .end .ensures
-    ∙ ap (λ (x : List ℕ). ended x (a .d) 2 (a .s))
-    (c .before .before .before .before .before .before .before .before .before .before .keep-values .ensures ∙ ap (λ (x : List ℕ). upTo (keepValue (a .d) (a .s)) x (a .items)) (c .before .before .before .before .before .before .before .before .before .before .before .before .before .before .see .ensures)))
+    kept-row _ _ _ _ _ _ (c .before .before .before .before .before .before .before .before .before .before .before .before .before .before .see .ensures)
+    (c .before .before .before .before .before .before .before .before .before .before .keep-values .ensures)
+    (c .before .before .before .before .before .before .end .ensures) (c .before .before .put-last-stamp .ensures)
 
 pub write-kept-spec : {M : Type 1} → statement M
 write-kept-spec =

@@ -4,9 +4,8 @@ use Prim.Native.Nat.{_≤_, _-_}
 use native.Mathlib.Nat.{le-antisymm}
 use borrow.Author.Needs.{needs}
 use lib.ListN.{length}
-use Rattle.basics.specs.Fold.{upTo}
+use Rattle.basics.specs.Fold.{upTo, turn-first, turn-next}
 use Rattle.start.specs.Start.{askItem}
-use Rattle.start.proofs.Turns.{turns-none, turns-more}
 use Rattle.start.proofs.read.ask_items.Statement.{statement}
 use Rattle.start.proofs.read.ask_items.Tie as tie
 
@@ -17,7 +16,7 @@ abbrev μ-loop : tie.MeasureT-loop
 μ-loop b₀ d s items k₀ b k = items - k
 
 loop-holds : tie.Need-loop-holds Inv-loop μ-loop
-loop-holds c = (search needs, turns-none _ _, search needs)
+loop-holds c = (search needs, turn-first _ _, search needs)
 
 ask-item-requires : tie.Need-ask-item-requires Inv-loop μ-loop
 ask-item-requires c κs = search needs
@@ -29,7 +28,7 @@ loop-less : tie.Need-loop-less Inv-loop μ-loop
 loop-less c = search needs
 
 loop-again : tie.Need-loop-again Inv-loop μ-loop
-loop-again c = (search needs, turns-more _ _ _ _ _ (c .before .before .before .before .before .loop .inv .1) (c .before .before .ask-item .ensures), search needs)
+loop-again c = (search needs, turn-next _ _ _ _ _ (c .before .before .before .before .before .loop .inv .1) (c .before .before .ask-item .ensures), search needs)
 
 same-length : tie.Need-same-length Inv-loop μ-loop
 same-length c = search needs
