@@ -24,7 +24,7 @@ use Rattle.layout.specs.Decode.{latestIn}
 use Rattle.layout.specs.Encodes.{Encodes, HoldsEntry}
 use Rattle.layout.proofs.Room.{HasRoom}
 use Rattle.layout.proofs.EncodesEntry.{encodes-latest}
-use Rattle.slots.proofs.Held.{version-held}
+use Rattle.layout.proofs.Held.{version-held}
 use Rattle.deliver.specs.Deliver.{commitItem, commitVersion, commitDelivered}
 use Rattle.ends.proofs.Same.{encodes-same-latest}
 

@@ -12,13 +12,14 @@ use Rattle.protocol.specs.Steps.{messageAt, deliveredAt}
 use Rattle.protocol.specs.Calls.{deliver, effect}
 use Rattle.protocol.proofs.Refusals.{AcceptedDeliver, accepted-deliver, accepted-message}
 use Rattle.protocol.proofs.Valid.{valid-kept}
+use Rattle.protocol.specs.Range.{capacities}
 use Rattle.layout.specs.Layout.{header, at, messagesAt, versionsAt}
-use Rattle.layout.specs.Decode.{capacities, messageIn}
+use Rattle.layout.specs.Decode.{messageIn}
 use Rattle.layout.specs.Store.{takeOut}
 use Rattle.layout.specs.Encodes.{Encodes}
 use Rattle.layout.specs.Masked.{MaskedMessage}
 use Rattle.layout.proofs.Room.{HasRoom, room-valid}
-use Rattle.slots.proofs.Held.{message-held}
+use Rattle.layout.proofs.Held.{message-held}
 use Rattle.slots.proofs.EncodesTakeOut.{encodes-take-out}
 use Rattle.deliver.specs.declared.Counts.{Counts}
 use Rattle.deliver.specs.declared.Tested.{Tested}

@@ -9,5 +9,6 @@ pub mod EncodesClient
 pub mod EncodesEntry
 pub mod EncodesLists
 pub mod Changed
+pub mod Held
 pub mod Blank
 pub mod Fresh

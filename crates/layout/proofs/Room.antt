@@ -11,11 +11,10 @@ use Rattle.itemset.specs.Laws.{has-below}
 use Rattle.protocol.specs.declared.Version.{Version}
 use Rattle.protocol.specs.declared.Message.{Message}
 use Rattle.protocol.specs.Tables.{Sizes, Tables, Client, Ended, nothing, read, write, withClient, withVersions, withMessages}
-use Rattle.protocol.specs.Range.{load, occupied}
+use Rattle.protocol.specs.Range.{capacities, load, occupied}
 use Rattle.protocol.proofs.Ranges.Tables.{Valid}
 use Rattle.protocol.proofs.Ranges.Clients.{EndedInRange, ClientInRange}
 use Rattle.protocol.proofs.Put.{put-all}
-use Rattle.layout.specs.Decode.{capacities}
 
 -- the items of a set are among the 64 that a block has words for
 abbrev pub Narrow : ℕ → Type 0

@@ -13,12 +13,8 @@ use Rattle.protocol.specs.declared.Message.{Message}
 use Rattle.protocol.specs.declared.Message.the-variants.{Prepare, Prepared, Commit, Get, Got}
 use Rattle.protocol.specs.Tables.{Sizes, Tables, Client, Mode, idle, reading, writing, Ended, nothing, read, write, initial, resting}
 use Rattle.protocol.specs.Steps.{version}
-use Rattle.protocol.specs.Range.{Capacities, valid, sizesInRange, isClient, isItem, isWriting, everyClient}
+use Rattle.protocol.specs.Range.{capacities, valid, sizesInRange, isClient, isItem, isWriting, everyClient}
 use Rattle.layout.specs.Layout.{header, scalars, latest, views, asked, values, lastStamps, lastValues, versions, messages, needed, at, clientsAt, partitionsAt, itemsAt, versionsAt, messagesAt, modeAt, countAt, setAt, awaitedAt, stampAt, lastKindAt, lastSetAt, lastStampAt, latestAt, viewAt, itemAt, versionAt, messageAt}
-
--- the capacities of the block
-abbrev pub capacities : Capacities
-capacities = record { versions = 512; load = 128 }
 
 -- ---- numbers of modes, kinds and ended transactions
 

@@ -9,19 +9,18 @@ use borrow.Author.Tests.{ltb-true}
 use Rattle.basics.specs.Cases.{by-test, between}
 use Rattle.basics.specs.Lists.{in-getD, table}
 use Rattle.itemset.specs.Set.{has}
-use Rattle.protocol.specs.declared.Version.{Version}
 use Rattle.protocol.specs.declared.Entry.{Entry}
-use Rattle.protocol.specs.declared.Message.{Message}
-use Rattle.protocol.specs.declared.Message.the-variants.{Prepare, Prepared, Commit, Get, Got}
+use Rattle.protocol.specs.declared.Message.the-variants.{Commit}
 use Rattle.protocol.specs.Tables.{Tables, Client, Mode, idle, reading, writing, Ended, nothing, read, write, initial, resting}
-use Rattle.protocol.specs.Range.{isClient, isItem, isWriting, load, occupied, valid}
+use Rattle.protocol.specs.Range.{capacities, isClient, isItem, isWriting, load, occupied, valid}
 use Rattle.protocol.specs.Steps.{version}
 use Rattle.protocol.proofs.Ranges.Tables.{Valid, valid-facts}
 use Rattle.layout.specs.Layout.{Section, header, scalars, latest, views, asked, values, lastStamps, lastValues, at, messagesAt, versionsAt}
 use Rattle.layout.specs.Layout.{modeAt, lastKindAt, lastSetAt, lastStampAt, setAt, stampAt, itemAt, latestAt, viewAt}
-use Rattle.layout.specs.Decode.{capacities, sizesIn, latestIn, viewIn, modeOf, within, endedOf, messageOf, clientIn, versionIn, messageIn, tablesOf}
-use Rattle.layout.specs.Encodes.{numberOfMode, HoldsEntry, HoldsVersion, HoldsMessage, HoldsEnded, HoldsClient, Encodes}
-use Rattle.layout.specs.Masked.{Only, MaskedEnded, MaskedClient, MaskedMessage, Masked}
+use Rattle.layout.specs.Decode.{sizesIn, latestIn, viewIn, modeOf, within, endedOf, clientIn, versionIn, messageIn, tablesOf}
+use Rattle.layout.specs.Encodes.{numberOfMode, HoldsEntry, HoldsEnded, HoldsClient, Encodes}
+use Rattle.layout.specs.Masked.{Only, MaskedEnded, MaskedClient, Masked}
+use Rattle.layout.proofs.Held.{version-held, message-held}
 use Rattle.range.proofs.Folds.{table-of}
 
 -- ---- Clients
@@ -76,25 +75,10 @@ client-of b d c h m =
       last = last i;
     }
 
--- ---- Entries, versions, messages
+-- ---- Entries
 
 pub entry-of : (b : List ℕ) (s : Section) (at₀ : ℕ) (e : Entry) → HoldsEntry b s at₀ e → record { stamp = at b s at₀; set = at b s (at₀ + 1) } ≡ e
 entry-of b s at₀ e h = λ i. record { stamp = h .stamp i; set = h .set i }
-
-pub version-of : (b : List ℕ) (j : ℕ) (v : Version) → HoldsVersion b j v → versionIn b j ≡ v
-version-of b j v h = λ i. record { item = h .item i; value = h .value i; stamp = h .stamp i; set = h .set i }
-
-message-of : (b : List ℕ) (j : ℕ) (m : Message) → HoldsMessage b j m → MaskedMessage m → messageIn b j ≡ m
-unfolding messageIn messageOf
-message-of b j (Prepare v) h m =
-    rw (h .0) (λ i. Prepare (record { item = h .1 i; value = h .2 i; stamp = h .3 i; set = h .4 i }))
-message-of b j (Prepared k stamp) h m = rw (h .0) (λ i. Prepared (h .1 i) (h .2 i))
-message-of b j (Commit p stamp) h m = rw (h .0) (λ i. Commit (h .1 i) (h .2 i))
-message-of b j (Get d k stamp) h m = rw (h .0) (λ i. Get (h .1 i) (h .2 i) (h .3 i))
-message-of b j (Got d v e) h m =
-    let empty = sym m in
-    rw (h .0) (λ i.
-    Got (h .1 i) (record { item = h .2 i; value = h .3 i; stamp = h .4 i; set = empty i }) (record { stamp = h .5 i; set = h .6 i }))
 
 -- ---- The whole
 
@@ -132,10 +116,10 @@ module _ (b : List ℕ) (t : Tables) (e : Encodes b t) (m : Masked t) where
   unfolding tablesOf
   tables-of vs ms =
       let versions : table (min (at b header versionsAt) 512) (versionIn b) ≡ t .versions =
-      table-of _ (versionIn b) (t .versions) (version 0 0 0 0) (omega (arith, e .versionCount)) (λ i l. version-of b i _ (e .versions i l (version 0 0 0 0))) in
+      table-of _ (versionIn b) (t .versions) (version 0 0 0 0) (omega (arith, e .versionCount)) (λ i l. version-held b i _ (e .versions i l (version 0 0 0 0))) in
       let messages : table (min (at b header messagesAt) 128) (messageIn b) ≡ t .messages =
       table-of _ (messageIn b) (t .messages) (Commit 0 0) (omega (arith, e .messageCount))
-      (λ i l. message-of b i _ (e .messages i l (Commit 0 0)) (m .messages _ (in-getD (t .messages) i (Commit 0 0) l))) in
+      (λ i l. message-held b i _ (e .messages i l (Commit 0 0)) (m .messages _ (in-getD (t .messages) i (Commit 0 0) l))) in
       λ i.
       record {
         sizes = sizes-of i;

@@ -2,7 +2,7 @@
 use mathlib.Core.Bool.{true, cond}
 use mathlib.Core.List.{List}
 use mathlib.Core.Path.{_≡_, refl, sym, _∙_}
-use Prim.Native.Nat.{ℕ, zero, suc, _≤_, _<_, min}
+use Prim.Native.Nat.{ℕ, zero, suc, _<_, min}
 use native.Mathlib.Omega.{arith}
 use lib.ListN.{length, getD}
 use borrow.Author.Tests.{lt-ltb}
@@ -10,8 +10,9 @@ use Rattle.basics.specs.Lists.{table, length-table, table-at}
 use Rattle.itemset.specs.Set.{has}
 use Rattle.layout.specs.Layout.{header, scalars, values, lastStamps, lastValues, at, messagesAt, versionsAt}
 use Rattle.layout.specs.Layout.{modeAt, lastKindAt, lastSetAt, lastStampAt, setAt, itemAt}
-use Rattle.layout.specs.Decode.{sizesIn, modeOf, endedOf, messageOf, clientIn, versionIn, messageIn, kindIn, tablesOf, wellFormed}
+use Rattle.layout.specs.Decode.{sizesIn, modeOf, endedOf, clientIn, versionIn, messageIn, tablesOf, wellFormed}
 use Rattle.layout.specs.Encodes.{numberOfMode, word, HoldsVersion, HoldsMessage, HoldsEnded, HoldsClient, Encodes}
+use Rattle.layout.proofs.Held.{held-version, held-message}
 use Rattle.range.proofs.WellFormed.{client-test, tells-well-formed}
 
 -- ---- Numbers of modes, ended transactions and kinds
@@ -37,16 +38,6 @@ holds-ended b d (suc zero) e l =
 holds-ended b d (suc (suc n)) e l =
     (omega arith, refl, refl, λ k. within-has (at b scalars (lastSetAt d)) k (at b lastValues (itemAt d k)))
 
-holds-message : (b : List ℕ) (i n : ℕ) → kindIn b i ≡ n → 1 ≤ n → n ≤ 5
-    → HoldsMessage b i (messageOf n (word b i 1) (word b i 2) (word b i 3) (word b i 4) (word b i 5) (record { stamp = word b i 6; set = word b i 7 }))
-unfolding messageOf
-holds-message b i zero e l h = absurd (omega arith)
-holds-message b i (suc zero) e l h = (e, refl, refl, refl, refl)
-holds-message b i (suc (suc zero)) e l h = (e, refl, refl)
-holds-message b i (suc (suc (suc zero))) e l h = (e, refl, refl)
-holds-message b i (suc (suc (suc (suc zero)))) e l h = (e, refl, refl, refl)
-holds-message b i (suc (suc (suc (suc (suc n))))) e l h = (omega arith, refl, refl, refl, refl, refl, refl)
-
 -- ---- Fields
 
 holds-client : (b : List ℕ) (d : ℕ) → at b scalars (modeAt d) < 3 → at b scalars (lastKindAt d) < 3 → HoldsClient b d (clientIn b d)
@@ -71,10 +62,6 @@ table-holds P n f h i l none =
     let below : i < n = omega (arith, length-table n f) in
     rw (table-at n f i none below) (h i below)
 
-holds-messageIn : (b : List ℕ) (i : ℕ) → 1 ≤ kindIn b i → kindIn b i ≤ 5 → HoldsMessage b i (messageIn b i)
-unfolding messageIn
-holds-messageIn b i l h = holds-message b i (kindIn b i) refl l h
-
 -- ---- The whole
 
 pub encodes-tables : (b : List ℕ) → wellFormed b ≡ true → Encodes b (tablesOf b)
@@ -93,6 +80,6 @@ encodes-tables b e =
       latest = λ k l. rw (lt-ltb k (sizesIn b .items) l) (record { stamp = refl; set = refl });
       view = λ d l h k m. rw (client-test (sizesIn b) d (l, h), lt-ltb k (sizesIn b .items) m) (record { stamp = refl; set = refl });
       client = λ d l h. rw (client-test (sizesIn b) d (l, h)) (holds-client b d (w .mode d (l, h)) (w .lastKind d (l, h)));
-      versions = table-holds (HoldsVersion b) _ (versionIn b) (λ i l. record { item = refl; value = refl; stamp = refl; set = refl });
-      messages = table-holds (HoldsMessage b) _ (messageIn b) (λ i l. holds-messageIn b i (w .someKind i (omega arith)) (w .kind i (omega arith)));
+      versions = table-holds (HoldsVersion b) _ (versionIn b) (λ i l. held-version b i);
+      messages = table-holds (HoldsMessage b) _ (messageIn b) (λ i l. held-message b i (w .someKind i (omega arith)) (w .kind i (omega arith)));
     }

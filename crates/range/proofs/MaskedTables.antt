@@ -3,13 +3,13 @@ use mathlib.Core.List.{List}
 use mathlib.Core.Path.{refl}
 use Prim.Native.Nat.{ℕ, zero, suc}
 use Rattle.basics.specs.Cases.{by-test}
-use Rattle.protocol.specs.declared.Entry.{Entry}
 use Rattle.protocol.specs.Tables.{Ended, nothing, resting}
 use Rattle.protocol.specs.Range.{isClient, isWriting}
 use Rattle.protocol.proofs.Put.{by-cond}
 use Rattle.layout.specs.Layout.{at, scalars, modeAt}
-use Rattle.layout.specs.Decode.{sizesIn, within, modeOf, endedOf, messageOf, clientIn, messageIn, tablesOf}
+use Rattle.layout.specs.Decode.{sizesIn, within, modeOf, endedOf, clientIn, messageIn, tablesOf}
 use Rattle.layout.specs.Masked.{Only, MaskedEnded, MaskedClient, MaskedMessage, Masked}
+use Rattle.layout.proofs.Held.{masked-message}
 use Rattle.range.proofs.Folds.{each-table}
 
 only-within : (s : ℕ) (f : ℕ → ℕ) → Only s (within s f)
@@ -37,19 +37,6 @@ unfolding isWriting
 masked-resting count last m =
     record { asked = λ k e. refl; values = λ k e. refl; writing = λ w k. refl; others = λ w. refl; last = m }
 
-masked-message : (kind who k v stamp s : ℕ) (e : Entry) → MaskedMessage (messageOf kind who k v stamp s e)
-unfolding messageOf
-masked-message zero who k v stamp s e = tt
-masked-message (suc zero) who k v stamp s e = tt
-masked-message (suc (suc zero)) who k v stamp s e = tt
-masked-message (suc (suc (suc zero))) who k v stamp s e = tt
-masked-message (suc (suc (suc (suc zero)))) who k v stamp s e = tt
-masked-message (suc (suc (suc (suc (suc n))))) who k v stamp s e = refl
-
-masked-messageIn : (b : List ℕ) (i : ℕ) → MaskedMessage (messageIn b i)
-unfolding messageIn
-masked-messageIn b i = masked-message _ _ _ _ _ _ _
-
 pub masked-tables : (b : List ℕ) → Masked (tablesOf b)
 unfolding tablesOf
 masked-tables b =
@@ -59,5 +46,5 @@ masked-tables b =
       itemView = λ d k e. by-test (isClient (sizesIn b) d) (λ c. rw (c, e)) (λ c. rw c);
       absent = λ d e. rw e;
       client = λ d. by-cond MaskedClient (isClient (sizesIn b) d) _ _ (λ c. masked-client b d) (λ c. masked-resting 0 nothing tt);
-      messages = each-table MaskedMessage _ (messageIn b) (λ i l. masked-messageIn b i);
+      messages = each-table MaskedMessage _ (messageIn b) (λ i l. masked-message b i);
     }

@@ -14,20 +14,21 @@ use Rattle.protocol.specs.declared.Message.{Message}
 use Rattle.protocol.specs.declared.Message.the-variants.{Prepare, Prepared, Commit, Get, Got}
 use Rattle.protocol.specs.Tables.{Sizes, Tables, Client, Mode, idle, reading, writing, Ended, nothing, read, write}
 use Rattle.protocol.specs.Steps.{version}
-use Rattle.protocol.specs.Range.{isWriting, isPrepare, arrived, load, occupied, valid}
+use Rattle.protocol.specs.Range.{capacities, isWriting, isPrepare, arrived, load, occupied, valid}
 use Rattle.protocol.proofs.Ranges.Values.{SizesInRange, IsClient, EntryInRange, VersionInRange, MessageInRange}
 use Rattle.protocol.proofs.Ranges.Clients.{EndedInRange, ClientInRange}
 use Rattle.protocol.proofs.Kept.Values.{range-initial}
 use Rattle.protocol.proofs.Ranges.Tables.{InRange, Valid, valid-facts, facts-valid}
 use Rattle.layout.specs.Layout.{Section, header, scalars, latest, views, asked, values, lastStamps, lastValues, at}
 use Rattle.layout.specs.Layout.{messagesAt, modeAt, lastKindAt, lastSetAt, lastStampAt, itemAt, latestAt, viewAt}
-use Rattle.layout.specs.Decode.{capacities, sizesIn, kindIn, modeOf, within, endedOf, messageOf, clientIn, versionIn, messageIn, tablesOf, wellFormed, validBlock}
+use Rattle.layout.specs.Decode.{sizesIn, kindIn, modeOf, within, endedOf, messageOf, clientIn, versionIn, messageIn, tablesOf, wellFormed, validBlock}
 use Rattle.layout.specs.Encodes.{numberOfMode, HoldsEntry, HoldsMessage, HoldsEnded, HoldsClient, Encodes}
 use Rattle.range.proofs.Folds.{each-table, counted-list, total-same}
 use Rattle.range.proofs.WellFormed.{client-test, WellFormed, tells-well-formed, ValidBlock, tells-valid-block}
 use Rattle.range.proofs.CapacityTests.{load-words, occupied-words}
 use Rattle.range.proofs.Encoded.{encodes-tables}
-use Rattle.range.proofs.Decoded.{mode-number, entry-of, version-of, few-versions, few-messages}
+use Rattle.layout.proofs.Held.{version-held}
+use Rattle.range.proofs.Decoded.{mode-number, entry-of, few-versions, few-messages}
 
 -- ---- The numbers are those of some mode, ended transaction or kind
 
@@ -160,7 +161,7 @@ module _ (b : List ℕ) (t : Tables) (e : Encodes b t) (v : Valid capacities t) 
         versions = each-table (VersionInRange (sizesIn b)) _ (versionIn b) (λ i l.
             let none = version 0 0 0 0 in
             let m : i < length (t .versions) = omega (arith, e .versionCount) in
-            subst₂ VersionInRange sizes-same (sym (version-of b i _ (e .versions i m none))) (r .versions _ (in-getD (t .versions) i none m)));
+            subst₂ VersionInRange sizes-same (sym (version-held b i _ (e .versions i m none))) (r .versions _ (in-getD (t .versions) i none m)));
         messages = each-table (MessageInRange (sizesIn b)) _ (messageIn b) (λ i l.
             let m : i < length (t .messages) = omega (arith, e .messageCount) in
             message-range b (sizesIn b) i (message i) (holds-message i m)

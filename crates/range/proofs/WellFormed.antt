@@ -9,12 +9,12 @@ use lib.ListN.{length}
 use borrow.Author.Tests.{le-leb}
 use Rattle.basics.specs.Cases.{and-both}
 use Rattle.protocol.specs.Tables.{Sizes}
-use Rattle.protocol.specs.Range.{isClient}
+use Rattle.protocol.specs.Range.{capacities, isClient}
 use Rattle.protocol.proofs.Tells.{tells, tells-and}
 use Rattle.protocol.proofs.Ranges.Values.{SizesInRange, IsClient, tells-sizes}
 use Rattle.protocol.proofs.Ranges.Tables.{is-client, each-client, Valid, tells-valid}
 use Rattle.layout.specs.Layout.{header, scalars, needed, at, versionsAt, messagesAt, modeAt, lastKindAt}
-use Rattle.layout.specs.Decode.{capacities, sizesIn, kindIn, tablesOf, wellFormed, validBlock}
+use Rattle.layout.specs.Decode.{sizesIn, kindIn, tablesOf, wellFormed, validBlock}
 
 -- a client that exists passes its test
 pub client-test : (z : Sizes) (d : ℕ) → IsClient z d → isClient z d ≡ true

@@ -83,30 +83,16 @@ pub extern "C" fn koolvent_valid(b: &[u64]) -> u64
 
 // The load of a valid block.
 pub fn load(b: &[u64]) -> u64
-    ensures { λ r. ⌜ (validBlock (now (b .entry)) ≡ true → r ≡ load (tablesOf (now (b .entry)))) ⌝ }
+    requires { ⌜ validBlock (now b) ≡ true ⌝ }
+    ensures { λ r. ⌜ r ≡ load (tablesOf (now (b .entry))) ⌝ }
 {
-    let clients = layout::clients(b);
-    let messages = layout::message_count(b);
-    if 8 < clients {
-        return 0;
-    }
-    if 128 < messages {
-        return 0;
-    }
-    capacity::load_of(b, clients, messages)
+    capacity::load_of(b, layout::clients(b), layout::message_count(b))
 }
 
 // The versions in use of a valid block.
 pub fn occupied(b: &[u64]) -> u64
-    ensures { λ r. ⌜ (validBlock (now (b .entry)) ≡ true → r ≡ occupied (tablesOf (now (b .entry)))) ⌝ }
+    requires { ⌜ validBlock (now b) ≡ true ⌝ }
+    ensures { λ r. ⌜ r ≡ occupied (tablesOf (now (b .entry))) ⌝ }
 {
-    let versions = layout::version_count(b);
-    let messages = layout::message_count(b);
-    if 512 < versions {
-        return 0;
-    }
-    if 128 < messages {
-        return 0;
-    }
-    capacity::occupied_of(b, versions, messages)
+    capacity::occupied_of(b, layout::version_count(b), layout::message_count(b))
 }

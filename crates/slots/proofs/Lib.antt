@@ -2,7 +2,6 @@
 pub mod Runs
 pub mod First
 pub mod Kind
-pub mod Held
 pub mod Each
 pub mod SameLists
 pub mod EncodesAppend

@@ -10,7 +10,7 @@ use Rattle.protocol.specs.Tables.{Tables}
 use Rattle.layout.specs.Decode.{versionIn, messageIn}
 use Rattle.layout.specs.Masked.{MaskedMessage}
 use Rattle.layout.specs.Encodes.{Encodes}
-use Rattle.slots.proofs.Held.{version-held, message-held}
+use Rattle.layout.proofs.Held.{version-held, message-held}
 use Rattle.slots.proofs.Each.{table-each}
 
 pub read-version : {b : List ℕ} {t : Tables} → Encodes b t → (i : ℕ) → i < length (t .versions) → (none : Version)

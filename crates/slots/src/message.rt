@@ -4,8 +4,6 @@ ghost use mathlib.Core.List.{[], _∷_};
 ghost use Prim.Native.Nat.{_+_, _≤_, _<_};
 ghost use lib.ListN.{length, take, drop};
 ghost use lib.Seq.{sets};
-ghost use Rattle.basics.specs.Lists.{counted, table};
-ghost use Rattle.protocol.specs.Range.{isPrepare};
 ghost use Rattle.layout.specs.Layout.{needed, at, store, base, header, messages, messagesAt, messageAt};
 ghost use Rattle.layout.specs.Decode.{kindIn, messageIn, messageOf};
 ghost use Rattle.layout.specs.Store.{appendMessage, takeOut};
@@ -184,20 +182,4 @@ pub fn take_out(b: &mut [u64], n: u64, i: u64)
         (8 * (n - (i + 1))) as usize,
     );
     put_message_count(b, n - 1);
-}
-
-// How many of `n` messages are prepares.
-pub fn prepares(b: &[u64], n: u64) -> u64
-    requires { ⌜ n ≤ 128 ⌝ }
-    ensures { λ r. ⌜ r ≡ counted isPrepare (table n (messageIn (now (b .entry)))) ⌝ }
-{
-    let mut count = 0;
-    let mut i = 0;
-    while i < n {
-        if kind(b, i) == 1 {
-            count += 1;
-        }
-        i += 1;
-    }
-    count
 }

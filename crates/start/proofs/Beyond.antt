@@ -11,12 +11,11 @@ use Rattle.itemset.specs.Counts.{rank-lt}
 use Rattle.protocol.specs.declared.Message.{Message}
 use Rattle.protocol.specs.declared.Message.the-variants.{Prepare, Get}
 use Rattle.protocol.specs.Tables.{Tables, stampOf}
-use Rattle.protocol.specs.Range.{load}
+use Rattle.protocol.specs.Range.{capacities, load}
 use Rattle.protocol.specs.Steps.{version}
 use Rattle.protocol.proofs.Put.{by-cond}
 use Rattle.protocol.proofs.Refusals.{AcceptedStart, AcceptedWrite}
 use Rattle.layout.specs.Layout.{Section, scalars, asked, values, messages, base, needed, at, store, messagesAt, modeAt, countAt, setAt, awaitedAt, stampAt, itemAt, messageAt}
-use Rattle.layout.specs.Decode.{capacities}
 use Rattle.layout.specs.Store.{wordsOfMessage, storeMessage, appendMessage}
 use Rattle.layout.specs.Encodes.{Encodes}
 use Rattle.layout.proofs.Room.{HasRoom, room-valid}

@@ -14,12 +14,12 @@ use Rattle.itemset.specs.Laws.{has-below}
 use Rattle.protocol.specs.declared.Message.{Message}
 use Rattle.protocol.specs.declared.Message.the-variants.{Get}
 use Rattle.protocol.specs.Tables.{Tables, withClient, withMessages}
-use Rattle.protocol.specs.Range.{isWriting, load}
+use Rattle.protocol.specs.Range.{capacities, isWriting, load}
 use Rattle.protocol.specs.Steps.{choice, asks, reader, startedRead}
 use Rattle.protocol.proofs.Put.{put-same}
 use Rattle.protocol.proofs.Refusals.{AcceptedStart}
 use Rattle.layout.specs.Layout.{asked, at, itemAt}
-use Rattle.layout.specs.Decode.{viewIn, capacities}
+use Rattle.layout.specs.Decode.{viewIn}
 use Rattle.layout.specs.Encodes.{Encodes, HoldsClient}
 use Rattle.layout.proofs.Room.{HasRoom, NarrowClient, narrow-below, room-valid, room-client}
 use Rattle.layout.proofs.ClientWords.{Words, putScalar}

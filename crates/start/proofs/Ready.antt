@@ -5,10 +5,9 @@ use native.Mathlib.Omega.{arith}
 use lib.ListN.{length}
 use Rattle.itemset.specs.Set.{count}
 use Rattle.protocol.specs.Tables.{Tables}
-use Rattle.protocol.specs.Range.{load}
+use Rattle.protocol.specs.Range.{capacities, load}
 use Rattle.protocol.proofs.Refusals.{AcceptedStart, AcceptedWrite}
 use Rattle.layout.specs.Layout.{header, scalars, at, itemsAt, messagesAt, countAt}
-use Rattle.layout.specs.Decode.{capacities}
 use Rattle.layout.specs.Encodes.{Encodes}
 
 pub record ReadyStart (b : List ℕ) (d s : ℕ) : Type 0 where
