@@ -15,6 +15,10 @@ module _ {A : Type 0} where
       sets-append (set l i x) (suc i) a b
       ∙ ap (λ (k : ℕ). sets (sets (set l i x) (suc i) a) k b) (omega arith)
 
+  -- a run right behind a run is one run
+  pub sets-join : (l : List A) (i j : ℕ) (a b : List A) → j ≡ i + length a → sets (sets l i a) j b ≡ sets l i (a ++ b)
+  sets-join l i j a b e = ap (λ (k : ℕ). sets (sets l i a) k b) e ∙ sym (sets-append l i a b)
+
   -- a store behind a run
   pub sets-set : (l : List A) (i j : ℕ) (a : List A) (x : A) → i + length a ≤ j → sets (set l j x) i a ≡ set (sets l i a) j x
   sets-set l i j [] x h = refl

@@ -95,6 +95,20 @@ pub fn put_number(out: &mut [u8], at: usize, n: usize, x: u64)
     }
 }
 
+// Writes the `n` lowest bytes of `x` into `out` from `at`, most significant first: the bytes themselves, not their digits.
+pub fn put_bytes(out: &mut [u8], at: usize, n: usize, x: u64)
+    requires { ⌜ at + n ≤ length (now out) ⌝ }
+    ensures { λ _. ⌜ now (out .exit) ≡ sets (now (out .entry)) at (bigEndian n x) ⌝ }
+{
+    let mut left = n;
+    let mut upper = x;
+    while 0 < left {
+        left -= 1;
+        out[at + left] = (upper % 256) as u8;
+        upper /= 256;
+    }
+}
+
 // Writes the digits of `bytes` into `out` from `at`.
 pub fn encode(bytes: &[u8], out: &mut [u8], at: usize)
     requires { ⌜ at + 2 * length (now bytes) ≤ length (now out) ⌝ }

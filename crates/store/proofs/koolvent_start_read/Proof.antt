@@ -1,0 +1,24 @@
+-- `store::koolvent_start_read` meets its contract: the number of the call's answer. Assumes nothing.
+use mathlib.Core.Path.{sym, ap, subst, _∙_}
+use borrow.Author.Needs.{needs}
+use Rattle.protocol.specs.Calls.{numberOfAnswer}
+use Rattle.store.specs.Calls.{Fits}
+use Rattle.store.proofs.Fits.{answer-fits}
+use Rattle.store.proofs.koolvent_start_read.Statement.{statement}
+use Rattle.store.proofs.koolvent_start_read.Tie as tie
+
+start-read-requires : tie.Need-start-read-requires
+start-read-requires c κs = search needs
+
+number-of-requires : tie.Need-number-of-requires
+number-of-requires c κs = subst Fits (sym (c .before .before .start-read .ensures .0)) (answer-fits _ _)
+
+same-length : tie.Need-same-length
+same-length c = search needs
+
+returns : tie.Need-returns
+returns c = let x = c .before .before .before .start-read .ensures in (c .number-of .ensures ∙ ap numberOfAnswer (x .0), (x .1 .0, x .1 .1))
+
+pub koolvent-start-read-spec : {M : Type 1} → statement M
+koolvent-start-read-spec =
+    tie.close (tie.spec start-read-requires number-of-requires same-length returns)

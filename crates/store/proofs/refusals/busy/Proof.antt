@@ -1,0 +1,13 @@
+-- `store::refusals::busy` meets its contract: as defined. Assumes nothing.
+use borrow.Author.Needs.{needs}
+use Rattle.store.proofs.refusals.busy.Statement.{statement}
+use Rattle.store.proofs.refusals.busy.Tie as tie
+
+mode-requires : tie.Need-mode-requires
+mode-requires c κs = search needs
+
+returns : tie.Need-returns
+returns c = cc
+
+pub busy-spec : {M : Type 1} → statement M
+busy-spec = tie.close (tie.spec mode-requires returns)

@@ -1,0 +1,75 @@
+// The store: five calls on one lent block of words (document 01: fresh, start a read, start a write, deliver, show), for C. Each returns a
+// number: refused, the refusal; accepted, 0 in the lowest byte and the answer above it (`numberOfAnswer`).
+ghost use mathlib.Core.Path.{_≡_};
+ghost use Rattle.protocol.specs.Calls.{startRead, startWrite, deliver, show, numberOfAnswer};
+ghost use Rattle.layout.specs.Decode.{tablesOf};
+ghost use Rattle.range.specs.Sized.{sizes};
+ghost use Rattle.store.specs.Calls.{freshAnswerOn, freshAfter, freshTables, answerOn, outputOn, blockAfter, tablesAfter, Fits};
+use protocol::Answer;
+
+pub mod calls;
+mod refusals;
+
+// The number that tells this answer.
+fn number_of(a: Answer) -> u64
+    requires { ⌜ Fits a ⌝ }
+    ensures { λ r. ⌜ r ≡ numberOfAnswer a ⌝ }
+{
+    match a {
+        Answer::Refused(refusal) => refusal,
+        Answer::Made => 0,
+        Answer::Started { length } => length * 256,
+        Answer::Delivered {
+            kind,
+            length,
+            outcome,
+        } => kind * 256 + length * 65536 + outcome * 4294967296,
+        Answer::Shown { length } => length * 256,
+    }
+}
+
+#[no_mangle]
+pub extern "C" fn koolvent_fresh(b: &mut [u64], clients: u64, partitions: u64, items: u64) -> u64
+    ensures answer { λ r. ⌜ r ≡ numberOfAnswer (freshAnswerOn (now (b .entry)) (sizes clients partitions items)) ⌝ }
+    ensures block { λ _. ⌜ now (b .exit) ≡ freshAfter (now (b .entry)) (sizes clients partitions items) ⌝ }
+    ensures tables { λ _. ⌜ tablesOf (now (b .exit)) ≡ freshTables (now (b .entry)) (sizes clients partitions items) ⌝ }
+{
+    number_of(calls::fresh(b, clients, partitions, items))
+}
+
+#[no_mangle]
+pub extern "C" fn koolvent_start_read(b: &mut [u64], client: u64, set: u64) -> u64
+    ensures answer { λ r. ⌜ r ≡ numberOfAnswer (answerOn (now (b .entry)) (startRead client set)) ⌝ }
+    ensures block { λ _. ⌜ now (b .exit) ≡ blockAfter (now (b .entry)) (startRead client set) ⌝ }
+    ensures tables { λ _. ⌜ tablesOf (now (b .exit)) ≡ tablesAfter (now (b .entry)) (startRead client set) ⌝ }
+{
+    number_of(calls::start_read(b, client, set))
+}
+
+#[no_mangle]
+pub extern "C" fn koolvent_start_write(b: &mut [u64], client: u64, set: u64, values: &[u8]) -> u64
+    ensures answer { λ r. ⌜ r ≡ numberOfAnswer (answerOn (now (b .entry)) (startWrite client set (now (values .entry)))) ⌝ }
+    ensures block { λ _. ⌜ now (b .exit) ≡ blockAfter (now (b .entry)) (startWrite client set (now (values .entry))) ⌝ }
+    ensures tables { λ _. ⌜ tablesOf (now (b .exit)) ≡ tablesAfter (now (b .entry)) (startWrite client set (now (values .entry))) ⌝ }
+{
+    number_of(calls::start_write(b, client, set, values))
+}
+
+#[no_mangle]
+pub extern "C" fn koolvent_deliver(b: &mut [u64], place: u64) -> u64
+    ensures answer { λ r. ⌜ r ≡ numberOfAnswer (answerOn (now (b .entry)) (deliver place)) ⌝ }
+    ensures block { λ _. ⌜ now (b .exit) ≡ blockAfter (now (b .entry)) (deliver place) ⌝ }
+    ensures tables { λ _. ⌜ tablesOf (now (b .exit)) ≡ tablesAfter (now (b .entry)) (deliver place) ⌝ }
+{
+    number_of(calls::deliver(b, place))
+}
+
+// The block is lent shared: a showing doesn't change it.
+#[no_mangle]
+pub extern "C" fn koolvent_show(b: &[u64], client: u64, output: &mut [u8]) -> u64
+    ensures answer { λ r. ⌜ r ≡ numberOfAnswer (answerOn (now (b .entry)) (show client (now (output .entry)))) ⌝ }
+    ensures block { λ _. ⌜ now (b .exit) ≡ blockAfter (now (b .entry)) (show client (now (output .entry))) ⌝ }
+    ensures output { λ _. ⌜ now (output .exit) ≡ outputOn (now (b .entry)) (show client (now (output .entry))) ⌝ }
+{
+    number_of(calls::show(b, client, output))
+}
