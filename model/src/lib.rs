@@ -9,6 +9,7 @@ pub mod promise;
 #[cfg(feature = "proved")]
 pub mod proved;
 pub mod random;
+pub mod random_tables;
 pub mod runs;
 pub mod store;
 pub mod trials;

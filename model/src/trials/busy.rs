@@ -3,8 +3,9 @@
 use super::leftovers::leftovers;
 use crate::layout::{fields, places, Field, NEEDED};
 use crate::random::Random;
+use crate::random_tables::Maker;
 use crate::runs::{tables_amid, Sort};
-use crate::store::tables::Tables;
+use crate::store::tables::{Tables, LOAD_CAPACITY};
 
 /// A block, the tables that it holds, and their fields by place.
 #[derive(Clone, Debug)]
@@ -18,6 +19,13 @@ impl Busy {
     /// The block from the middle of the run that a seed gives.
     pub fn new(sort: Sort, seed: u64) -> Busy {
         Busy::holding(tables_amid(sort, seed), seed)
+    }
+
+    /// A block of tables unlike any that calls leave.
+    pub fn unlike_any(seed: u64) -> Busy {
+        let mut tables = Maker::new(seed).tables();
+        tables.messages.truncate(LOAD_CAPACITY as usize);
+        Busy::holding(tables, seed)
     }
 
     /// A block of these tables, and some words past its needed length. By the seed, words that are no field are 0,

@@ -61,6 +61,18 @@ fn assert_both_met(judged: &Judged, times: usize) {
 }
 
 #[test]
+fn every_field_of_blocks_unlike_any_that_calls_leave() {
+    let mut random = Random::new(2);
+    let mut judged = Judged::default();
+    for seed in 0..30 {
+        let held = every_field(&valid, &Busy::unlike_any(seed), &mut random, &mut judged);
+        assert_eq!(held, Ok(()), "block {seed}");
+    }
+    assert!(judged.damages() >= 50_000, "{judged:?}");
+    assert_both_met(&judged, 10);
+}
+
+#[test]
 fn every_field_of_small_blocks() {
     let judged = judged(Sort::Small, 300_000..300_080, EVERY_FIELD);
     assert!(judged.damages() >= 60_000, "{judged:?}");

@@ -18,13 +18,24 @@ fn met(blocks: Vec<Busy>) -> Met {
 #[test]
 fn busy_blocks() {
     let small = (0..20).map(|seed| Busy::new(Sort::Small, seed));
-    let any_size = (20..40).map(|seed| Busy::new(Sort::AnySize, seed));
-    let crowded = (40..44).map(|seed| Busy::new(Sort::Crowded, seed));
+    let any_size = (20..30).map(|seed| Busy::new(Sort::AnySize, seed));
+    let crowded = (40..43).map(|seed| Busy::new(Sort::Crowded, seed));
     let met = met(small.chain(any_size).chain(crowded).collect());
     assert!(met.rarest_accepted() >= 10, "{met:?}");
     assert_eq!(
         met.refusals(10),
         [1, 2, 3, 4, 5, 6, 8, 9, 10, 13, 14],
+        "{met:?}"
+    );
+}
+
+#[test]
+fn blocks_unlike_any_that_calls_leave() {
+    let met = met((0..20).map(Busy::unlike_any).collect());
+    assert!(met.rarest_accepted() >= 5, "{met:?}");
+    assert_eq!(
+        met.refusals(5),
+        [1, 2, 3, 4, 5, 6, 7, 8, 10, 11, 12, 13, 14],
         "{met:?}"
     );
 }

@@ -1,0 +1,163 @@
+//! Random tables whose fields are in range, otherwise unlike any that calls leave.
+
+use crate::random::Random;
+use crate::store::message::Message;
+use crate::store::stamp::{Entry, Stamp};
+use crate::store::tables::{
+    Client, Ended, Sizes, Tables, Version, IDLE, NONE, READ, READING, WRITE, WRITING,
+};
+
+/// Makes tables whose fields are in range, otherwise unlike any that calls leave.
+pub struct Maker {
+    pub random: Random,
+    pub sizes: Sizes,
+}
+
+impl Maker {
+    pub fn new(seed: u64) -> Maker {
+        let mut random = Random::new(seed);
+        let sizes = Sizes::new(
+            random.between(1, 3),
+            random.between(1, 3),
+            random.between(1, 4),
+        );
+        Maker { random, sizes }
+    }
+
+    pub fn item(&mut self) -> u64 {
+        self.random.below(self.sizes.items)
+    }
+
+    pub fn client(&mut self) -> u64 {
+        self.random.between(1, self.sizes.clients)
+    }
+
+    pub fn set(&mut self) -> u64 {
+        self.random.number() & (u64::MAX >> (64 - self.sizes.items))
+    }
+
+    fn written_stamp(&mut self) -> Stamp {
+        Stamp::new(self.random.between(1, 2), self.client())
+    }
+
+    fn stamp(&mut self) -> Stamp {
+        if self.random.percent(30) {
+            Stamp::INITIAL
+        } else {
+            self.written_stamp()
+        }
+    }
+
+    fn entry(&mut self) -> Entry {
+        Entry::new(self.stamp(), self.set())
+    }
+
+    fn version(&mut self) -> Version {
+        let item = self.item();
+        Version {
+            item,
+            value: self.random.below(5),
+            stamp: self.written_stamp(),
+            set: self.set() | 1 << item,
+        }
+    }
+
+    fn record(&mut self, client: u64) -> Client {
+        let mode = self.random.pick(&[IDLE, READING, WRITING]);
+        let mut one = self.stamp();
+        if self.random.percent(70) {
+            one = Stamp::new(self.random.between(1, 2), client);
+        }
+        let mut record = Client {
+            mode,
+            count: self.random.pick(&[0, 1, 5, 4_294_967_294, 4_294_967_295]),
+            set: self.set(),
+            last: self.ended(),
+            ..Client::INITIAL
+        };
+        if mode != IDLE {
+            let awaited = self.item();
+            record.set |= 1 << awaited;
+            record.awaited = record.set & (self.set() | 1 << awaited);
+        }
+        for item in 0..self.sizes.items as usize {
+            if record.set >> item & 1 == 1 {
+                record.stamps[item] = if mode == WRITING { one } else { self.stamp() };
+                record.values[item] = self.random.below(5);
+            }
+        }
+        record
+    }
+
+    fn ended(&mut self) -> Ended {
+        let mut ended = Ended {
+            kind: self.random.pick(&[NONE, READ, WRITE]),
+            ..Ended::NONE
+        };
+        if ended.kind == NONE {
+            return ended;
+        }
+        ended.set = self.set();
+        for item in 0..self.sizes.items as usize {
+            if ended.set >> item & 1 == 1 {
+                ended.values[item] = self.random.below(5);
+                if ended.kind == READ {
+                    ended.stamps[item] = self.stamp();
+                }
+            }
+        }
+        if ended.kind == WRITE {
+            ended.stamp = self.stamp();
+        }
+        ended
+    }
+
+    /// A message, often one that a client of the tables awaits.
+    fn message(&mut self, tables: &Tables) -> Message {
+        let (client, item) = (self.client(), self.item());
+        let awaited = tables.client(client).stamps[item as usize];
+        let stamp = if self.random.percent(60) && awaited != Stamp::INITIAL {
+            awaited
+        } else {
+            self.written_stamp()
+        };
+        match self.random.below(5) {
+            0 => Message::Prepare(self.version()),
+            1 => Message::Prepared { item, stamp },
+            2 => Message::Commit {
+                partition: self.random.below(self.sizes.partitions),
+                stamp,
+            },
+            3 => Message::Get {
+                client,
+                item,
+                stamp: self.stamp(),
+            },
+            _ => Message::Got {
+                client,
+                item,
+                value: self.random.below(5),
+                stamp: awaited,
+                latest: self.entry(),
+            },
+        }
+    }
+
+    pub fn tables(&mut self) -> Tables {
+        let mut tables = Tables::fresh(self.sizes);
+        for item in 0..self.sizes.items as usize {
+            tables.latest[item] = self.entry();
+            for client in 0..self.sizes.clients as usize {
+                tables.view[client][item] = self.entry();
+            }
+        }
+        for client in 1..=self.sizes.clients {
+            *tables.client_mut(client) = self.record(client);
+        }
+        let versions = self.random.pick(&[0, 3, 3, 10, 10, 511]);
+        tables.versions = (0..versions).map(|_| self.version()).collect();
+        let messages = self.random.pick(&[1, 5, 5, 30, 30, 126, 129]);
+        tables.messages = (0..messages).map(|_| self.message(&tables)).collect();
+        tables
+    }
+}
