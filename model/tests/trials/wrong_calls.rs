@@ -34,6 +34,7 @@ fn damages_catch_wrong_words() {
         Wrong::ClearsThePlaceLeft,
         Wrong::ClearsAskedAtAnEnd,
         Wrong::KeepsTheSetAtAnEnd,
+        Wrong::LeavesValuesAtAnEnd,
         Wrong::TooManyValues,
         Wrong::ShowsPastTheFrame,
         Wrong::ShowsWhatFits,

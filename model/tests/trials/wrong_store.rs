@@ -27,6 +27,8 @@ pub enum Wrong {
     ClearsAskedAtAnEnd,
     /// The end of a transaction leaves the client its set.
     KeepsTheSetAtAnEnd,
+    /// The end of a transaction leaves the values that were there.
+    LeavesValuesAtAnEnd,
     /// Clients are taken modulo 256.
     NarrowClients,
     /// Places are taken modulo 65,536.
@@ -91,9 +93,13 @@ impl Wrong {
                 continue;
             }
             let set = places::scalar(client, Scalar::Set);
+            let values = places::value(client, 0)..places::value(client, 0) + 64;
             match self {
                 Wrong::ClearsAskedAtAnEnd => after[places::asked(client, 0)..][..64].fill(0),
                 Wrong::KeepsTheSetAtAnEnd => after[set] = before[set],
+                Wrong::LeavesValuesAtAnEnd => {
+                    after[values.clone()].copy_from_slice(&before[values]);
+                }
                 _ => (),
             }
         }
