@@ -1,0 +1,4 @@
+-- The proofs of `frames`, and the laws that they share.
+pub mod Parsing
+pub mod Reading
+mod Writing

@@ -1,0 +1,15 @@
+-- `frames::is_decoded` meets its contract. Assumes nothing.
+use borrow.Author.Needs.{needs}
+use Rattle.frames.specs.Frames.{isDecoded}
+use Rattle.frames.proofs.is_decoded.Statement.{statement}
+use Rattle.frames.proofs.is_decoded.Tie as tie
+
+is-ended-requires : tie.Need-is-ended-requires
+is-ended-requires c κs = search needs
+
+returns : tie.Need-returns
+unfolding isDecoded
+returns c = cc
+
+pub is-decoded-spec : {M : Type 1} → statement M
+is-decoded-spec = tie.close (tie.spec is-ended-requires returns)

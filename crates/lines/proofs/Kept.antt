@@ -1,0 +1,75 @@
+-- The bytes kept of a line begun, and what one byte more leads to. Assumes nothing.
+use mathlib.Core.Bool.{true, false}
+use mathlib.Core.List.{List, [], _∷_, _++_}
+use mathlib.Core.Path.{_≡_, refl, sym, ap, _∙_}
+use Prim.Native.Nat.{ℕ, zero, suc, _+_, _≤_, _<_}
+use native.Mathlib.Numerals.{add-one}
+use native.Mathlib.Omega.{arith}
+use lib.Dec.{eqb}
+use lib.ListN.{length, take, set, length-append}
+use lib.Seq.{sets, take-all, take-suc-set, take-append-le, length-take-le}
+use Rattle.lines.specs.Input.{joined, keptAfter, byteReply, byteBlock, endReply, endBlock}
+use Rattle.lines.specs.Lines.{lineReply, lineBlock}
+
+-- ---- a byte is kept
+
+module _ (line : List ℕ) (at c : ℕ) (wide : length line ≡ 534) where
+  pub joined-short : at < 534 → take (at + 1) (set line at c) ≡ joined (take at line) c
+  joined-short h =
+      let short : length (take at line) ≡ at = length-take-le at line (omega arith) in
+      ap (λ (n : ℕ). take n (set line at c)) (add-one at)
+      ∙ take-suc-set line at c (omega arith)
+      ∙ sym (take-all 534 (take at line ++ c ∷ []) (omega (arith, length-append (take at line) (c ∷ []))))
+
+  pub joined-full : 534 ≤ at → take 534 line ≡ joined (take at line) c
+  joined-full h =
+      let whole : take at line ≡ line = take-all at line (omega arith) in
+      sym (take-append-le 534 line (c ∷ []) (omega arith))
+      ∙ ap (λ (l : List ℕ). joined l c) (sym whole)
+
+-- ---- a line is answered
+
+-- what answering line l on block b gives: the reply's length, the output and the block after it
+abbrev pub Answered : (b out : List ℕ) (r : ℕ) (o w : List ℕ) → List ℕ → Type 0
+Answered b out r o w l = (r ≡ length (lineReply b l)) × ((o ≡ sets out 0 (lineReply b l)) × (w ≡ lineBlock b l))
+
+pub answered-same : (b out : List ℕ) {r : ℕ} {o w l m : List ℕ} → l ≡ m → Answered b out r o w l → Answered b out r o w m
+answered-same b out e a = (
+  a .0 ∙ ap (λ (x : List ℕ). length (lineReply b x)) e,
+  (
+    a .1 .0 ∙ ap (λ (x : List ℕ). sets out 0 (lineReply b x)) e,
+    a .1 .1 ∙ ap (lineBlock b) e,
+  ),
+)
+
+-- what a byte c behind the bytes kept leads to, where l is kept then
+abbrev pub FedBy : (b out : List ℕ) (r : ℕ) (o w kept : List ℕ) (c : ℕ) → List ℕ → Type 0
+FedBy b out r o w kept c l =
+    (l ≡ keptAfter kept c) × ((r ≡ length (byteReply b kept c)) × ((o ≡ sets out 0 (byteReply b kept c)) × (w ≡ byteBlock b kept c)))
+
+pub fed-end : (b out kept : List ℕ) (c : ℕ) {r : ℕ} {o w l : List ℕ} → eqb c 0x0a ≡ true → l ≡ joined kept c → Answered b out r o w l → FedBy b out r o w kept c []
+unfolding keptAfter byteReply byteBlock
+fed-end b out kept c e q a = rw e (refl, answered-same b out q a)
+
+pub fed-within : (b out kept : List ℕ) (c : ℕ) {l : List ℕ} → eqb c 0x0a ≡ false → l ≡ joined kept c → FedBy b out 0 out b kept c l
+unfolding keptAfter byteReply byteBlock
+fed-within b out kept c e q = rw e (q, (refl, (refl, refl)))
+
+-- ---- the end of the input
+
+abbrev pub EndedBy : (b out : List ℕ) (r : ℕ) (o w kept : List ℕ) → Type 0
+EndedBy b out r o w kept = (r ≡ length (endReply b kept)) × ((o ≡ sets out 0 (endReply b kept)) × (w ≡ endBlock b kept))
+
+pub end-none : (b out line : List ℕ) (at : ℕ) → at ≡ 0 → EndedBy b out 0 out b (take at line)
+unfolding endReply endBlock
+end-none b out line at z = rw z (refl, (refl, refl))
+
+pub end-some : (b out kept : List ℕ) {r : ℕ} {o w : List ℕ} → 1 ≤ length kept → Answered b out r o w kept → EndedBy b out r o w kept
+unfolding endReply endBlock
+end-some b out [] h a = absurd (omega arith)
+end-some b out (x ∷ kept) h a = a
+
+pub take-some : (at : ℕ) (line : List ℕ) → 1 ≤ at → 1 ≤ length line → 1 ≤ length (take at line)
+take-some zero line p q = absurd (omega arith)
+take-some (suc at) [] p q = absurd (omega arith)
+take-some (suc at) (x ∷ line) p q = omega arith

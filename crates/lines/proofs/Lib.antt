@@ -1,0 +1,5 @@
+-- The proofs of `lines`, and the laws that they share.
+mod Calls
+pub mod Unmade
+mod Kept
+pub mod Whole

@@ -1,0 +1,183 @@
+-- `lines::call` meets its contract, frame by frame; the values of a write are the rest of its bytes. Assumes nothing.
+use borrow.Author.Needs.{needs}
+use mathlib.Core.Path.{sym, ap, _∙_}
+use mathlib.Core.List.{List}
+use Prim.Native.Nat.{ℕ}
+use native.Mathlib.Omega.{arith}
+use lib.ListN.{length}
+use Rattle.protocol.specs.Calls.{startWrite}
+use Rattle.store.specs.Calls.{answerOn, blockAfter}
+use Rattle.frames.specs.declared.StoreFrame.{StoreFrame}
+use Rattle.frames.specs.declared.Parsed.the-variants.{Frame}
+use Rattle.frames.proofs.Parsing.{parsed-write}
+use Rattle.lines.specs.Lines.{callAnswer, callBlock, callOutput}
+use Rattle.lines.proofs.Calls.{rest-whole}
+use Rattle.lines.proofs.call.Statement.{statement}
+use Rattle.lines.proofs.call.Tie as tie
+
+enum-known-frame : tie.Need-enum-known-frame
+enum-known-frame c = search needs
+
+fresh-requires : tie.Need-fresh-requires
+fresh-requires c κs = search needs
+
+enum-known-frame-2 : tie.Need-enum-known-frame-2
+enum-known-frame-2 c = search needs
+
+start-read-requires : tie.Need-start-read-requires
+start-read-requires c κs = search needs
+
+enum-known-frame-3 : tie.Need-enum-known-frame-3
+enum-known-frame-3 c = search needs
+
+sub-start-write : tie.Need-sub-start-write
+sub-start-write c = omega (arith, parsed-write (c .before .before .before .before .before .before .before .args .f .now) _ _ (length (c .before .before .before .before .before .before .before .args .f .now)) (ap (λ (g : StoreFrame). Frame g (length (c .before .before .before .before .before .before .before .args .f .now))) (sym (c .before .before .frame3 .given .1)) ∙ c .before .before .before .before .before .before .before .pre))
+
+part-start-write-start : tie.Need-part-start-write-start
+part-start-write-start c = omega (arith, parsed-write (c .before .before .before .before .before .before .before .args .f .now) _ _ (length (c .before .before .before .before .before .before .before .args .f .now)) (ap (λ (g : StoreFrame). Frame g (length (c .before .before .before .before .before .before .before .args .f .now))) (sym (c .before .before .frame3 .given .1)) ∙ c .before .before .before .before .before .before .before .pre))
+
+part-start-write-end : tie.Need-part-start-write-end
+part-start-write-end c = search needs
+
+start-write-requires : tie.Need-start-write-requires
+start-write-requires c κs = search needs
+
+enum-known-frame-4 : tie.Need-enum-known-frame-4
+enum-known-frame-4 c = search needs
+
+deliver-requires : tie.Need-deliver-requires
+deliver-requires c κs = search needs
+
+enum-known-frame-5 : tie.Need-enum-known-frame-5
+enum-known-frame-5 c = search needs
+
+show-requires : tie.Need-show-requires
+show-requires c κs = search needs
+
+same-length : tie.Need-same-length
+same-length c = search needs
+
+returns : tie.Need-returns
+unfolding callAnswer callBlock callOutput
+returns c =
+    let a = c .before .before .before .before .before .before .before .before .before .before .args in
+    let b = a .b .now in
+    let f = a .f .now in
+    let o = a .shown .now in
+    let told = c .before .before .before .before .before .frame .given .1 in (
+      c .before .before .fresh .ensures .0 ∙ sym (ap (callAnswer b f o) told),
+      (
+        c .before .before .fresh .ensures .1 .0 ∙ sym (ap (callBlock b f o) told),
+        sym (ap (callOutput b f o) told),
+      ),
+    )
+
+same-length-2 : tie.Need-same-length-2
+same-length-2 c = search needs
+
+returns-2 : tie.Need-returns-2
+unfolding callAnswer callBlock callOutput
+returns-2 c =
+    let a = c .before .before .before .before .before .before .before .before .before .before .args in
+    let b = a .b .now in
+    let f = a .f .now in
+    let o = a .shown .now in
+    let told = c .before .before .before .before .before .frame2 .given .1 in (
+      c .before .before .start-read .ensures .0 ∙ sym (ap (callAnswer b f o) told),
+      (
+        c .before .before .start-read .ensures .1 .0 ∙ sym (ap (callBlock b f o) told),
+        sym (ap (callOutput b f o) told),
+      ),
+    )
+
+same-length-3 : tie.Need-same-length-3
+same-length-3 c = search needs
+
+returns-3 : tie.Need-returns-3
+unfolding callAnswer callBlock callOutput
+returns-3 c =
+    let a = c .before .before .before .before .before .before .before .before .before .before .before .args in
+    let b = a .b .now in
+    let f = a .f .now in
+    let o = a .shown .now in
+    let held = c .before .before .before .before .before .before .frame3 .given .0 in
+    let told = c .before .before .before .before .before .before .frame3 .given .1 in
+    let values = rest-whole 10 f in (
+      c .before .before .start-write .ensures .0
+          ∙ ap (λ (v : List ℕ). answerOn b (startWrite (held .0) (held .1 .0) v)) values
+          ∙ sym (ap (callAnswer b f o) told),
+      (
+        c .before .before .start-write .ensures .1 .0
+            ∙ ap (λ (v : List ℕ). blockAfter b (startWrite (held .0) (held .1 .0) v)) values
+            ∙ sym (ap (callBlock b f o) told),
+        sym (ap (callOutput b f o) told),
+      ),
+    )
+
+same-length-4 : tie.Need-same-length-4
+same-length-4 c = search needs
+
+returns-4 : tie.Need-returns-4
+unfolding callAnswer callBlock callOutput
+returns-4 c =
+    let a = c .before .before .before .before .before .before .before .before .before .before .args in
+    let b = a .b .now in
+    let f = a .f .now in
+    let o = a .shown .now in
+    let told = c .before .before .before .before .before .frame4 .given .1 in (
+      c .before .before .deliver .ensures .0 ∙ sym (ap (callAnswer b f o) told),
+      (
+        c .before .before .deliver .ensures .1 .0 ∙ sym (ap (callBlock b f o) told),
+        sym (ap (callOutput b f o) told),
+      ),
+    )
+
+same-length-5 : tie.Need-same-length-5
+same-length-5 c = search needs
+
+same-length-6 : tie.Need-same-length-6
+same-length-6 c = search needs
+
+returns-5 : tie.Need-returns-5
+unfolding callAnswer callBlock callOutput
+returns-5 c =
+    let a = c .before .before .before .before .before .before .before .before .before .before .before .args in
+    let b = a .b .now in
+    let f = a .f .now in
+    let o = a .shown .now in
+    let told = c .before .before .before .before .before .before .frame5 .given .1 in (
+      c .before .before .show .ensures .0 ∙ sym (ap (callAnswer b f o) told),
+      (
+        c .before .before .show .ensures .1 .0 ∙ sym (ap (callBlock b f o) told),
+        c .before .before .show .ensures .1 .1 ∙ sym (ap (callOutput b f o) told),
+      ),
+    )
+
+pub call-spec : {M : Type 1} → statement M
+call-spec =
+    tie.close
+    (tie.spec
+    enum-known-frame
+    fresh-requires
+    enum-known-frame-2
+    start-read-requires
+    enum-known-frame-3
+    sub-start-write
+    part-start-write-start
+    part-start-write-end
+    start-write-requires
+    enum-known-frame-4
+    deliver-requires
+    enum-known-frame-5
+    show-requires
+    same-length
+    returns
+    same-length-2
+    returns-2
+    same-length-3
+    returns-3
+    same-length-4
+    returns-4
+    same-length-5
+    same-length-6
+    returns-5)

@@ -1,0 +1,65 @@
+-- An input, cut into lines after each 0a, and what the driver answers to it: one line a line, each carried out on the block that the line
+-- before it left. The driver sees one byte at a time, and keeps at most 534 bytes of a line: no frame's line has more than 533.
+-- Assumes nothing.
+use mathlib.Core.Bool.{cond}
+use mathlib.Core.List.{List, [], _∷_, _++_}
+use Prim.Native.Nat.{ℕ}
+use lib.Dec.{eqb}
+use lib.ListN.{take}
+use Rattle.lines.specs.Lines.{lineReply, lineBlock}
+
+-- ---- the whole input
+
+-- a line begun, and never ended
+unfoldable pub lastLine : List ℕ → List (List ℕ)
+lastLine [] = []
+lastLine (x ∷ begun) = (x ∷ begun) ∷ []
+
+-- the lines of an input, the first of which has begun: each with its 0a, which the last one may lack
+unfoldable pub linesFrom : List ℕ → List ℕ → List (List ℕ)
+linesFrom begun [] = lastLine begun
+linesFrom begun (c ∷ input) =
+    let ended = (begun ++ c ∷ []) ∷ linesFrom [] input in
+    let longer = linesFrom (begun ++ c ∷ []) input in
+    cond (eqb c 0x0a) ended longer
+
+abbrev pub linesOf : List ℕ → List (List ℕ)
+linesOf input = linesFrom [] input
+
+unfoldable pub repliesTo : List ℕ → List (List ℕ) → List ℕ
+repliesTo b [] = []
+repliesTo b (line ∷ lines) = lineReply b line ++ repliesTo (lineBlock b line) lines
+
+-- the block after them
+unfoldable pub linesBlock : List ℕ → List (List ℕ) → List ℕ
+linesBlock b [] = b
+linesBlock b (line ∷ lines) = linesBlock (lineBlock b line) lines
+
+-- ---- byte by byte: the bytes kept of the line begun
+
+-- with one byte more
+abbrev pub joined : List ℕ → ℕ → List ℕ
+joined kept c = take 534 (kept ++ c ∷ [])
+
+unfoldable pub keptAfter : List ℕ → ℕ → List ℕ
+keptAfter kept c = cond (eqb c 0x0a) [] (joined kept c)
+
+unfoldable pub byteReply : List ℕ → List ℕ → ℕ → List ℕ
+byteReply b kept c = cond (eqb c 0x0a) (lineReply b (joined kept c)) []
+
+unfoldable pub byteBlock : List ℕ → List ℕ → ℕ → List ℕ
+byteBlock b kept c = cond (eqb c 0x0a) (lineBlock b (joined kept c)) b
+
+-- at the end of the input: a line begun is a line without its 0a
+unfoldable pub endReply : List ℕ → List ℕ → List ℕ
+endReply b [] = []
+endReply b (x ∷ kept) = lineReply b (x ∷ kept)
+
+unfoldable pub endBlock : List ℕ → List ℕ → List ℕ
+endBlock b [] = b
+endBlock b (x ∷ kept) = lineBlock b (x ∷ kept)
+
+-- all that is answered to these bytes, and at their end
+unfoldable pub inputReply : List ℕ → List ℕ → List ℕ → List ℕ
+inputReply b kept [] = endReply b kept
+inputReply b kept (c ∷ input) = byteReply b kept c ++ inputReply (byteBlock b kept c) (keptAfter kept c) input

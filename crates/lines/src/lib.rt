@@ -1,0 +1,70 @@
+// A line of the store's driver: parsed, carried out on the block, and answered by a line (document 01: frames).
+pub mod input;
+
+use frames::Parsed;
+use frames::StoreFrame;
+use protocol::Answer;
+ghost use mathlib.Core.Path.{_≡_};
+ghost use lib.ListN.{length};
+ghost use lib.Seq.{sets};
+ghost use Rattle.frames.specs.Frames.{frameBytes, frameOf, parsed};
+ghost use Rattle.lines.specs.Lines.{callAnswer, callBlock, callOutput, parsedAnswer, parsedBlock, parsedOutput, blank, lineReply, lineBlock};
+
+// The call of a frame, whose bytes are `f`. A write's values are those from byte 10 on.
+fn call(b: &mut [u64], frame: StoreFrame, f: &[u8], shown: &mut [u8]) -> Answer
+    requires { ⌜ Parsed.Frame frame (length (now f)) ≡ parsed (now f) ⌝ }
+    ensures { λ r. ⌜ r ≡ callAnswer (now (b .entry)) (now (f .entry)) (now (shown .entry)) frame ⌝ }
+    ensures { λ _. ⌜ now (b .exit) ≡ callBlock (now (b .entry)) (now (f .entry)) (now (shown .entry)) frame ⌝ }
+    ensures { λ _. ⌜ now (shown .exit) ≡ callOutput (now (b .entry)) (now (f .entry)) (now (shown .entry)) frame ⌝ }
+{
+    match frame {
+        StoreFrame::Fresh {
+            clients,
+            partitions,
+            items,
+        } => store::calls::fresh(b, clients, partitions, items),
+        StoreFrame::Read { client, set } => store::calls::start_read(b, client, set),
+        StoreFrame::Write { client, set } => store::calls::start_write(b, client, set, &f[10..]),
+        StoreFrame::Deliver { place } => store::calls::deliver(b, place),
+        StoreFrame::Show { client } => store::calls::show(b, client, shown),
+    }
+}
+
+// Room for the bytes of the longest frame.
+fn blank_frame() -> [u8; 266]
+    ensures { λ r. ⌜ 266 ≡ length r ⌝ }
+{
+    [0u8; 266]
+}
+
+// Room for the longest log frame.
+fn blank_output() -> [u8; 586]
+    ensures { λ r. ⌜ r ≡ blank ⌝ }
+{
+    [0u8; 586]
+}
+
+// The call of a line's frame; 15 where the line is malformed.
+fn carry_out(b: &mut [u64], line: &[u8], shown: &mut [u8]) -> Answer
+    ensures { λ r. ⌜ r ≡ parsedAnswer (now (b .entry)) (frameBytes (now (line .entry))) (now (shown .entry)) (frameOf (now (line .entry))) ⌝ }
+    ensures { λ _. ⌜ now (b .exit) ≡ parsedBlock (now (b .entry)) (frameBytes (now (line .entry))) (now (shown .entry)) (frameOf (now (line .entry))) ⌝ }
+    ensures { λ _. ⌜ now (shown .exit) ≡ parsedOutput (now (b .entry)) (frameBytes (now (line .entry))) (now (shown .entry)) (frameOf (now (line .entry))) ⌝ }
+{
+    let mut bytes = blank_frame();
+    let parsed = frames::read_frame(line, &mut bytes);
+    let Parsed::Frame { frame, length } = parsed else {
+        return Answer::Refused(15);
+    };
+    call(b, frame, &bytes[0..length], shown)
+}
+
+// Carries out a line on the block, writes the line that answers it to the front of `output`, and gives that line's length.
+pub fn answer_line(b: &mut [u64], line: &[u8], output: &mut [u8; 1175]) -> usize
+    ensures { λ r. ⌜ r ≡ length (lineReply (now (b .entry)) (now (line .entry))) ⌝ }
+    ensures { λ _. ⌜ now (output .exit) ≡ sets (now (output .entry)) 0 (lineReply (now (b .entry)) (now (line .entry))) ⌝ }
+    ensures { λ _. ⌜ now (b .exit) ≡ lineBlock (now (b .entry)) (now (line .entry)) ⌝ }
+{
+    let mut shown = blank_output();
+    let answer = carry_out(b, line, &mut shown);
+    frames::put_answer(answer, &shown, output)
+}
