@@ -1,0 +1,103 @@
+//! Lines of every length: truncated frames, lines about the longest frame's, lines of a megabyte, last lines without 0a.
+
+use crate::program::{agreed, printed};
+
+/// A frame of each kind, the shortest and the longest write among them.
+fn frames() -> Vec<String> {
+    let write = |values: usize| format!("0301000000000000000f{}", "0000002a".repeat(values));
+    let others = ["01020204", "0201000000000000000f", "040000", "0501"];
+    let writes = [0, 1, 4, 64].map(write);
+    others
+        .map(str::to_owned)
+        .into_iter()
+        .chain(writes)
+        .collect()
+}
+
+const FRESH: &str = "01020204\n";
+
+/// The line between a fresh start and a read that is accepted.
+fn amid(line: &[u8]) -> Vec<u8> {
+    let before = FRESH.as_bytes();
+    [before, line, b"\n0202000000000000000f\n040000\n"].concat()
+}
+
+#[test]
+fn every_truncation_of_a_frame() {
+    let mut input = Vec::new();
+    for frame in frames() {
+        for length in 0..=frame.len() {
+            input.extend(amid(&frame.as_bytes()[..length]));
+        }
+    }
+    agreed(&input, 4_096);
+}
+
+#[test]
+fn every_byte_in_place_of_a_digit() {
+    let mut input = Vec::new();
+    for frame in frames() {
+        for place in 0..frame.len().min(30) {
+            for byte in (0..=255).filter(|byte| *byte != b'\n') {
+                let mut line = frame.clone().into_bytes();
+                line[place] = byte;
+                input.extend(amid(&line));
+            }
+        }
+    }
+    agreed(&input, 50_000);
+}
+
+#[test]
+fn a_last_line_without_its_end() {
+    for frame in frames() {
+        let ends = (0..=frame.len()).filter(|end| *end < 30 || *end + 3 > frame.len());
+        for length in ends {
+            let last = &frame[..length];
+            agreed(format!("{FRESH}{last}").as_bytes(), 5);
+            agreed(last.as_bytes(), 4_096);
+        }
+    }
+    agreed(&[FRESH.as_bytes(), &[b'0'; 1 << 20]].concat(), 30_000);
+}
+
+#[test]
+fn no_bytes_no_answer() {
+    assert_eq!(printed(b"", 1), "");
+    assert_eq!(printed(b"\n", 1), "0f\n");
+}
+
+#[test]
+fn lines_about_the_length_of_the_longest_frame_and_of_buffers() {
+    let around = |length: usize| length - 6..length + 7;
+    let lengths = [532, 1_024, 4_096, 8_192, 65_536]
+        .into_iter()
+        .flat_map(around);
+    let mut input = Vec::new();
+    for length in lengths {
+        for beginning in ["", "01020204", "0301000000000000000f"] {
+            let mut line = beginning.as_bytes().to_vec();
+            line.resize(length, b'0');
+            input.extend(amid(&line));
+        }
+    }
+    agreed(&input, 1 << 20);
+    agreed(&input, 4_095);
+}
+
+#[test]
+fn lines_of_a_megabyte() {
+    for byte in [b'0', b'f', b'A', b'\r', 0, 255] {
+        let line = vec![byte; 1 << 20];
+        let input = [amid(&line), amid(&[b"01020204", &line[..]].concat())].concat();
+        agreed(&input, 100_000);
+    }
+}
+
+#[test]
+fn a_million_empty_lines() {
+    assert_eq!(
+        printed(&vec![b'\n'; 1_000_000], 60_000),
+        "0f\n".repeat(1_000_000)
+    );
+}
