@@ -2,6 +2,7 @@
 //! It is written from the specification alone and shares nothing with the proved crates.
 
 pub mod block;
+pub mod explain;
 pub mod frames;
 pub mod judge;
 pub mod layout;

@@ -1,0 +1,54 @@
+//! Says in plain sentences what frames, answers, log lines and verdicts say.
+
+use koolvent_model::explain;
+use std::process::ExitCode;
+
+const HELP: &str = "\
+explain says in plain sentences what the lines of the store and of its judge say.
+
+    explain session FRAMES ANSWERS   each frame, its answer and what they say, side by side
+    explain log LOG                  what each line of a log says
+    explain log LOG VERDICT          and what the judge says of it, with what bears that out
+    explain --help                   this text
+
+FRAMES, ANSWERS, LOG and VERDICT are files: what the store driver reads and prints, what the judge reads and prints.
+A client is document 01's desk, a partition its cabinet, an item its line of a sheet. Of a malformed line it says what
+is wrong; columns count from 1.
+";
+
+fn main() -> ExitCode {
+    let words: Vec<String> = std::env::args().skip(1).collect();
+    let words: Vec<&str> = words.iter().map(String::as_str).collect();
+    let said = match words[..] {
+        ["--help"] => Ok(HELP.to_owned()),
+        ["session", frames, answers] => session(frames, answers),
+        ["log", log] => read(log).map(|log| explain::log(&log, None)),
+        ["log", log, verdict] => judged(log, verdict),
+        _ => {
+            eprint!("{HELP}");
+            return ExitCode::from(2);
+        }
+    };
+    match said {
+        Ok(said) => {
+            print!("{said}");
+            ExitCode::SUCCESS
+        }
+        Err(wrong) => {
+            eprintln!("explain: {wrong}");
+            ExitCode::FAILURE
+        }
+    }
+}
+
+fn session(frames: &str, answers: &str) -> Result<String, String> {
+    Ok(explain::session(&read(frames)?, &read(answers)?))
+}
+
+fn judged(log: &str, verdict: &str) -> Result<String, String> {
+    Ok(explain::log(&read(log)?, Some(&read(verdict)?)))
+}
+
+fn read(name: &str) -> Result<Vec<u8>, String> {
+    std::fs::read(name).map_err(|error| format!("{name}: {error}"))
+}

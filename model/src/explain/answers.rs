@@ -1,0 +1,64 @@
+//! Answers to store frames.
+
+use super::log;
+use super::refusals::refused;
+use super::text;
+use super::words::count;
+use crate::frames::log::LogFrame;
+use crate::frames::store::StoreFrame;
+
+/// What a line says that answers this frame, or a malformed one where there is none.
+pub fn sentence(frame: Option<&StoreFrame>, line: &[u8]) -> String {
+    let bytes = match text::bytes(line) {
+        Ok(bytes) => bytes,
+        Err(wrong) => return format!("malformed answer: {wrong}"),
+    };
+    let said = match bytes[..] {
+        [refusal] if refusal != 0 => refused(refusal),
+        _ => frame.and_then(|frame| accepted(frame, &bytes)),
+    };
+    said.unwrap_or_else(|| "this is no answer to such a frame".to_owned())
+}
+
+/// An accepted call's answer, if the bytes are one of this frame.
+fn accepted(frame: &StoreFrame, bytes: &[u8]) -> Option<String> {
+    match (frame, bytes) {
+        (StoreFrame::Fresh { .. }, [0]) => Some("accepted".to_owned()),
+        (StoreFrame::Read { .. } | StoreFrame::Write { .. }, [0, high, low]) => {
+            Some(format!("accepted, {}", in_flight(*high, *low)))
+        }
+        (StoreFrame::Deliver { .. }, [0, kind, high, low, outcome]) => {
+            let (kind, ended) = (kind_name(*kind)?, ended(*outcome)?);
+            Some(format!("a {kind}, {}{ended}", in_flight(*high, *low)))
+        }
+        (StoreFrame::Show { .. }, [0, frame @ ..]) => {
+            LogFrame::parse(frame).map(|frame| log::sentence(&frame))
+        }
+        _ => None,
+    }
+}
+
+fn in_flight(high: u8, low: u8) -> String {
+    let messages = u16::from_be_bytes([high, low]);
+    format!("{} in flight", count(messages.into(), "message"))
+}
+
+fn kind_name(kind: u8) -> Option<&'static str> {
+    match kind {
+        1 => Some("prepare"),
+        2 => Some("prepared reply"),
+        3 => Some("commit"),
+        4 => Some("get"),
+        5 => Some("got reply"),
+        _ => None,
+    }
+}
+
+fn ended(outcome: u8) -> Option<&'static str> {
+    match outcome {
+        0 => Some(""),
+        1 => Some("; with it a read ends"),
+        2 => Some("; with it a write ends"),
+        _ => None,
+    }
+}

@@ -1,0 +1,26 @@
+//! The refusals of document 01 in words.
+
+const WORDS: [&str; 16] = [
+    "the block is too short or damaged, or no fresh start was accepted yet",
+    "sizes outside 1 to 8 clients, 1 to 8 partitions and 1 to 64 items",
+    "no such client",
+    "the client isn't idle",
+    "the set is empty or holds an item that doesn't exist",
+    "not as many values as items",
+    "the client has started as many writes as it can count",
+    "the load would be over 128",
+    "stored versions and prepares in flight would be over 512",
+    "no message lies at that place",
+    "the version is already stored, or the reply isn't awaited",
+    "the version asked for isn't stored",
+    "no transaction of the client has ended",
+    "the output is shorter than the frame",
+    "malformed",
+    "over 32,768 bytes or over 256 line ends",
+];
+
+/// The sentence of a refusal's number, if it is one.
+pub fn refused(number: u8) -> Option<String> {
+    let words = WORDS.get(usize::from(number).checked_sub(1)?)?;
+    Some(format!("refused by {number}: {words}"))
+}

@@ -1,0 +1,128 @@
+//! Store frames and answers beyond those of the session.
+
+use crate::session::said;
+
+#[test]
+fn sets_are_said_item_by_item_and_rows_by_their_ends() {
+    let reads = [
+        ("0000000000000000", "no item"),
+        ("0000000000000001", "item 0"),
+        ("8000000000000000", "item 63"),
+        ("0000000000000003", "items 0 and 1"),
+        ("0000000000000007", "items 0 to 2"),
+        ("000000000000002d", "items 0, 2, 3 and 5"),
+        ("00000000000000f5", "items 0, 2 and 4 to 7"),
+        ("ffffffffffffffff", "items 0 to 63"),
+    ];
+    for (set, items) in reads {
+        let expected = format!("client 3 starts to read {items}: accepted, 1 message in flight");
+        assert_eq!(said(&format!("0203{set}"), "000001"), expected);
+    }
+}
+
+#[test]
+fn a_write_whose_values_are_not_as_many_as_its_items_says_how_many_there_are() {
+    let six = "refused by 6: not as many values as items";
+    assert_eq!(
+        said("03010000000000000003", "06"),
+        format!("client 1 starts to write items 0 and 1, with 0 values: {six}")
+    );
+    assert_eq!(
+        said("0301000000000000000300000007", "06"),
+        format!("client 1 starts to write items 0 and 1, with 1 value: {six}")
+    );
+}
+
+#[test]
+fn a_shown_write_is_said() {
+    assert_eq!(
+        said("0501", "0020010000000000000003000000020000000700000008"),
+        "client 1 is asked what it ended last: write 2 of client 1: item 0, value 7; item 1, value 8"
+    );
+}
+
+#[test]
+fn a_fresh_start_of_one_each_is_said_in_the_singular() {
+    assert_eq!(
+        said("01010101", "00"),
+        "fresh start with 1 client, 1 partition, 1 item: accepted"
+    );
+}
+
+#[test]
+fn every_refusal_is_said() {
+    let refusals = [
+        (
+            "01",
+            "refused by 1: the block is too short or damaged, or no fresh start was accepted yet",
+        ),
+        (
+            "02",
+            "refused by 2: sizes outside 1 to 8 clients, 1 to 8 partitions and 1 to 64 items",
+        ),
+        ("03", "refused by 3: no such client"),
+        ("04", "refused by 4: the client isn't idle"),
+        (
+            "05",
+            "refused by 5: the set is empty or holds an item that doesn't exist",
+        ),
+        ("06", "refused by 6: not as many values as items"),
+        (
+            "07",
+            "refused by 7: the client has started as many writes as it can count",
+        ),
+        ("08", "refused by 8: the load would be over 128"),
+        (
+            "09",
+            "refused by 9: stored versions and prepares in flight would be over 512",
+        ),
+        ("0a", "refused by 10: no message lies at that place"),
+        (
+            "0b",
+            "refused by 11: the version is already stored, or the reply isn't awaited",
+        ),
+        ("0c", "refused by 12: the version asked for isn't stored"),
+        (
+            "0d",
+            "refused by 13: no transaction of the client has ended",
+        ),
+        ("0e", "refused by 14: the output is shorter than the frame"),
+        ("0f", "refused by 15: malformed"),
+        (
+            "10",
+            "refused by 16: over 32,768 bytes or over 256 line ends",
+        ),
+    ];
+    for (answer, sentence) in refusals {
+        let expected = format!("the message at place 2 is delivered: {sentence}");
+        assert_eq!(said("040002", answer), expected);
+    }
+}
+
+#[test]
+fn bytes_that_answer_no_such_frame_are_told() {
+    let others = [
+        ("01020202", "000002"),
+        ("02020000000000000003", "00"),
+        ("040000", "000002"),
+        ("040000", "0000000200"),
+        ("040000", "0006000200"),
+        ("040000", "0001000203"),
+        ("0502", "00"),
+        ("0502", "002102"),
+        ("0502", "11"),
+        ("06", "00"),
+    ];
+    for (frame, answer) in others {
+        let said = said(frame, answer);
+        assert!(
+            said.ends_with(": this is no answer to such a frame"),
+            "{said}"
+        );
+    }
+}
+
+#[test]
+fn a_malformed_answer_is_told() {
+    assert!(said("0502", "0F").ends_with(": malformed answer: uppercase digit F at column 2"));
+}

@@ -1,0 +1,43 @@
+//! Log lines.
+
+use koolvent_model::explain::log;
+
+#[test]
+fn a_write_and_reads() {
+    let text = "\
+20010000000000000003000000010000000700000008
+21020000000000000003000000010100000007000000000000000000
+21020000000000000002000000010100000008
+210800000000000000018000000008ffffffff
+";
+    let said = "\
+log line 1: write 1 of client 1: item 0, value 7; item 1, value 8
+log line 2: client 2 shows item 0 from write 1 of client 1, value 7; item 1 initial
+log line 3: client 2 shows item 1 from write 1 of client 1, value 8
+log line 4: client 8 shows item 0 from write 2147483648 of client 8, value 4294967295
+";
+    assert_eq!(log(text.as_bytes(), None), said);
+}
+
+#[test]
+fn an_initial_item_with_a_value() {
+    assert_eq!(
+        log(b"21020000000000000001000000000000000005\n", None),
+        "log line 1: client 2 shows item 0 initial, value 5\n"
+    );
+}
+
+#[test]
+fn a_malformed_line_among_others() {
+    let text = "20010000000000000001000000010000000G\n21020000000000000001000000000000000000\n";
+    let said = "\
+log line 1 is malformed: no digit but G at column 36
+log line 2: client 2 shows item 0 initial
+";
+    assert_eq!(log(text.as_bytes(), None), said);
+}
+
+#[test]
+fn an_empty_log() {
+    assert_eq!(log(b"", None), "");
+}
