@@ -1,0 +1,344 @@
+/*
+ * A change of shift, played on the store: two clients, a sheet of four items in three partitions, and an edit that
+ * races a read. Messages arrive in another order for each seed.
+ *
+ *     example SEED LOG       prints each step and what each client sees, and writes the log to the file LOG
+ *     example --seeds N      plays the seeds 0 to N - 1 in silence and judges each log
+ *
+ * The morning client fills in the sheet; the afternoon client reads it for the first time. Then the morning client
+ * corrects tape speed and equaliser curve, which must never be seen apart, while the afternoon client reads on. At
+ * last both read again, and end with the same sheet.
+ */
+#include <inttypes.h>
+#include <stdio.h>
+#include <stdlib.h>
+#include <string.h>
+
+#include "koolvent.h"
+
+enum { MORNING = 1, AFTERNOON = 2, CLIENTS = 2, PARTITIONS = 3 };
+enum { SPEED, CURVE, LEVEL, MINUTES, ITEMS };
+
+static const char *const client_names[] = {"nobody", "morning", "afternoon"};
+static const char *const item_names[ITEMS] = {"tape speed", "equaliser curve", "reference level", "minutes done"};
+static const char *const kind_names[] = {"", "prepare", "prepared reply", "commit", "get", "got reply"};
+
+#define SET(item) (UINT64_C(1) << (item))
+#define WHOLE_SHEET (SET(ITEMS) - 1)
+
+/* A transaction to come: a write with a value for each item of its set, ascending, or a read where there are none. */
+struct plan {
+    uint64_t set;
+    uint32_t values[ITEMS];
+    size_t value_count;
+};
+
+/* What a client has still to do, one after another. */
+struct client {
+    const struct plan *plans;
+    size_t plans_left;
+    int busy;
+    /* What its last read showed. */
+    struct koolvent_entry sheet[ITEMS];
+};
+
+/* One play of the shift. */
+struct shift {
+    uint64_t block[KOOLVENT_WORDS];
+    unsigned messages;
+    struct client clients[CLIENTS + 1];
+    uint64_t random;
+    enum { ANY, OLD, NEW } leaning;
+    char log[KOOLVENT_MOST_LOG_BYTES];
+    size_t log_length;
+    int aloud;
+    /* While the edit and the reads race: how many reads have ended, and how many of them showed the edit. */
+    int racing;
+    unsigned reads_ended, edits_shown;
+};
+
+static void fail(const char *what)
+{
+    fprintf(stderr, "example: %s\n", what);
+    exit(1);
+}
+
+/* Goes on where the call was accepted. */
+static uint64_t accepted(uint64_t answer, const char *call)
+{
+    if (koolvent_refusal(answer) != KOOLVENT_ACCEPTED) {
+        fprintf(stderr, "example: %s: refused by %u\n", call, koolvent_refusal(answer));
+        exit(1);
+    }
+    return answer;
+}
+
+/* A number below the bound (splitmix64). */
+static size_t draw(struct shift *shift, size_t bound)
+{
+    uint64_t mixed = shift->random += UINT64_C(0x9e3779b97f4a7c15);
+    mixed = (mixed ^ mixed >> 30) * UINT64_C(0xbf58476d1ce4e5b9);
+    mixed = (mixed ^ mixed >> 27) * UINT64_C(0x94d049bb133111eb);
+    return (size_t)((mixed ^ mixed >> 31) % bound);
+}
+
+/* One of so many choices, messages from the oldest on and then starts: any, or with a leaning to the old or the new. */
+static size_t choose(struct shift *shift, size_t choices)
+{
+    size_t one = draw(shift, choices);
+    size_t other = draw(shift, choices);
+
+    if (shift->leaning == OLD)
+        return one < other ? one : other;
+    if (shift->leaning == NEW)
+        return one > other ? one : other;
+    return one;
+}
+
+/* ---- What is said aloud ---- */
+
+static void say_start(const struct shift *shift, unsigned client, const struct plan *plan)
+{
+    size_t place = 0;
+    printf("%s starts to %s", client_names[client], plan->value_count > 0 ? "write" : "read the sheet");
+    for (unsigned item = 0; item < ITEMS && plan->value_count > 0; item++)
+        if (plan->set & SET(item)) {
+            printf("%s %s %" PRIu32, place > 0 ? "," : "", item_names[item], plan->values[place]);
+            place++;
+        }
+    printf("; %u in flight\n", shift->messages);
+}
+
+static void say_sheet(const struct shift *shift, unsigned client)
+{
+    printf("%s has read\n", client_names[client]);
+    for (unsigned item = 0; item < ITEMS; item++) {
+        const struct koolvent_entry *entry = &shift->clients[client].sheet[item];
+        printf("    %-16s %5" PRIu32 "    ", item_names[item], entry->value);
+        if (entry->number == 0)
+            printf("no write known\n");
+        else
+            printf("write %" PRIu32 " of %s\n", entry->number, client_names[entry->client]);
+    }
+}
+
+/* ---- The shift ---- */
+
+/* Adds a frame to the log: its digits, and a line end. */
+static void add_to_log(struct shift *shift, const uint8_t *frame, size_t length)
+{
+    static const char digits[] = "0123456789abcdef";
+    if (shift->log_length + 2 * length + 1 > sizeof shift->log)
+        fail("the log is full");
+    for (size_t i = 0; i < length; i++) {
+        shift->log[shift->log_length++] = digits[frame[i] >> 4];
+        shift->log[shift->log_length++] = digits[frame[i] & 15];
+    }
+    shift->log[shift->log_length++] = '\n';
+}
+
+static void start(struct shift *shift, unsigned client)
+{
+    struct client *starting = &shift->clients[client];
+    const struct plan *plan = starting->plans;
+    uint8_t values[ITEMS * KOOLVENT_VALUE_BYTES];
+    uint64_t answer;
+
+    for (size_t i = 0; i < plan->value_count; i++)
+        koolvent_put_value(values + i * KOOLVENT_VALUE_BYTES, plan->values[i]);
+    if (plan->value_count > 0)
+        answer = koolvent_start_write(shift->block, KOOLVENT_WORDS, client, plan->set, values,
+                                      plan->value_count * KOOLVENT_VALUE_BYTES);
+    else
+        answer = koolvent_start_read(shift->block, KOOLVENT_WORDS, client, plan->set);
+    shift->messages = koolvent_started_messages(accepted(answer, "a start"));
+    starting->busy = 1;
+    starting->plans++;
+    starting->plans_left--;
+    if (shift->aloud)
+        say_start(shift, client, plan);
+}
+
+/* Keeps what a read shows. Speed and curve are always written together, and so must be seen together. */
+static void keep_sheet(struct shift *shift, unsigned client, const uint8_t *frame)
+{
+    struct koolvent_entry *sheet = shift->clients[client].sheet;
+
+    for (unsigned item = 0; item < ITEMS; item++)
+        sheet[item] = koolvent_frame_entry(frame, item);
+    if (sheet[SPEED].number != sheet[CURVE].number)
+        fail("speed and curve are of different writes");
+    if (shift->racing) {
+        shift->reads_ended++;
+        shift->edits_shown += sheet[SPEED].number == 2;
+    }
+    if (shift->aloud)
+        say_sheet(shift, client);
+}
+
+/* If the client's transaction has ended, shows it and puts it in the log. */
+static void show_ended(struct shift *shift, unsigned client)
+{
+    uint8_t frame[KOOLVENT_FRAME_ROOM];
+    uint64_t answer = koolvent_show(shift->block, KOOLVENT_WORDS, client, frame, sizeof frame);
+
+    if (koolvent_refusal(answer) == KOOLVENT_REFUSED_BUSY)
+        return;
+    add_to_log(shift, frame, koolvent_shown_bytes(accepted(answer, "a showing")));
+    shift->clients[client].busy = 0;
+    if (frame[0] == KOOLVENT_READ_FRAME)
+        keep_sheet(shift, client, frame);
+    else if (shift->aloud)
+        printf("%s has written\n", client_names[client]);
+}
+
+static void deliver(struct shift *shift, size_t place)
+{
+    unsigned before = shift->messages;
+    uint64_t answer = accepted(koolvent_deliver(shift->block, KOOLVENT_WORDS, place), "a delivery");
+
+    shift->messages = koolvent_delivered_messages(answer);
+    if (shift->aloud)
+        printf("  message %zu of %u arrives: %s; %u in flight\n", place + 1, before,
+               kind_names[koolvent_delivered_kind(answer)], shift->messages);
+    if (koolvent_delivered_outcome(answer) == KOOLVENT_NONE_ENDED)
+        return;
+    for (unsigned client = 1; client <= CLIENTS; client++)
+        if (shift->clients[client].busy)
+            show_ended(shift, client);
+}
+
+static unsigned can_start(const struct client *client)
+{
+    return !client->busy && client->plans_left > 0;
+}
+
+/* Starts what is planned and delivers what is in flight, in any order, until nothing is left. */
+static void run(struct shift *shift)
+{
+    for (;;) {
+        unsigned morning = can_start(&shift->clients[MORNING]);
+        unsigned afternoon = can_start(&shift->clients[AFTERNOON]);
+        size_t choices = shift->messages + morning + afternoon;
+        size_t choice;
+        if (choices == 0)
+            return;
+        choice = choose(shift, choices);
+        if (choice < shift->messages)
+            deliver(shift, choice);
+        else
+            start(shift, morning && choice == shift->messages ? MORNING : AFTERNOON);
+    }
+}
+
+static void plan(struct shift *shift, unsigned client, const struct plan *plans, size_t count)
+{
+    shift->clients[client].plans = plans;
+    shift->clients[client].plans_left = count;
+}
+
+static void part(const struct shift *shift, const char *title)
+{
+    if (shift->aloud)
+        printf("\n-- %s\n", title);
+}
+
+static void play(struct shift *shift, uint64_t seed, int aloud)
+{
+    static const struct plan fill_in = {WHOLE_SHEET, {190, 70, 320, 12}, ITEMS};
+    static const struct plan correct = {SET(SPEED) | SET(CURVE), {381, 35}, 2};
+    static const struct plan reads[3] = {{WHOLE_SHEET, {0}, 0}, {WHOLE_SHEET, {0}, 0}, {WHOLE_SHEET, {0}, 0}};
+
+    memset(shift, 0, sizeof *shift);
+    shift->random = seed;
+    shift->leaning = draw(shift, 3) == 0 ? ANY : draw(shift, 2) == 0 ? OLD : NEW;
+    shift->aloud = aloud;
+    accepted(koolvent_fresh(shift->block, KOOLVENT_WORDS, CLIENTS, PARTITIONS, ITEMS), "a fresh start");
+
+    part(shift, "the morning client fills in the sheet");
+    plan(shift, MORNING, &fill_in, 1);
+    run(shift);
+    part(shift, "the afternoon client reads for the first time: it knows of no write, and learns of them");
+    plan(shift, AFTERNOON, reads, 1);
+    run(shift);
+    part(shift, "the morning client corrects speed and curve while the afternoon client reads three times");
+    shift->racing = 1;
+    plan(shift, MORNING, &correct, 1);
+    plan(shift, AFTERNOON, reads, 3);
+    run(shift);
+    shift->racing = 0;
+    part(shift, "all has arrived: both read again, the afternoon client twice");
+    plan(shift, MORNING, reads, 1);
+    plan(shift, AFTERNOON, reads, 2);
+    run(shift);
+    for (unsigned item = 0; item < ITEMS; item++)
+        if (shift->clients[MORNING].sheet[item].value != shift->clients[AFTERNOON].sheet[item].value)
+            fail("morning and afternoon end with different sheets");
+}
+
+/* ---- The command line ---- */
+
+static void play_aloud(struct shift *shift, uint64_t seed, const char *log_name)
+{
+    FILE *log = fopen(log_name, "wb");
+
+    if (log == NULL) {
+        perror(log_name);
+        exit(1);
+    }
+    play(shift, seed, 1);
+    if (fwrite(shift->log, 1, shift->log_length, log) != shift->log_length || fclose(log) != 0) {
+        perror(log_name);
+        exit(1);
+    }
+}
+
+static void play_silently(struct shift *shift, uint64_t seeds)
+{
+    uint64_t reads = 0, shown = 0;
+
+    for (uint64_t seed = 0; seed < seeds; seed++) {
+        uint64_t verdict;
+        play(shift, seed, 0);
+        verdict = koolvent_judge((const uint8_t *)shift->log, shift->log_length);
+        if (koolvent_verdict_finding(accepted(verdict, "a judging")) != KOOLVENT_CLEAN) {
+            fprintf(stderr, "%.*s", (int)shift->log_length, shift->log);
+            fprintf(stderr, "example: seed %" PRIu64 ": this log has finding %u at line %u\n", seed,
+                    koolvent_verdict_finding(verdict), koolvent_verdict_line(verdict));
+            exit(1);
+        }
+        reads += shift->reads_ended;
+        shown += shift->edits_shown;
+    }
+    printf("%" PRIu64 " logs, all clean; of %" PRIu64 " reads that raced the edit %" PRIu64
+           " showed it whole, the others not at all\n",
+           seeds, reads, shown);
+}
+
+/* A number in tens, or exits. */
+static uint64_t number(const char *text)
+{
+    char *end;
+    uintmax_t value = strtoumax(text, &end, 10);
+
+    if (end == text || *end != '\0') {
+        fprintf(stderr, "example: %s is no number\n", text);
+        exit(2);
+    }
+    return value;
+}
+
+int main(int argc, char **argv)
+{
+    static struct shift shift;
+
+    if (argc == 3 && strcmp(argv[1], "--seeds") == 0) {
+        play_silently(&shift, number(argv[2]));
+    } else if (argc == 3) {
+        play_aloud(&shift, number(argv[1]), argv[2]);
+    } else {
+        fprintf(stderr, "usage: example SEED LOG, or example --seeds N\n");
+        return 2;
+    }
+    return 0;
+}

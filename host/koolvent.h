@@ -1,0 +1,292 @@
+/*
+ * Koolvent: a store whose reads are never fractured and never wait, and a judge of its logs.
+ *
+ * A sheet is a number of items (entries of 32 bits), spread over partitions. Clients read and write any set of
+ * items in transactions. A read shows a write whole or not at all, never misses what its own client had written
+ * before, and ends after one reply for each item, whatever the order in which messages arrive.
+ *
+ * The host owns all memory and moves all messages. It lends a block of words to each call, and the store keeps
+ * everything there: nothing is allocated, no thread is started, no clock is read, nothing is kept elsewhere.
+ *
+ *     static uint64_t block[KOOLVENT_WORDS];
+ *     uint8_t frame[KOOLVENT_FRAME_ROOM];
+ *
+ *     koolvent_fresh(block, KOOLVENT_WORDS, 2, 3, 4);                 2 clients, 3 partitions, 4 items
+ *     answer = koolvent_start_read(block, KOOLVENT_WORDS, 1, 0x3);    client 1 reads items 0 and 1
+ *     while (koolvent_refusal(answer) == KOOLVENT_ACCEPTED
+ *            && koolvent_delivered_outcome(answer) != KOOLVENT_READ_ENDED)
+ *         answer = koolvent_deliver(block, KOOLVENT_WORDS, 0);        any message in flight, in any order
+ *     answer = koolvent_show(block, KOOLVENT_WORDS, 1, frame, sizeof frame);
+ *
+ * A start puts messages in flight, one for each item; a delivery takes one out, does what it says, and may put others
+ * in flight. They are numbered 0, 1, .. by their place: the one delivered is taken out, those after it move up by
+ * one, and new ones join at the end. A delivery at any place below the number in flight is accepted. example.c
+ * plays a whole session.
+ *
+ * What is proved. Each call's answer, and every word and byte that was lent as the call leaves it, are fixed by what
+ * it was given, for all numbers, lengths and contents of the block, damaged ones included; a refused call changes
+ * nothing. Reads are as said above on every block that koolvent_fresh made and only the calls have written since.
+ *
+ * What no proof covers, and the host must see to:
+ *   - a block is aligned to 8 bytes, as an array of uint64_t is;
+ *   - a length is no more than what is there: words for a block, bytes for the others;
+ *   - no pointer is null, even where the length is 0;
+ *   - block, values and output do not overlap;
+ *   - one caller at a time: while a call runs, nobody else reads or writes what was lent to it;
+ *   - between calls the host leaves the block's words as they are. (It may copy and keep them: that is a backup.)
+ *
+ * Link with libstore.a (the five calls on a block) and libjudge.a (the judge), or by pkg-config: koolvent. For Linux on
+ * x86-64.
+ */
+#ifndef KOOLVENT_H
+#define KOOLVENT_H
+
+#include <stddef.h>
+#include <stdint.h>
+
+#ifdef __cplusplus
+extern "C" {
+#endif
+
+/* ---- Sizes and limits ---- */
+
+/* The words of 64 bits that a block needs, whatever its sizes. More may be lent: they are never read or written. */
+#define KOOLVENT_WORDS 6352
+
+/* The most clients (desks; numbered from 1), partitions (cabinets; from 0) and items (lines; from 0), 1 being the
+ * least of each. Item k lies in partition k mod the number of partitions. */
+#define KOOLVENT_MOST_CLIENTS 8
+#define KOOLVENT_MOST_PARTITIONS 8
+#define KOOLVENT_MOST_ITEMS 64
+
+/* The greatest load: messages in flight (the pile), and for each write under way the items whose prepared reply has
+ * come. And the most stored versions, prepares in flight counted with them: no version is ever taken away. */
+#define KOOLVENT_MOST_LOAD 128
+#define KOOLVENT_MOST_VERSIONS 512
+
+/* The bytes of an item's value, most significant byte first. */
+#define KOOLVENT_VALUE_BYTES 4
+
+/* The longest log that the judge takes: its bytes, and its line ends (bytes 0a). */
+#define KOOLVENT_MOST_LOG_BYTES 32768
+#define KOOLVENT_MOST_LOG_LINES 256
+
+/* ---- Log frames: what koolvent_show writes ----
+ *
+ * Numbers of several bytes have the most significant byte first. For each item of the set, ascending:
+ *
+ *     a write   kind 20 (1 byte), client (1), set (8), number of the write (4), then for each item its value (4)
+ *     a read    kind 21 (1 byte), client (1), set (8), then for each item the number of the write that is shown (4),
+ *               the client that wrote it (1), and the value (4); all three are 0 where nobody's write is shown
+ *
+ * A log is a text: each frame as lowercase hexadecimal digits, two a byte, and then the byte 0a. */
+#define KOOLVENT_WRITE_FRAME 0x20
+#define KOOLVENT_READ_FRAME 0x21
+
+/* The bytes of a frame of so many items, and room enough for any frame. */
+#define KOOLVENT_WRITE_FRAME_BYTES(items) (14 + 4 * (items))
+#define KOOLVENT_READ_FRAME_BYTES(items) (10 + 9 * (items))
+#define KOOLVENT_FRAME_ROOM 586
+
+/* ---- Refusals: the lowest byte of an answer; 0 is accepted ---- */
+
+enum koolvent_refusal {
+    KOOLVENT_ACCEPTED = 0,
+    /* The block is shorter than KOOLVENT_WORDS; or (not for koolvent_fresh) it holds a number out of its range: it is
+     * damaged, or koolvent_fresh was never accepted on it. */
+    KOOLVENT_REFUSED_BLOCK = 1,
+    /* koolvent_fresh: a size is 0 or over its limit. */
+    KOOLVENT_REFUSED_SIZES = 2,
+    /* There is no such client. */
+    KOOLVENT_REFUSED_CLIENT = 3,
+    /* A start, or koolvent_show: the client has a transaction under way. */
+    KOOLVENT_REFUSED_BUSY = 4,
+    /* A start: the set is empty, or holds an item that does not exist. */
+    KOOLVENT_REFUSED_SET = 5,
+    /* koolvent_start_write: there are not 4 value bytes for each item of the set. */
+    KOOLVENT_REFUSED_VALUES = 6,
+    /* koolvent_start_write: the client has started 4,294,967,295 writes. */
+    KOOLVENT_REFUSED_COUNT = 7,
+    /* A start: the load would exceed KOOLVENT_MOST_LOAD. Deliver, and try again. */
+    KOOLVENT_REFUSED_LOAD = 8,
+    /* koolvent_start_write: versions would exceed KOOLVENT_MOST_VERSIONS. Reads go on; for writes, copy the sheet
+     * to a fresh block. */
+    KOOLVENT_REFUSED_VERSIONS = 9,
+    /* koolvent_deliver: no message lies at that place. */
+    KOOLVENT_REFUSED_PLACE = 10,
+    /* koolvent_deliver: a version that is already stored, or a reply that nobody awaits. Never on a block that only the
+     * calls have written. */
+    KOOLVENT_REFUSED_UNEXPECTED = 11,
+    /* koolvent_deliver: a request for a version that is not stored. Never on a block that only the calls have
+     * written. */
+    KOOLVENT_REFUSED_MISSING = 12,
+    /* koolvent_show: no transaction of the client has ended yet. */
+    KOOLVENT_REFUSED_NOTHING_ENDED = 13,
+    /* koolvent_show: the output is shorter than the frame. */
+    KOOLVENT_REFUSED_ROOM = 14,
+    /* koolvent_judge: a line of the log is malformed; koolvent_verdict_line says which. */
+    KOOLVENT_REFUSED_MALFORMED = 15,
+    /* koolvent_judge: the log is longer than the judge takes. */
+    KOOLVENT_REFUSED_LOG_TOO_LONG = 16
+};
+
+/* The refusal of any answer, or KOOLVENT_ACCEPTED. */
+static inline unsigned koolvent_refusal(uint64_t answer)
+{
+    return (unsigned)(answer & 0xff);
+}
+
+/* ---- The five calls on a block ----
+ *
+ * A set holds item k as the bit worth 2 to the power k. Of several refusals that apply to a call the lowest is given,
+ * but for koolvent_fresh, where 2 goes before 1. */
+
+/* Makes a store of so many clients, partitions and items, nothing written, every value 0. What the block held is lost;
+ * it may hold anything. Refused by 1 and 2. */
+uint64_t koolvent_fresh(uint64_t *block, size_t words, uint64_t clients, uint64_t partitions, uint64_t items);
+
+/* Starts a read of the items of a set. It asks for the newest write of each item that the client knows of, and learns
+ * from the replies of later ones, for its next read. Refused by 1, 3, 4, 5 and 8. */
+uint64_t koolvent_start_read(uint64_t *block, size_t words, uint64_t client, uint64_t set);
+
+/* Starts a write of the items of a set, with KOOLVENT_VALUE_BYTES bytes for each, by ascending item. Refused by 1
+ * and 3 to 9. */
+uint64_t koolvent_start_write(uint64_t *block, size_t words, uint64_t client, uint64_t set, const uint8_t *values,
+                              size_t value_bytes);
+
+/* Delivers the message at a place, from 0. Refused by 1, 10, 11 and 12. */
+uint64_t koolvent_deliver(uint64_t *block, size_t words, uint64_t place);
+
+/* Writes the log frame of the client's last ended transaction to the front of the output; bytes past the frame stay as
+ * they are. Refused by 1, 3, 4, 13 and 14. */
+uint64_t koolvent_show(const uint64_t *block, size_t words, uint64_t client, uint8_t *output, size_t room);
+
+/* ---- What an accepted call answers ---- */
+
+/* The kind of a message. */
+enum koolvent_kind {
+    /* A partition stores a version. */
+    KOOLVENT_PREPARE = 1,
+    /* It says so to the writing client. */
+    KOOLVENT_PREPARED = 2,
+    /* A partition takes the write as its latest, if it is later than that. */
+    KOOLVENT_COMMIT = 3,
+    /* A partition is asked for a version. */
+    KOOLVENT_GET = 4,
+    /* It gives the version to the reading client, and says which write is its latest. */
+    KOOLVENT_GOT = 5
+};
+
+/* What a delivery ended. The answer does not name the client: of those with a transaction under way it is the one to
+ * whom koolvent_show is no longer refused by KOOLVENT_REFUSED_BUSY. */
+enum koolvent_outcome {
+    KOOLVENT_NONE_ENDED = 0,
+    KOOLVENT_READ_ENDED = 1,
+    KOOLVENT_WRITE_ENDED = 2
+};
+
+/* After a start: how many messages are in flight. */
+static inline unsigned koolvent_started_messages(uint64_t answer)
+{
+    return (unsigned)(answer >> 8 & 0xffff);
+}
+
+/* After a delivery: the kind of the message delivered, an enum koolvent_kind. */
+static inline unsigned koolvent_delivered_kind(uint64_t answer)
+{
+    return (unsigned)(answer >> 8 & 0xff);
+}
+
+/* After a delivery: how many messages are in flight. */
+static inline unsigned koolvent_delivered_messages(uint64_t answer)
+{
+    return (unsigned)(answer >> 16 & 0xffff);
+}
+
+/* After a delivery: what it ended, an enum koolvent_outcome. */
+static inline unsigned koolvent_delivered_outcome(uint64_t answer)
+{
+    return (unsigned)(answer >> 32 & 0xff);
+}
+
+/* After a showing: the bytes of the frame. */
+static inline size_t koolvent_shown_bytes(uint64_t answer)
+{
+    return (size_t)(answer >> 8 & 0xffff);
+}
+
+/* ---- The judge ---- */
+
+/* What is wrong with a read of the log. */
+enum koolvent_finding {
+    KOOLVENT_CLEAN = 0,
+    /* It shows what no write of the log put on that item. */
+    KOOLVENT_UNWRITTEN = 1,
+    /* It shows one item of a write, and another item of that write older. */
+    KOOLVENT_FRACTURED = 2,
+    /* It shows an item older than its own client had written it, in a line above. */
+    KOOLVENT_OWN_WRITE_MISSED = 3
+};
+
+/* Judges a log, whoever wrote it: the first read at fault, and there the lowest of the findings above. Refused by 15
+ * and 16, the latter tested first. */
+uint64_t koolvent_judge(const uint8_t *log, size_t length);
+
+/* After an accepted judging: an enum koolvent_finding. */
+static inline unsigned koolvent_verdict_finding(uint64_t verdict)
+{
+    return (unsigned)(verdict >> 8 & 0xff);
+}
+
+/* The line at fault, or with KOOLVENT_REFUSED_MALFORMED the malformed line, from 1; 0 where no line is named. */
+static inline unsigned koolvent_verdict_line(uint64_t verdict)
+{
+    return (unsigned)(verdict >> 16 & 0xffff);
+}
+
+/* ---- Bytes of values and frames ---- */
+
+/* Puts a value into 4 bytes. */
+static inline void koolvent_put_value(uint8_t *bytes, uint32_t value)
+{
+    bytes[0] = (uint8_t)(value >> 24);
+    bytes[1] = (uint8_t)(value >> 16);
+    bytes[2] = (uint8_t)(value >> 8);
+    bytes[3] = (uint8_t)value;
+}
+
+/* The number of 4 bytes. */
+static inline uint32_t koolvent_number(const uint8_t *bytes)
+{
+    return (uint32_t)bytes[0] << 24 | (uint32_t)bytes[1] << 16 | (uint32_t)bytes[2] << 8 | bytes[3];
+}
+
+/* The set of a log frame. */
+static inline uint64_t koolvent_frame_set(const uint8_t *frame)
+{
+    return (uint64_t)koolvent_number(frame + 2) << 32 | koolvent_number(frame + 6);
+}
+
+/* What a read shows of an item: the number of the write and the client that wrote it, both 0 for none; the value. */
+struct koolvent_entry {
+    uint32_t number;
+    unsigned client;
+    uint32_t value;
+};
+
+/* The entry at a place, from 0, among the items of a read's frame. */
+static inline struct koolvent_entry koolvent_frame_entry(const uint8_t *frame, unsigned place)
+{
+    const uint8_t *bytes = frame + KOOLVENT_READ_FRAME_BYTES((size_t)place);
+    struct koolvent_entry entry;
+    entry.number = koolvent_number(bytes);
+    entry.client = bytes[4];
+    entry.value = koolvent_number(bytes + 5);
+    return entry;
+}
+
+#ifdef __cplusplus
+}
+#endif
+
+#endif

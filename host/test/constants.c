@@ -1,0 +1,266 @@
+/*
+ * The header's numbers, held against the library: each is found by calls and compared with the name that the header
+ * gives it. Says nothing and exits with 0 where all agree.
+ */
+#include <inttypes.h>
+#include <stdio.h>
+#include <string.h>
+
+#include "koolvent.h"
+
+/* More than any call needs, by no constant of the header. */
+enum { WORDS = 8000, ROOM = 1000, LOG = 70000 };
+
+static uint64_t block[WORDS];
+static uint8_t output[ROOM];
+static uint8_t values[ROOM];
+static uint8_t text[LOG];
+static int differences;
+
+static void compare(int line, const char *name, uint64_t found, uint64_t stated)
+{
+    if (found == stated)
+        return;
+    fprintf(stderr, "line %d: %s is %" PRIu64 ", the library says %" PRIu64 "\n", line, name, stated, found);
+    differences++;
+}
+
+#define SAME(found, stated) compare(__LINE__, #stated, found, stated)
+
+static void fresh(uint64_t clients, uint64_t partitions, uint64_t items)
+{
+    SAME(koolvent_refusal(koolvent_fresh(block, WORDS, clients, partitions, items)), KOOLVENT_ACCEPTED);
+}
+
+static uint64_t read_items(uint64_t client, uint64_t set)
+{
+    return koolvent_start_read(block, WORDS, client, set);
+}
+
+static uint64_t write_items(uint64_t client, uint64_t set, size_t value_bytes)
+{
+    return koolvent_start_write(block, WORDS, client, set, values, value_bytes);
+}
+
+static uint64_t deliver(uint64_t place)
+{
+    return koolvent_deliver(block, WORDS, place);
+}
+
+static uint64_t show(uint64_t client, size_t room)
+{
+    return koolvent_show(block, WORDS, client, output, room);
+}
+
+static void deliver_all(void)
+{
+    while (koolvent_refusal(deliver(0)) == KOOLVENT_ACCEPTED)
+        ;
+}
+
+/* Document 01's session: every kind and outcome, and the messages in flight after each call. */
+static void session(void)
+{
+    static const struct {
+        unsigned place, kind, messages, outcome;
+    } written[] = {
+        {0, KOOLVENT_PREPARE, 2, KOOLVENT_NONE_ENDED},  {0, KOOLVENT_PREPARE, 2, KOOLVENT_NONE_ENDED},
+        {0, KOOLVENT_PREPARED, 1, KOOLVENT_NONE_ENDED}, {0, KOOLVENT_PREPARED, 2, KOOLVENT_WRITE_ENDED},
+        {0, KOOLVENT_COMMIT, 1, KOOLVENT_NONE_ENDED},
+    }, shown[] = {
+        {1, KOOLVENT_GET, 3, KOOLVENT_NONE_ENDED}, {1, KOOLVENT_GET, 3, KOOLVENT_NONE_ENDED},
+        {1, KOOLVENT_GOT, 2, KOOLVENT_NONE_ENDED}, {1, KOOLVENT_GOT, 1, KOOLVENT_READ_ENDED},
+    };
+    size_t i;
+
+    fresh(2, 2, 2);
+    SAME(koolvent_started_messages(write_items(1, 3, 8)), 2);
+    for (i = 0; i < sizeof written / sizeof *written; i++) {
+        uint64_t answer = deliver(written[i].place);
+        SAME(koolvent_refusal(answer), KOOLVENT_ACCEPTED);
+        SAME(koolvent_delivered_kind(answer), written[i].kind);
+        SAME(koolvent_delivered_messages(answer), written[i].messages);
+        SAME(koolvent_delivered_outcome(answer), written[i].outcome);
+    }
+    SAME(deliver(1), KOOLVENT_REFUSED_PLACE);
+    SAME(koolvent_started_messages(read_items(2, 3)), 3);
+    for (i = 0; i < sizeof shown / sizeof *shown; i++) {
+        uint64_t answer = deliver(shown[i].place);
+        SAME(koolvent_delivered_kind(answer), shown[i].kind);
+        SAME(koolvent_delivered_messages(answer), shown[i].messages);
+        SAME(koolvent_delivered_outcome(answer), shown[i].outcome);
+    }
+}
+
+static void sizes(void)
+{
+    uint64_t words = 0, clients = 1, partitions = 1, items = 1;
+
+    while (words < WORDS && koolvent_fresh(block, words, 1, 1, 1) == KOOLVENT_REFUSED_BLOCK)
+        words++;
+    SAME(words, KOOLVENT_WORDS);
+    while (clients < 100 && koolvent_fresh(block, WORDS, clients + 1, 1, 1) != KOOLVENT_REFUSED_SIZES)
+        clients++;
+    SAME(clients, KOOLVENT_MOST_CLIENTS);
+    while (partitions < 100 && koolvent_fresh(block, WORDS, 1, partitions + 1, 1) != KOOLVENT_REFUSED_SIZES)
+        partitions++;
+    SAME(partitions, KOOLVENT_MOST_PARTITIONS);
+    while (items < 100 && koolvent_fresh(block, WORDS, 1, 1, items + 1) != KOOLVENT_REFUSED_SIZES)
+        items++;
+    SAME(items, KOOLVENT_MOST_ITEMS);
+}
+
+/* The greatest load, and the most versions, are those at which even one item is refused. */
+static void starts(void)
+{
+    const uint64_t all = ~UINT64_C(0);
+    uint64_t answer, client;
+    unsigned value_bytes = 0, load = 0, versions = 0;
+
+    fresh(3, 2, 2);
+    SAME(read_items(4, 1), KOOLVENT_REFUSED_CLIENT);
+    SAME(read_items(1, 0), KOOLVENT_REFUSED_SET);
+    SAME(read_items(1, 4), KOOLVENT_REFUSED_SET);
+    while (value_bytes < 100 && write_items(1, 1, value_bytes) == KOOLVENT_REFUSED_VALUES)
+        value_bytes++;
+    SAME(value_bytes, KOOLVENT_VALUE_BYTES);
+    SAME(read_items(1, 1), KOOLVENT_REFUSED_BUSY);
+    SAME(show(1, ROOM), KOOLVENT_REFUSED_BUSY);
+    SAME(show(2, ROOM), KOOLVENT_REFUSED_NOTHING_ENDED);
+
+    fresh(8, 2, 64);
+    for (client = 1; koolvent_refusal(answer = read_items(client, all)) == 0; client++)
+        load = koolvent_started_messages(answer);
+    SAME(read_items(client, 1), KOOLVENT_REFUSED_LOAD);
+    SAME(load, KOOLVENT_MOST_LOAD);
+
+    fresh(1, 1, 64);
+    while (koolvent_refusal(answer = write_items(1, all, 256)) == 0) {
+        versions += koolvent_started_messages(answer);
+        deliver_all();
+    }
+    SAME(write_items(1, 1, 4), KOOLVENT_REFUSED_VERSIONS);
+    SAME(versions, KOOLVENT_MOST_VERSIONS);
+}
+
+/* Refusals that no block gives which only the calls have written. The words are those of docs/LAYOUT.md. */
+static void damaged_blocks(void)
+{
+    enum { MODE = 16, COUNT = 17, SET = 18, AWAITED = 19, STAMP_OF_MESSAGE = 5328 + 4 };
+
+    fresh(1, 1, 1);
+    block[COUNT] = UINT32_MAX;
+    SAME(write_items(1, 1, 4), KOOLVENT_REFUSED_COUNT);
+
+    fresh(1, 1, 1);
+    read_items(1, 1);
+    SAME(koolvent_delivered_kind(deliver(0)), KOOLVENT_GET);
+    block[MODE] = block[SET] = block[AWAITED] = 0;
+    SAME(deliver(0), KOOLVENT_REFUSED_UNEXPECTED);
+
+    fresh(1, 1, 1);
+    read_items(1, 1);
+    block[STAMP_OF_MESSAGE] = 17;
+    SAME(deliver(0), KOOLVENT_REFUSED_MISSING);
+}
+
+/* Frames of items with other bytes everywhere, and the longest. */
+static void frames(void)
+{
+    const uint64_t set = UINT64_C(0x8040201008040201);
+    uint64_t answer;
+    size_t room = 0;
+    unsigned item;
+
+    fresh(2, 3, 64);
+    for (item = 0; item < 8; item++)
+        koolvent_put_value(values + 4 * item, 0x01020304 + item);
+    write_items(2, set, 32);
+    deliver_all();
+    answer = show(2, ROOM);
+    SAME(koolvent_shown_bytes(answer), KOOLVENT_WRITE_FRAME_BYTES(8));
+    SAME(output[0], KOOLVENT_WRITE_FRAME);
+    SAME(koolvent_frame_set(output), set);
+    SAME(koolvent_number(output + KOOLVENT_WRITE_FRAME_BYTES(7)), 0x0102030b);
+    SAME(memcmp(output + 14, "\1\2\3\4\1\2\3\5", 8), 0);
+
+    read_items(2, set);
+    deliver_all();
+    answer = show(2, ROOM);
+    SAME(koolvent_shown_bytes(answer), KOOLVENT_READ_FRAME_BYTES(8));
+    SAME(output[0], KOOLVENT_READ_FRAME);
+    SAME(koolvent_frame_set(output), set);
+    for (item = 0; item < 8; item++) {
+        SAME(koolvent_frame_entry(output, item).number, 1);
+        SAME(koolvent_frame_entry(output, item).client, 2);
+        SAME(koolvent_frame_entry(output, item).value, 0x01020304 + item);
+    }
+
+    read_items(1, ~UINT64_C(0));
+    deliver_all();
+    while (room < ROOM && show(1, room) == KOOLVENT_REFUSED_ROOM)
+        room++;
+    SAME(room, KOOLVENT_FRAME_ROOM);
+    SAME(koolvent_shown_bytes(show(1, room)), KOOLVENT_READ_FRAME_BYTES(64));
+}
+
+static uint64_t judge(const char *log)
+{
+    return koolvent_judge((const uint8_t *)log, strlen(log));
+}
+
+/* The greatest length that is not too long, of a text of one byte alone. */
+static size_t longest(int byte)
+{
+    size_t fits = 0, too_long = LOG;
+    memset(text, byte, LOG);
+    while (too_long - fits > 1) {
+        size_t middle = (fits + too_long) / 2;
+        if (koolvent_judge(text, middle) == KOOLVENT_REFUSED_LOG_TOO_LONG)
+            too_long = middle;
+        else
+            fits = middle;
+    }
+    return fits;
+}
+
+#define WRITE_BY_1 "20010000000000000003000000010000000700000008\n"
+#define HALF_READ_BY(client) "21" client "0000000000000003000000010100000007000000000000000000\n"
+#define INITIAL_READ_BY(client) "21" client "0000000000000001000000000000000000\n"
+
+static void verdicts(void)
+{
+    char long_log[256 * sizeof INITIAL_READ_BY("02")] = "";
+    uint64_t verdict = judge("");
+
+    SAME(koolvent_refusal(verdict), KOOLVENT_ACCEPTED);
+    SAME(koolvent_verdict_finding(verdict), KOOLVENT_CLEAN);
+    SAME(koolvent_verdict_line(verdict), 0);
+    verdict = judge(HALF_READ_BY("02"));
+    SAME(koolvent_verdict_finding(verdict), KOOLVENT_UNWRITTEN);
+    SAME(koolvent_verdict_line(verdict), 1);
+    verdict = judge(WRITE_BY_1 HALF_READ_BY("02"));
+    SAME(koolvent_verdict_finding(verdict), KOOLVENT_FRACTURED);
+    SAME(koolvent_verdict_line(verdict), 2);
+    verdict = judge(WRITE_BY_1 INITIAL_READ_BY("02") INITIAL_READ_BY("01"));
+    SAME(koolvent_verdict_finding(verdict), KOOLVENT_OWN_WRITE_MISSED);
+    SAME(koolvent_verdict_line(verdict), 3);
+    for (int line = 1; line < 256; line++)
+        strcat(long_log, INITIAL_READ_BY("02"));
+    verdict = judge(strcat(long_log, "x"));
+    SAME(koolvent_refusal(verdict), KOOLVENT_REFUSED_MALFORMED);
+    SAME(koolvent_verdict_line(verdict), 256);
+    SAME(longest('x'), KOOLVENT_MOST_LOG_BYTES);
+    SAME(longest('\n'), KOOLVENT_MOST_LOG_LINES);
+}
+
+int main(void)
+{
+    session();
+    sizes();
+    starts();
+    damaged_blocks();
+    frames();
+    verdicts();
+    return differences > 0;
+}
