@@ -229,7 +229,7 @@ enum koolvent_finding {
 };
 
 /* Judges a log, whoever wrote it: the first read at fault, and there the lowest of the findings above. Refused by 15
- * and 16, the latter tested first. */
+ * and 16, the latter tested first. It takes some 21,000 bytes of stack; the calls on a block take less than 1,000. */
 uint64_t koolvent_judge(const uint8_t *log, size_t length);
 
 /* After an accepted judging: an enum koolvent_finding. */
