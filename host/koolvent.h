@@ -2,8 +2,9 @@
  * Koolvent: a store whose reads are never fractured and never wait, and a judge of its logs.
  *
  * A sheet is a number of items (entries of 32 bits), spread over partitions. Clients read and write any set of
- * items in transactions. A read shows a write whole or not at all, never misses what its own client had written
- * before, and ends after one reply for each item, whatever the order in which messages arrive.
+ * items in transactions. A read that shows one item of a write never shows another item of that write older, never
+ * misses what its own client had written before it started, and ends after one reply for each item, whatever the order
+ * in which messages arrive.
  *
  * The host owns all memory and moves all messages. It lends a block of words to each call, and the store keeps
  * everything there: nothing is allocated, no thread is started, no clock is read, nothing is kept elsewhere.
