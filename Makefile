@@ -1,5 +1,6 @@
 # make run shows the store and its judge at work; make test proves and tests everything; make bench times the proved
-# code beside the model; make install puts the two programs, the libraries and the header in place.
+# code beside the model and, where it is installed, SQLite, and writes docs/performance.svg and the tables in
+# docs/PERFORMANCE.md; make install puts the two programs, the libraries and the header in place.
 
 PREFIX ?= /usr/local
 SEED ?= 189
@@ -20,9 +21,12 @@ run: $(DRIVERS) target/host/example explain
 test:
 	@tools/test
 
+bench: SQLITE = $(shell echo 'int main(void) { return 0; }' | gcc -x c - -lsqlite3 -o /dev/null 2>/dev/null && echo ,sqlite)
 bench:
 	rt staticlib judge
-	cd model && cargo run --offline --quiet --profile bench --features proved --bin bench
+	rt staticlib store
+	@$(if $(SQLITE),,echo 'libsqlite3 is not installed (libsqlite3-dev in Debian): measured without it')
+	cd model && cargo run --offline --quiet --profile bench --features proved_store$(SQLITE) --bin bench
 
 target/bin/%: $(SOURCES)
 	rt check $*

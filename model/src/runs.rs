@@ -9,7 +9,6 @@ use crate::frames::hex::to_hex;
 use crate::promise::{Call, Event};
 use crate::random::Random;
 use crate::store::answer::{Answer, Outcome};
-use crate::store::message::Message;
 use crate::store::tables::{Sizes, Tables};
 use crate::store::Store;
 
@@ -192,7 +191,7 @@ impl<'a, 'b> Runner<'a, 'b> {
         let ended = match (&event.call, &answer) {
             (_, Answer::Delivered { outcome, .. }) if *outcome == Outcome::NoneEnded => None,
             (Call::Deliver { place }, Answer::Delivered { .. }) => {
-                Some(client_of(&before.messages[*place as usize]))
+                Some(before.messages[*place as usize].client())
             }
             _ => None,
         };
@@ -220,14 +219,5 @@ impl<'a, 'b> Runner<'a, 'b> {
         } else {
             self.log_lines = LOG_LINES;
         }
-    }
-}
-
-/// The client whose transaction a message serves.
-fn client_of(message: &Message) -> u64 {
-    match message {
-        Message::Prepare(version) => version.stamp.client,
-        Message::Prepared { stamp, .. } | Message::Commit { stamp, .. } => stamp.client,
-        Message::Get { client, .. } | Message::Got { client, .. } => *client,
     }
 }

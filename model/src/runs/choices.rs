@@ -1,6 +1,6 @@
 //! The next call of a random run.
 
-use super::{client_of, Order, Runner, Sort};
+use super::{Order, Runner, Sort};
 use crate::promise::Call;
 use crate::store::answer::Answer;
 use crate::store::message::Message;
@@ -15,7 +15,7 @@ impl Runner<'_, '_> {
         }
         let is_preferred = |message: &Message| match self.order {
             Order::CommitsLast => !matches!(message, Message::Commit { .. }),
-            Order::ClientLast(client) => client_of(message) != client,
+            Order::ClientLast(client) => message.client() != client,
             _ => true,
         };
         let preferred: Vec<u64> = (0..count)

@@ -39,4 +39,13 @@ impl Message {
             Message::Got { .. } => 5,
         }
     }
+
+    /// The client whose transaction it serves.
+    pub fn client(&self) -> u64 {
+        match self {
+            Message::Prepare(version) => version.stamp.client,
+            Message::Prepared { stamp, .. } | Message::Commit { stamp, .. } => stamp.client,
+            Message::Get { client, .. } | Message::Got { client, .. } => *client,
+        }
+    }
 }

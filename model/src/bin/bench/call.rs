@@ -1,0 +1,154 @@
+//! One call: the proved store, the model on the same block, the model on tables of its own, and the floor.
+
+use crate::block::Lent;
+use crate::cases::Case;
+use crate::clock::{steps, steps_prepared, steps_undone, Contender, Rounds};
+use crate::floor;
+use koolvent_model::block::{Calls, Modelled};
+use koolvent_model::layout::{decode, NEEDED};
+use koolvent_model::promise::Call;
+use koolvent_model::proved::store::Proved;
+use koolvent_model::store::tables::Sizes;
+use koolvent_model::store::Store;
+use std::hint::black_box;
+
+const ROUNDS: usize = 151;
+
+/// Nanoseconds of one call, and the store's time as a multiple of each other's.
+pub struct Row {
+    pub name: &'static str,
+    pub store: f64,
+    /// The model on the block: it decodes the words, checks, makes the step, and encodes.
+    pub model: f64,
+    /// The model on tables that it has already: it checks and makes the step.
+    pub tables: f64,
+    /// One plain pass over the words in use; at a fresh start one plain filling of the needed words.
+    pub floor: f64,
+    pub models: f64,
+    pub models_on_tables: f64,
+    pub floors: f64,
+}
+
+const CONTENDERS: usize = 4;
+
+/// The calls, all in the same rounds.
+pub fn rows(cases: &[Case]) -> Vec<Row> {
+    cases.iter().for_each(assert_alike);
+    let contenders = cases.iter().flat_map(contenders).collect();
+    let rounds = Rounds::run(ROUNDS, contenders);
+    let row = |(place, case): (usize, &Case)| {
+        let [store, model, tables, floor] = [0, 1, 2, 3].map(|other| CONTENDERS * place + other);
+        Row {
+            name: case.name,
+            store: rounds.median(store),
+            model: rounds.median(model),
+            tables: rounds.median(tables),
+            floor: rounds.median(floor),
+            models: rounds.ratio(store, model),
+            models_on_tables: rounds.ratio(store, tables),
+            floors: rounds.ratio(store, floor),
+        }
+    };
+    cases.iter().enumerate().map(row).collect()
+}
+
+fn contenders(case: &Case) -> [Contender<'_>; CONTENDERS] {
+    [
+        on_block(Proved, case),
+        on_block(Modelled::default(), case),
+        on_tables(case),
+        floor(case),
+    ]
+}
+
+/// Makes the call on the lent block.
+fn make(served: &impl Calls, lent: &mut Lent, call: &Call) -> u64 {
+    let block = black_box(&mut lent.block[..]);
+    match call {
+        Call::Fresh {
+            clients,
+            partitions,
+            items,
+            ..
+        } => served.fresh(block, *clients, *partitions, *items),
+        Call::Read { client, set } => served.start_read(block, *client, *set),
+        Call::Write {
+            client,
+            set,
+            values,
+        } => served.start_write(block, *client, *set, values),
+        Call::Deliver { place } => served.deliver(block, *place),
+        Call::Show { client, .. } => served.show(block, *client, black_box(&mut lent.output)),
+    }
+}
+
+/// What is timed isn't refused by 1, and gives the same answer, words and output from both.
+fn assert_alike(case: &Case) {
+    let [mut store, mut model] = [(); 2].map(|()| Lent::new(&case.block, &case.block));
+    let answer = make(&Proved, &mut store, &case.call);
+    assert!([0, 3].contains(&(answer & 0xff)), "{}", case.name);
+    assert_eq!(answer, make(&Modelled::default(), &mut model, &case.call));
+    assert_eq!(store.block, model.block, "{}", case.name);
+    assert_eq!(store.output, model.output, "{}", case.name);
+}
+
+/// The block, ready for the call over and over. What a fresh start costs doesn't depend on what the block held.
+fn lent(case: &Case) -> Lent {
+    let mut once = Lent::new(&case.block, &case.block);
+    if !matches!(case.call, Call::Fresh { .. }) {
+        make(&Modelled::default(), &mut once, &case.call);
+    }
+    Lent::new(&case.block, &once.block)
+}
+
+fn on_block<'a>(served: impl Calls + 'a, case: &'a Case) -> Contender<'a> {
+    let step = move |lent: &mut Lent| {
+        black_box(make(&served, lent, &case.call));
+    };
+    steps_undone(lent(case), step, Lent::undo)
+}
+
+fn on_tables(case: &Case) -> Contender<'_> {
+    let tables = decode(&case.block).expect("a block of tables");
+    let before = Store::with_tables(tables);
+    let prepare = move |store: &mut Store| {
+        store.clone_from(&before);
+        store.tables.messages.reserve(NEEDED);
+        store.tables.versions.reserve(NEEDED);
+    };
+    let step = |store: &mut Store| {
+        black_box(make_on_tables(black_box(store), &case.call));
+    };
+    steps_prepared(Store::new(), prepare, step)
+}
+
+fn make_on_tables(store: &mut Store, call: &Call) -> u64 {
+    let answer = match call {
+        Call::Fresh {
+            clients,
+            partitions,
+            items,
+            ..
+        } => store.fresh(true, Sizes::new(*clients, *partitions, *items)),
+        Call::Read { client, set } => store.start_read(*client, *set),
+        Call::Write {
+            client,
+            set,
+            values,
+        } => store.start_write(*client, *set, values),
+        Call::Deliver { place } => store.deliver(*place),
+        Call::Show { client, .. } => store.show(*client, &mut [0; 600]),
+    };
+    answer.number()
+}
+
+fn floor(case: &Case) -> Contender<'_> {
+    if matches!(case.call, Call::Fresh { .. }) {
+        let mut block = case.block.clone();
+        return steps(move || black_box(&mut block).fill(0));
+    }
+    let in_use = floor::in_use(&case.block);
+    steps(move || {
+        black_box(floor::sum(black_box(&case.block), &in_use));
+    })
+}

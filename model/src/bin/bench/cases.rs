@@ -1,0 +1,136 @@
+//! The calls that are timed, each with the block that it is made on.
+
+use crate::session::{first_items, some_values, Session, COMMIT, GET, GOT, PREPARE, PREPARED};
+use koolvent_model::promise::Call;
+use koolvent_model::store::tables::Sizes;
+
+/// A call on a block that accepts it, or refuses it by 3 after the check of all fields.
+pub struct Case {
+    pub name: &'static str,
+    pub block: Vec<u64>,
+    pub call: Call,
+}
+
+const SHEET: u64 = 0b1111;
+
+fn case(name: &'static str, session: &Session, call: Call) -> Case {
+    let block = session.block();
+    Case { name, block, call }
+}
+
+fn fresh(session: &Session) -> Case {
+    let Sizes {
+        clients,
+        partitions,
+        items,
+    } = session.tables().sizes;
+    let call = Call::Fresh {
+        long_enough: true,
+        clients,
+        partitions,
+        items,
+    };
+    case("fresh", session, call)
+}
+
+/// The start of a read.
+pub fn read(name: &'static str, session: &Session, client: u64, set: u64) -> Case {
+    case(name, session, Call::Read { client, set })
+}
+
+/// The check of all fields, and next to nothing else: a read of a client that doesn't exist.
+fn check(session: &Session) -> Case {
+    read("the check alone (refusal 3)", session, 9, SHEET)
+}
+
+fn write(session: &Session, client: u64) -> Case {
+    let call = Call::Write {
+        client,
+        set: SHEET,
+        values: some_values(SHEET),
+    };
+    case("start a write of 4 items", session, call)
+}
+
+fn deliver(name: &'static str, session: &Session, kind: u8, client: u64) -> Case {
+    let place = session.place(kind, client);
+    case(name, session, Call::Deliver { place })
+}
+
+fn show(name: &'static str, session: &Session, client: u64) -> Case {
+    let output = Vec::new();
+    case(name, session, Call::Show { client, output })
+}
+
+/// Two clients, two partitions, four items: each call where the session of a write and a read of all items makes it.
+pub fn small() -> Vec<Case> {
+    let mut session = Session::fresh(2, 2, 4);
+    let mut cases = vec![fresh(&session), write(&session, 1)];
+    session.start_write(1, SHEET);
+    cases.push(deliver("deliver a prepare", &session, PREPARE, 1));
+    session.deliver(PREPARE, 1, 4);
+    cases.push(deliver("deliver a prepared", &session, PREPARED, 1));
+    session.deliver(PREPARED, 1, 3);
+    cases.push(deliver("deliver the last prepared", &session, PREPARED, 1));
+    session.deliver(PREPARED, 1, 1);
+    cases.push(deliver("deliver a commit", &session, COMMIT, 1));
+    session.deliver(COMMIT, 1, 2);
+    cases.push(read("start a read of 4 items", &session, 2, SHEET));
+    session.start_read(2, SHEET);
+    cases.push(deliver("deliver a get", &session, GET, 2));
+    session.deliver(GET, 2, 4);
+    cases.push(deliver("deliver a got", &session, GOT, 2));
+    session.deliver(GOT, 2, 3);
+    cases.push(deliver("deliver the last got", &session, GOT, 2));
+    session.deliver(GOT, 2, 1);
+    cases.push(show("show a read of 4 items", &session, 2));
+    cases.push(check(&session));
+    cases
+}
+
+/// Eight clients, eight partitions, 64 items, 500 stored versions, 120 messages: one block for all calls.
+pub fn busy() -> Vec<Case> {
+    let session = busy_session();
+    let tables = session.tables();
+    assert_eq!((tables.versions.len(), tables.messages.len()), (500, 120));
+    vec![
+        fresh(&session),
+        write(&session, 2),
+        deliver("deliver a prepare", &session, PREPARE, 6),
+        deliver("deliver a prepared", &session, PREPARED, 4),
+        deliver("deliver the last prepared", &session, PREPARED, 5),
+        deliver("deliver a commit", &session, COMMIT, 2),
+        read("start a read of 4 items", &session, 2, SHEET),
+        deliver("deliver a get", &session, GET, 7),
+        deliver("deliver a got", &session, GOT, 7),
+        deliver("deliver the last got", &session, GOT, 8),
+        show("show a read of 64 items", &session, 1),
+        check(&session),
+    ]
+}
+
+/// Every client has written 60 items and read all 64. Then writes by 2 and 3 whose 15 commits lie in the pile, writes by
+/// 4, 5 and 6 under way with 4 and 1 prepared replies and 4 prepares, and reads by 3, 7 and 8 with 63 gets and 33 gots.
+fn busy_session() -> Session {
+    let mut session = Session::fresh(8, 8, 64);
+    for client in 1..=8 {
+        session.write(client, first_items(60));
+        session.deliver_all();
+    }
+    for client in 1..=8 {
+        session.read(client, first_items(64));
+    }
+    session.write(2, first_items(8));
+    session.write(3, first_items(7));
+    session.start_write(4, SHEET);
+    session.deliver(PREPARE, 4, 4);
+    session.start_write(5, 1);
+    session.deliver(PREPARE, 5, 1);
+    session.start_write(6, SHEET);
+    session.start_read(7, first_items(64));
+    session.deliver(GET, 7, 32);
+    session.start_read(8, 1);
+    session.deliver(GET, 8, 1);
+    session.start_read(3, first_items(31));
+    session
+}

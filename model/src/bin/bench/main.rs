@@ -1,0 +1,36 @@
+//! `make bench`: times the proved code beside the model, beside one plain pass over the same words, and beside SQLite in
+//! memory, in one run. It prints what it finds, and writes docs/performance.svg and the table in docs/PERFORMANCE.md.
+
+mod block;
+mod call;
+mod cases;
+mod clock;
+mod floor;
+mod growth;
+mod judges;
+mod limits;
+mod machine;
+mod page;
+mod picture;
+mod session;
+mod sheet;
+#[cfg(feature = "sqlite")]
+mod sqlite;
+
+fn main() {
+    let measured = page::Measured {
+        small: call::rows(&cases::small()),
+        busy: call::rows(&cases::busy()),
+        sheets: sheet::rows(),
+        slowest: judges::slowest(),
+        versions: growth::versions(),
+        messages: growth::messages(),
+        items: growth::items(),
+        sheet: sheet::growth(),
+        logs: judges::growth(),
+    };
+    let table = page::table(&measured);
+    print!("{table}");
+    page::write(&table).expect("docs/PERFORMANCE.md, which has the marks");
+    picture::write(&measured).expect("docs/performance.svg");
+}

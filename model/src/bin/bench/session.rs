@@ -1,0 +1,96 @@
+//! A session played on the model's store, for the blocks that it leaves.
+
+use koolvent_model::layout::encode;
+use koolvent_model::store::answer::Answer;
+use koolvent_model::store::message::Message;
+use koolvent_model::store::tables::{Sizes, Tables};
+use koolvent_model::store::Store;
+
+/// Kinds of messages.
+pub const PREPARE: u8 = 1;
+pub const PREPARED: u8 = 2;
+pub const COMMIT: u8 = 3;
+pub const GET: u8 = 4;
+pub const GOT: u8 = 5;
+
+/// A store in the middle of a session; every call on it is accepted.
+#[derive(Clone)]
+pub struct Session {
+    store: Store,
+}
+
+/// The set of the first items.
+pub fn first_items(count: u64) -> u64 {
+    u64::MAX >> (64 - count)
+}
+
+/// Value bytes for the items of a set.
+pub fn some_values(set: u64) -> Vec<u8> {
+    (0..set.count_ones())
+        .flat_map(|place| (1_000_000 * (place + 1)).to_be_bytes())
+        .collect()
+}
+
+impl Session {
+    pub fn fresh(clients: u64, partitions: u64, items: u64) -> Session {
+        let mut store = Store::new();
+        accepted(store.fresh(true, Sizes::new(clients, partitions, items)));
+        Session { store }
+    }
+
+    pub fn start_read(&mut self, client: u64, set: u64) {
+        accepted(self.store.start_read(client, set));
+    }
+
+    pub fn start_write(&mut self, client: u64, set: u64) {
+        let values = some_values(set);
+        accepted(self.store.start_write(client, set, &values));
+    }
+
+    /// A read from its start to its end.
+    pub fn read(&mut self, client: u64, set: u64) {
+        self.start_read(client, set);
+        self.deliver(GET, client, set.count_ones());
+        self.deliver(GOT, client, set.count_ones());
+    }
+
+    /// A write from its start to its end; its commits lie in the pile.
+    pub fn write(&mut self, client: u64, set: u64) {
+        self.start_write(client, set);
+        self.deliver(PREPARE, client, set.count_ones());
+        self.deliver(PREPARED, client, set.count_ones());
+    }
+
+    /// Delivers so many messages of the kind and client, each time the first.
+    pub fn deliver(&mut self, kind: u8, client: u64, count: u32) {
+        for _ in 0..count {
+            let place = self.place(kind, client);
+            accepted(self.store.deliver(place));
+        }
+    }
+
+    pub fn deliver_all(&mut self) {
+        while !self.tables().messages.is_empty() {
+            accepted(self.store.deliver(0));
+        }
+    }
+
+    /// The place of the first message of the kind and client.
+    pub fn place(&self, kind: u8, client: u64) -> u64 {
+        let is_it = |message: &Message| message.kind() == kind && message.client() == client;
+        let place = self.tables().messages.iter().position(is_it);
+        place.expect("such a message lies in the pile") as u64
+    }
+
+    pub fn tables(&self) -> &Tables {
+        &self.store.tables
+    }
+
+    pub fn block(&self) -> Vec<u64> {
+        encode(self.tables())
+    }
+}
+
+fn accepted(answer: Answer) {
+    assert!(!matches!(answer, Answer::Refused(_)), "{answer:?}");
+}

@@ -1,0 +1,175 @@
+//! A transaction each way on the small sheet: client 1 writes its four items, client 2 reads them, all messages are
+//! delivered in turn, both are shown.
+
+use crate::block::Lent;
+use crate::clock::{steps, steps_undone, Contender, Rounds};
+use crate::session::Session;
+#[cfg(feature = "sqlite")]
+use crate::sqlite::Sheet;
+use koolvent_model::block::{Calls, Modelled};
+use koolvent_model::proved::store::Proved;
+use std::hint::black_box;
+
+/// So many writes of four items fill the 512 versions.
+const WRITES_OF_A_LIFE: usize = 128;
+const SHEET: u64 = 0b1111;
+const ROUNDS: usize = 101;
+const ROUNDS_OF_LIVES: usize = 31;
+
+/// Nanoseconds of one write and one read.
+pub struct Row {
+    pub name: String,
+    /// Stored versions before it.
+    pub versions: u64,
+    pub store: f64,
+    pub model: f64,
+    pub sqlite: Option<Beside>,
+}
+
+/// SQLite's time, and how many times the store's that is.
+#[derive(Clone, Copy)]
+pub struct Beside {
+    pub time: f64,
+    pub stores: f64,
+}
+
+/// On a fresh sheet, and over the life of one.
+pub fn rows() -> Vec<Row> {
+    let life = Row {
+        name: format!("the mean of {WRITES_OF_A_LIFE}, from a fresh sheet to a full one"),
+        ..row(
+            0,
+            &Rounds::run(
+                ROUNDS_OF_LIVES,
+                beside(vec![a_life(Proved), a_life(Modelled::default())]),
+            ),
+            0,
+        )
+    };
+    let mut rows = on_sheets(&[0]);
+    rows.push(life);
+    rows
+}
+
+/// Against the number of stored versions.
+pub fn growth() -> Vec<Row> {
+    on_sheets(&[0, 64, 128, 192, 256, 320, 384, 448, 508])
+}
+
+/// On sheets with so many stored versions, all in the same rounds.
+fn on_sheets(versions: &[u64]) -> Vec<Row> {
+    let of_one = |versions: &u64| {
+        let block = sheet_with(*versions);
+        assert_alike(&block);
+        beside(vec![
+            once(Proved, &block),
+            once(Modelled::default(), &block),
+        ])
+    };
+    let of_each: Vec<Vec<Contender>> = versions.iter().map(of_one).collect();
+    let each = of_each.first().map_or(0, Vec::len);
+    let rounds = Rounds::run(ROUNDS, of_each.into_iter().flatten().collect());
+    let rows = versions.iter().enumerate();
+    rows.map(|(place, versions)| row(*versions, &rounds, each * place))
+        .collect()
+}
+
+fn sheet_with(versions: u64) -> Vec<u64> {
+    let mut session = Session::fresh(2, 2, 4);
+    for _ in 0..versions / 4 {
+        session.write(1, SHEET);
+        session.deliver_all();
+    }
+    session.block()
+}
+
+/// The store and the model, and SQLite where it is there.
+fn beside<'a>(mut contenders: Vec<Contender<'a>>) -> Vec<Contender<'a>> {
+    contenders.extend(in_sqlite());
+    contenders
+}
+
+/// The row of the store, the model and perhaps SQLite, of which the store is the contender at the place.
+fn row(versions: u64, rounds: &Rounds, place: usize) -> Row {
+    let sqlite = cfg!(feature = "sqlite").then(|| Beside {
+        time: rounds.median(place + 2),
+        stores: rounds.ratio(place + 2, place),
+    });
+    Row {
+        name: format!("on a sheet with {versions} stored versions"),
+        versions,
+        store: rounds.median(place),
+        model: rounds.median(place + 1),
+        sqlite,
+    }
+}
+
+/// The store and the model leave the same words and show the same.
+fn assert_alike(block: &[u64]) {
+    let [mut store, mut model] = [(); 2].map(|()| Lent::new(block, block));
+    write_and_read(&Proved, &mut store, 1);
+    write_and_read(&Modelled::default(), &mut model, 1);
+    assert!(store.block == model.block && store.output == model.output);
+}
+
+fn once<'a>(served: impl Calls + 'a, block: &[u64]) -> Contender<'a> {
+    let mut after = Lent::new(block, block);
+    write_and_read(&served, &mut after, 1);
+    let lent = Lent::new(block, &after.block);
+    let step = move |lent: &mut Lent| write_and_read(&served, lent, 1);
+    steps_undone(lent, step, Lent::undo)
+}
+
+fn a_life<'a>(served: impl Calls + 'a) -> Contender<'a> {
+    let block = Session::fresh(2, 2, 4).block();
+    let mut lent = Lent::new(&block, &block);
+    let mut life = steps(move || {
+        accepted(served.fresh(&mut lent.block, 2, 2, 4));
+        for value in 0..WRITES_OF_A_LIFE {
+            write_and_read(&served, &mut lent, value as u32);
+        }
+    });
+    Box::new(move || life() / WRITES_OF_A_LIFE as f64)
+}
+
+fn write_and_read(served: &impl Calls, lent: &mut Lent, value: u32) {
+    let block = black_box(&mut lent.block[..]);
+    let mut values = [0; 16];
+    for (item, bytes) in values.chunks_mut(4).enumerate() {
+        bytes.copy_from_slice(&(value + item as u32).to_be_bytes());
+    }
+    let started = accepted(served.start_write(block, 1, SHEET, &values));
+    deliver_all(served, block, started >> 8);
+    let started = accepted(served.start_read(block, 2, SHEET));
+    deliver_all(served, block, started >> 8);
+    accepted(served.show(block, 1, &mut lent.output));
+    accepted(served.show(block, 2, &mut lent.output));
+}
+
+fn deliver_all(served: &impl Calls, block: &mut [u64], mut messages: u64) {
+    while messages > 0 {
+        messages = accepted(served.deliver(block, 0)) >> 16 & 0xffff;
+    }
+}
+
+fn accepted(answer: u64) -> u64 {
+    assert_eq!(answer & 0xff, 0);
+    answer
+}
+
+#[cfg(feature = "sqlite")]
+fn in_sqlite<'a>() -> Option<Contender<'a>> {
+    let mut sheet = Sheet::new();
+    let mut value = 0;
+    Some(steps(move || {
+        value = (value + 1) % 1_000;
+        let values = [0, 1, 2, 3].map(|item| value + item);
+        sheet.write(1, values);
+        assert_eq!(sheet.read(), values);
+    }))
+}
+
+#[cfg(not(feature = "sqlite"))]
+fn in_sqlite<'a>() -> Option<Contender<'a>> {
+    None
+}
