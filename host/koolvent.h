@@ -51,7 +51,7 @@ extern "C" {
 
 /* ---- Sizes and limits ---- */
 
-/* The words of 64 bits that a block needs, whatever its sizes. More may be lent: they are never read or written. */
+/* The words of 64 bits that a block needs, whatever its sizes. More may be lent: no call changes them. */
 #define KOOLVENT_WORDS 6352
 
 /* The most clients (desks; numbered from 1), partitions (cabinets; from 0) and items (lines; from 0), 1 being the

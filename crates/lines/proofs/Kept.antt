@@ -6,7 +6,7 @@ use Prim.Native.Nat.{ℕ, zero, suc, _+_, _≤_, _<_}
 use native.Mathlib.Numerals.{add-one}
 use native.Mathlib.Omega.{arith}
 use lib.Dec.{eqb}
-use lib.ListN.{length, take, set, length-append}
+use lib.ListN.{length, take, set, length-append, length-set}
 use lib.Seq.{sets, take-all, take-suc-set, take-append-le, length-take-le}
 use Rattle.lines.specs.Input.{joined, keptAfter, byteReply, byteBlock, endReply, endBlock}
 use Rattle.lines.specs.Lines.{lineReply, lineBlock}
@@ -27,6 +27,14 @@ module _ (line : List ℕ) (at c : ℕ) (wide : length line ≡ 534) where
       sym (take-append-le 534 line (c ∷ []) (omega arith))
       ∙ ap (λ (l : List ℕ). joined l c) (sym whole)
 
+  pub length-short : at < 534 → at + 1 ≡ length (joined (take at line) c)
+  length-short h =
+      sym (length-take-le (at + 1) (set line at c) (omega (arith, length-set line at c)))
+      ∙ ap length (joined-short h)
+
+  pub length-full : 534 ≤ at → 534 ≡ length (joined (take at line) c)
+  length-full h = sym (length-take-le 534 line (omega arith)) ∙ ap length (joined-full h)
+
 -- ---- a line is answered
 
 -- what answering line l on block b gives: the reply's length, the output and the block after it
@@ -42,18 +50,20 @@ answered-same b out e a = (
   ),
 )
 
--- what a byte c behind the bytes kept leads to, where l is kept then
-abbrev pub FedBy : (b out : List ℕ) (r : ℕ) (o w kept : List ℕ) (c : ℕ) → List ℕ → Type 0
-FedBy b out r o w kept c l =
-    (l ≡ keptAfter kept c) × ((r ≡ length (byteReply b kept c)) × ((o ≡ sets out 0 (byteReply b kept c)) × (w ≡ byteBlock b kept c)))
+-- what a byte c behind the bytes kept leads to, where n bytes are kept then, l, of the array u
+abbrev pub FedBy : (b out : List ℕ) (n r : ℕ) (o w u v kept : List ℕ) (c : ℕ) → List ℕ → Type 0
+FedBy b out n r o w u v kept c l =
+    (n ≡ length (keptAfter kept c)) × ((l ≡ keptAfter kept c) × ((r ≡ length (byteReply b kept c)) × ((o ≡ sets out 0 (byteReply b kept c)) × ((w ≡ byteBlock b kept c) × (u ≡ v)))))
 
-pub fed-end : (b out kept : List ℕ) (c : ℕ) {r : ℕ} {o w l : List ℕ} → eqb c 0x0a ≡ true → l ≡ joined kept c → Answered b out r o w l → FedBy b out r o w kept c []
+pub fed-end : (b out kept : List ℕ) (c : ℕ) {r : ℕ} {o w u v l : List ℕ} → eqb c 0x0a ≡ true → l ≡ joined kept c → Answered b out r o w l → u ≡ v → FedBy b out 0 r o w u v kept c []
 unfolding keptAfter byteReply byteBlock
-fed-end b out kept c e q a = rw e (refl, answered-same b out q a)
+fed-end b out kept c e q a x =
+    let s = answered-same b out q a in
+    rw e (refl, (refl, (s .0, (s .1 .0, (s .1 .1, x)))))
 
-pub fed-within : (b out kept : List ℕ) (c : ℕ) {l : List ℕ} → eqb c 0x0a ≡ false → l ≡ joined kept c → FedBy b out 0 out b kept c l
+pub fed-within : (b out kept : List ℕ) (c : ℕ) {n : ℕ} {u v l : List ℕ} → eqb c 0x0a ≡ false → n ≡ length (joined kept c) → l ≡ joined kept c → u ≡ v → FedBy b out n 0 out b u v kept c l
 unfolding keptAfter byteReply byteBlock
-fed-within b out kept c e q = rw e (q, (refl, (refl, refl)))
+fed-within b out kept c e k q x = rw e (k, (q, (refl, (refl, (refl, x)))))
 
 -- ---- the end of the input
 

@@ -1,8 +1,7 @@
 // The input byte by byte: a line is kept until its 0a comes, and then answered.
 use crate::answer_line;
 ghost use mathlib.Core.Path.{_≡_};
-ghost use Prim.Native.Nat.{_≤_};
-ghost use lib.ListN.{length, take};
+ghost use lib.ListN.{length, take, set};
 ghost use lib.Seq.{sets};
 ghost use Rattle.lines.specs.Input.{joined, keptAfter, byteReply, byteBlock, endReply, endBlock};
 ghost use Rattle.lines.specs.Lines.{lineReply, lineBlock};
@@ -16,8 +15,9 @@ pub struct Fed {
 // Keeps byte `c` behind the first `at` bytes of `line`, and answers how many are kept; a full line stays.
 fn keep(line: &mut [u8], at: usize, c: u8) -> usize
     requires { ⌜ length (now line) ≡ 534 ⌝ }
-    ensures { λ r. ⌜ r ≤ 534 ⌝ }
+    ensures { λ r. ⌜ r ≡ length (joined (take at (now (line .entry))) c) ⌝ }
     ensures { λ r. ⌜ take r (now (line .exit)) ≡ joined (take at (now (line .entry))) c ⌝ }
+    ensures { λ _. ⌜ now (line .exit) ≡ set (now (line .entry)) at c ⌝ }
 {
     if at < 534 {
         line[at] = c;
@@ -42,10 +42,12 @@ fn answer_front(b: &mut [u64], line: &[u8], at: usize, output: &mut [u8; 1175]) 
 
 fn feed_slice(b: &mut [u64], line: &mut [u8], at: usize, c: u8, output: &mut [u8; 1175]) -> Fed
     requires { ⌜ length (now line) ≡ 534 ⌝ }
+    ensures { λ r. ⌜ r .at ≡ length (keptAfter (take at (now (line .entry))) c) ⌝ }
     ensures { λ r. ⌜ take (r .at) (now (line .exit)) ≡ keptAfter (take at (now (line .entry))) c ⌝ }
     ensures { λ r. ⌜ r .length ≡ length (byteReply (now (b .entry)) (take at (now (line .entry))) c) ⌝ }
     ensures { λ _. ⌜ now (output .exit) ≡ sets (now (output .entry)) 0 (byteReply (now (b .entry)) (take at (now (line .entry))) c) ⌝ }
     ensures { λ _. ⌜ now (b .exit) ≡ byteBlock (now (b .entry)) (take at (now (line .entry))) c ⌝ }
+    ensures { λ _. ⌜ now (line .exit) ≡ set (now (line .entry)) at c ⌝ }
 {
     let n = keep(line, at, c);
     if c == 0x0a {
@@ -58,10 +60,12 @@ fn feed_slice(b: &mut [u64], line: &mut [u8], at: usize, c: u8, output: &mut [u8
 
 // Takes byte `c` of the input, behind the first `at` bytes of `line`: at its 0a the line is carried out, and its reply is at the front of `output`.
 pub fn feed(b: &mut [u64], line: &mut [u8; 534], at: usize, c: u8, output: &mut [u8; 1175]) -> Fed
+    ensures { λ r. ⌜ r .at ≡ length (keptAfter (take at (now (line .entry))) c) ⌝ }
     ensures { λ r. ⌜ take (r .at) (now (line .exit)) ≡ keptAfter (take at (now (line .entry))) c ⌝ }
     ensures { λ r. ⌜ r .length ≡ length (byteReply (now (b .entry)) (take at (now (line .entry))) c) ⌝ }
     ensures { λ _. ⌜ now (output .exit) ≡ sets (now (output .entry)) 0 (byteReply (now (b .entry)) (take at (now (line .entry))) c) ⌝ }
     ensures { λ _. ⌜ now (b .exit) ≡ byteBlock (now (b .entry)) (take at (now (line .entry))) c ⌝ }
+    ensures { λ _. ⌜ now (line .exit) ≡ set (now (line .entry)) at c ⌝ }
 {
     feed_slice(b, line, at, c, output)
 }

@@ -21,7 +21,8 @@ same-length-2 c = search needs
 returns : tie.Need-returns
 returns c =
     let a = c .before .before .before .before .before .before .before .before .before .before .before .before .before .args in
-    fed-end (a .b .now) (a .output .now) (take (a .at) (a .line .now)) (a .c) (eq-eqb (a .c) 0x0a (c .before .before .before .before .before .before .if1 .taken)) (c .before .before .before .before .before .before .before .before .before .keep .ensures .1) (c .before .before .answer-front .ensures)
+    let k = c .before .before .before .before .before .before .before .before .before .keep .ensures in
+    fed-end (a .b .now) (a .output .now) (take (a .at) (a .line .now)) (a .c) (eq-eqb (a .c) 0x0a (c .before .before .before .before .before .before .if1 .taken)) (k .1 .0) (c .before .before .answer-front .ensures) (k .1 .1)
 
 same-length-3 : tie.Need-same-length-3
 same-length-3 c = search needs
@@ -29,7 +30,8 @@ same-length-3 c = search needs
 returns-2 : tie.Need-returns-2
 returns-2 c =
     let a = c .before .before .before .before .before .before .before .args in
-    fed-within (a .b .now) (a .output .now) (take (a .at) (a .line .now)) (a .c) (ne-eqb (a .c) 0x0a (c .if1 .left)) (c .before .before .before .keep .ensures .1)
+    let k = c .before .before .before .keep .ensures in
+    fed-within (a .b .now) (a .output .now) (take (a .at) (a .line .now)) (a .c) (ne-eqb (a .c) 0x0a (c .if1 .left)) (k .0) (k .1 .0) (k .1 .1)
 
 pub feed-slice-spec : {M : Type 1} → statement M
 feed-slice-spec =
