@@ -10,6 +10,7 @@ use borrow.Author.Tests.{le-leb, lt-leb, ne-eqb, ltb-true}
 use Rattle.basics.specs.Cases.{by-test, or-right, test-ext}
 use Rattle.basics.specs.Lists.{at-every}
 use Rattle.itemset.specs.Set.{has, allBelow}
+use Rattle.itemset.specs.Laws.{has-empty}
 use Rattle.protocol.specs.Tables.{Sizes, write}
 use Rattle.protocol.specs.Range.{fits, each, stampInRange, endedInRange, clientInRange, isWriting, isIdle}
 use Rattle.protocol.proofs.Tells.{tells-and}
@@ -37,6 +38,9 @@ each-within z s p words = every-same (z .items) _ _ (λ k l. by-test (has s k) (
 
 each-true : (z : Sizes) (s : ℕ) (p : ℕ → Bool) → ((k : ℕ) → p k ≡ true) → each z s p ≡ true
 each-true z s p h = at-every (z .items) _ (λ k l. or-right (not (has s k)) (p k) (h k))
+
+pub each-empty : (z : Sizes) (s : ℕ) (p : ℕ → Bool) → s ≡ 0 → true ≡ each z s p
+each-empty z s p e = sym (at-every (z .items) _ (λ k l. rw (e, has-empty k)))
 
 -- ---- The stamps of the transaction under way
 

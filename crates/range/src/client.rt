@@ -20,7 +20,7 @@ fn item_word(b: &[u64], base: u64, d: u64, k: u64) -> u64
 }
 
 // The stamps of client `d` in the section from `base` on, of the items of `set`.
-fn stamps_in_range(b: &[u64], base: u64, d: u64, set: u64, clients: u64, items: u64) -> bool
+fn some_stamps_in_range(b: &[u64], base: u64, d: u64, set: u64, clients: u64, items: u64) -> bool
     requires { ⌜ (base ≤ 2768) × (1 ≤ d) × (d ≤ 8) × (items ≤ 64) ⌝ }
     ensures { λ r. ⌜ r ≡ each (sized clients items) set (λ k. stampInRange (sized clients items) (getD (now (b .entry)) (base + itemAt d k) 0)) ⌝ }
 {
@@ -33,8 +33,20 @@ fn stamps_in_range(b: &[u64], base: u64, d: u64, set: u64, clients: u64, items: 
     ok
 }
 
+// The same, with no look at the items where the set is empty.
+fn stamps_in_range(b: &[u64], base: u64, d: u64, set: u64, clients: u64, items: u64) -> bool
+    requires { ⌜ (base ≤ 2768) × (1 ≤ d) × (d ≤ 8) × (items ≤ 64) ⌝ }
+    ensures { λ r. ⌜ r ≡ each (sized clients items) set (λ k. stampInRange (sized clients items) (getD (now (b .entry)) (base + itemAt d k) 0)) ⌝ }
+{
+    if set == 0 {
+        true
+    } else {
+        some_stamps_in_range(b, base, d, set, clients, items)
+    }
+}
+
 // The values of client `d` in the section from `base` on, of the items of `set`.
-fn values_in_range(b: &[u64], base: u64, d: u64, set: u64, items: u64) -> bool
+fn some_values_in_range(b: &[u64], base: u64, d: u64, set: u64, items: u64) -> bool
     requires { ⌜ (base ≤ 2768) × (1 ≤ d) × (d ≤ 8) × (items ≤ 64) ⌝ }
     ensures { λ r. ⌜ r ≡ each (sized 0 items) set (λ k. fits (getD (now (b .entry)) (base + itemAt d k) 0)) ⌝ }
 {
@@ -45,6 +57,18 @@ fn values_in_range(b: &[u64], base: u64, d: u64, set: u64, items: u64) -> bool
         k += 1;
     }
     ok
+}
+
+// The same, with no look at the items where the set is empty.
+fn values_in_range(b: &[u64], base: u64, d: u64, set: u64, items: u64) -> bool
+    requires { ⌜ (base ≤ 2768) × (1 ≤ d) × (d ≤ 8) × (items ≤ 64) ⌝ }
+    ensures { λ r. ⌜ r ≡ each (sized 0 items) set (λ k. fits (getD (now (b .entry)) (base + itemAt d k) 0)) ⌝ }
+{
+    if set == 0 {
+        true
+    } else {
+        some_values_in_range(b, base, d, set, items)
+    }
 }
 
 // The stamps of the transaction under way: one for a write, one for each item of any other.
