@@ -3,6 +3,7 @@
 ghost use mathlib.Core.Bool.{cond};
 ghost use mathlib.Core.Path.{_≡_};
 ghost use Prim.Native.Nat.{_+_, _*_, _≤_, _<_};
+ghost use lib.ListN.{length};
 ghost use Rattle.basics.specs.Lists.{counted, table};
 ghost use Rattle.protocol.specs.Range.{arrived, total, isPrepare};
 ghost use Rattle.layout.specs.Decode.{clientIn, messageIn};
@@ -49,7 +50,7 @@ pub fn load_of(b: &[u64], clients: u64, messages: u64) -> u64
 
 // 1 where message `i` is a prepare.
 fn prepare_at(b: &[u64], i: u64) -> u64
-    requires { ⌜ i < 128 ⌝ }
+    requires { ⌜ (i < 128) × (6352 ≤ length (now b)) ⌝ }
     ensures { λ r. ⌜ r ≡ cond (isPrepare (messageIn (now (b .entry)) i)) 1 0 ⌝ }
     ensures { λ r. ⌜ r ≤ 1 ⌝ }
 {
@@ -57,7 +58,7 @@ fn prepare_at(b: &[u64], i: u64) -> u64
 }
 
 fn prepares(b: &[u64], messages: u64) -> u64
-    requires { ⌜ messages ≤ 128 ⌝ }
+    requires { ⌜ (messages ≤ 128) × (6352 ≤ length (now b)) ⌝ }
     ensures { λ r. ⌜ r ≡ counted isPrepare (table messages (messageIn (now (b .entry)))) ⌝ }
     ensures { λ r. ⌜ r ≤ messages ⌝ }
 {
@@ -72,7 +73,7 @@ fn prepares(b: &[u64], messages: u64) -> u64
 
 // The versions in use of a block with so many stored versions and messages.
 pub fn occupied_of(b: &[u64], versions: u64, messages: u64) -> u64
-    requires { ⌜ (versions ≤ 512) × (messages ≤ 128) ⌝ }
+    requires { ⌜ (versions ≤ 512) × (messages ≤ 128) × (6352 ≤ length (now b)) ⌝ }
     ensures { λ r. ⌜ r ≡ versions + counted isPrepare (table messages (messageIn (now (b .entry)))) ⌝ }
 {
     versions + prepares(b, messages)

@@ -1,7 +1,7 @@
 // Clients (document 01: desks): the transaction under way and the last ended one, with the stamps and values of their items.
 ghost use mathlib.Core.Path.{_≡_};
 ghost use Prim.Native.Nat.{suc, _+_, _≤_, _<_};
-ghost use lib.ListN.{getD};
+ghost use lib.ListN.{length, getD};
 ghost use Rattle.basics.specs.Lists.{every};
 ghost use Rattle.protocol.specs.Range.{fits, each, stampInRange, endedInRange};
 ghost use Rattle.layout.specs.Layout.{itemAt};
@@ -10,18 +10,19 @@ ghost use Rattle.range.specs.Sized.{sized};
 ghost use Rattle.range.specs.Clients.{askedInRange, lastRead, lastWrite, lastTest, stateTest, valuesTest, clientTest};
 use crate::field::lacks;
 use crate::field::stamp_in_range;
+use crate::field::word;
 
 // The word of client `d` and item `k` in the section from `base` on.
 fn item_word(b: &[u64], base: u64, d: u64, k: u64) -> u64
-    requires { ⌜ (base ≤ 2768) × (1 ≤ d) × (d ≤ 8) × (k < 64) ⌝ }
+    requires { ⌜ (base ≤ 2768) × (1 ≤ d) × (d ≤ 8) × (k < 64) × (6352 ≤ length (now b)) ⌝ }
     ensures { λ r. ⌜ r ≡ getD (now (b .entry)) (base + itemAt d k) 0 ⌝ }
 {
-    layout::word(b, (base + (64 * (d - 1) + k)) as usize)
+    word(b, (base + (64 * (d - 1) + k)) as usize)
 }
 
 // The stamps of client `d` in the section from `base` on, of the items of `set`.
 fn some_stamps_in_range(b: &[u64], base: u64, d: u64, set: u64, clients: u64, items: u64) -> bool
-    requires { ⌜ (base ≤ 2768) × (1 ≤ d) × (d ≤ 8) × (items ≤ 64) ⌝ }
+    requires { ⌜ (base ≤ 2768) × (1 ≤ d) × (d ≤ 8) × (items ≤ 64) × (6352 ≤ length (now b)) ⌝ }
     ensures { λ r. ⌜ r ≡ each (sized clients items) set (λ k. stampInRange (sized clients items) (getD (now (b .entry)) (base + itemAt d k) 0)) ⌝ }
 {
     let mut ok = true;
@@ -35,7 +36,7 @@ fn some_stamps_in_range(b: &[u64], base: u64, d: u64, set: u64, clients: u64, it
 
 // The same, with no look at the items where the set is empty.
 fn stamps_in_range(b: &[u64], base: u64, d: u64, set: u64, clients: u64, items: u64) -> bool
-    requires { ⌜ (base ≤ 2768) × (1 ≤ d) × (d ≤ 8) × (items ≤ 64) ⌝ }
+    requires { ⌜ (base ≤ 2768) × (1 ≤ d) × (d ≤ 8) × (items ≤ 64) × (6352 ≤ length (now b)) ⌝ }
     ensures { λ r. ⌜ r ≡ each (sized clients items) set (λ k. stampInRange (sized clients items) (getD (now (b .entry)) (base + itemAt d k) 0)) ⌝ }
 {
     if set == 0 {
@@ -47,7 +48,7 @@ fn stamps_in_range(b: &[u64], base: u64, d: u64, set: u64, clients: u64, items: 
 
 // The values of client `d` in the section from `base` on, of the items of `set`.
 fn some_values_in_range(b: &[u64], base: u64, d: u64, set: u64, items: u64) -> bool
-    requires { ⌜ (base ≤ 2768) × (1 ≤ d) × (d ≤ 8) × (items ≤ 64) ⌝ }
+    requires { ⌜ (base ≤ 2768) × (1 ≤ d) × (d ≤ 8) × (items ≤ 64) × (6352 ≤ length (now b)) ⌝ }
     ensures { λ r. ⌜ r ≡ each (sized 0 items) set (λ k. fits (getD (now (b .entry)) (base + itemAt d k) 0)) ⌝ }
 {
     let mut ok = true;
@@ -61,7 +62,7 @@ fn some_values_in_range(b: &[u64], base: u64, d: u64, set: u64, items: u64) -> b
 
 // The same, with no look at the items where the set is empty.
 fn values_in_range(b: &[u64], base: u64, d: u64, set: u64, items: u64) -> bool
-    requires { ⌜ (base ≤ 2768) × (1 ≤ d) × (d ≤ 8) × (items ≤ 64) ⌝ }
+    requires { ⌜ (base ≤ 2768) × (1 ≤ d) × (d ≤ 8) × (items ≤ 64) × (6352 ≤ length (now b)) ⌝ }
     ensures { λ r. ⌜ r ≡ each (sized 0 items) set (λ k. fits (getD (now (b .entry)) (base + itemAt d k) 0)) ⌝ }
 {
     if set == 0 {
@@ -73,7 +74,7 @@ fn values_in_range(b: &[u64], base: u64, d: u64, set: u64, items: u64) -> bool
 
 // The stamps of the transaction under way: one for a write, one for each item of any other.
 fn asked_in_range(b: &[u64], d: u64, clients: u64, items: u64) -> bool
-    requires { ⌜ (1 ≤ d) × (d ≤ 8) × (items ≤ 64) ⌝ }
+    requires { ⌜ (1 ≤ d) × (d ≤ 8) × (items ≤ 64) × (6352 ≤ length (now b)) ⌝ }
     ensures { λ r. ⌜ r ≡ askedInRange (sized clients items) (clientIn (now (b .entry)) d) ⌝ }
 {
     if 2 <= layout::client::mode(b, d) {
@@ -85,7 +86,7 @@ fn asked_in_range(b: &[u64], d: u64, clients: u64, items: u64) -> bool
 
 // The last ended transaction, a read.
 fn read_in_range(b: &[u64], d: u64, clients: u64, items: u64) -> bool
-    requires { ⌜ (1 ≤ d) × (d ≤ 8) × (items ≤ 64) ⌝ }
+    requires { ⌜ (1 ≤ d) × (d ≤ 8) × (items ≤ 64) × (6352 ≤ length (now b)) ⌝ }
     ensures { λ r. ⌜ r ≡ endedInRange (sized clients items) (lastRead (now (b .entry)) d) ⌝ }
 {
     let set = layout::client::last_set(b, d);
@@ -96,7 +97,7 @@ fn read_in_range(b: &[u64], d: u64, clients: u64, items: u64) -> bool
 
 // The last ended transaction, a write.
 fn write_in_range(b: &[u64], d: u64, clients: u64, items: u64) -> bool
-    requires { ⌜ (1 ≤ d) × (d ≤ 8) × (items ≤ 64) ⌝ }
+    requires { ⌜ (1 ≤ d) × (d ≤ 8) × (items ≤ 64) × (6352 ≤ length (now b)) ⌝ }
     ensures { λ r. ⌜ r ≡ endedInRange (sized clients items) (lastWrite (now (b .entry)) d) ⌝ }
 {
     let set = layout::client::last_set(b, d);
@@ -106,7 +107,7 @@ fn write_in_range(b: &[u64], d: u64, clients: u64, items: u64) -> bool
 }
 
 fn last_in_range(b: &[u64], d: u64, clients: u64, items: u64) -> bool
-    requires { ⌜ (1 ≤ d) × (d ≤ 8) × (items ≤ 64) ⌝ }
+    requires { ⌜ (1 ≤ d) × (d ≤ 8) × (items ≤ 64) × (6352 ≤ length (now b)) ⌝ }
     ensures { λ r. ⌜ r ≡ lastTest (now (b .entry)) d clients items ⌝ }
 {
     let kind = layout::client::last_kind(b, d);
@@ -138,14 +139,14 @@ fn state_in_range(b: &[u64], d: u64, items: u64) -> bool
 
 // The values of the transaction under way.
 fn running_in_range(b: &[u64], d: u64, items: u64) -> bool
-    requires { ⌜ (1 ≤ d) × (d ≤ 8) × (items ≤ 64) ⌝ }
+    requires { ⌜ (1 ≤ d) × (d ≤ 8) × (items ≤ 64) × (6352 ≤ length (now b)) ⌝ }
     ensures { λ r. ⌜ r ≡ valuesTest (now (b .entry)) d items ⌝ }
 {
     values_in_range(b, 1744, d, layout::client::set_of(b, d), items)
 }
 
 fn client_in_range(b: &[u64], d: u64, clients: u64, items: u64) -> bool
-    requires { ⌜ (1 ≤ d) × (d ≤ 8) × (items ≤ 64) ⌝ }
+    requires { ⌜ (1 ≤ d) × (d ≤ 8) × (items ≤ 64) × (6352 ≤ length (now b)) ⌝ }
     ensures { λ r. ⌜ r ≡ clientTest (now (b .entry)) d clients items ⌝ }
 {
     state_in_range(b, d, items)
@@ -155,7 +156,7 @@ fn client_in_range(b: &[u64], d: u64, clients: u64, items: u64) -> bool
 }
 
 pub fn clients_in_range(b: &[u64], clients: u64, items: u64) -> bool
-    requires { ⌜ (clients ≤ 8) × (items ≤ 64) ⌝ }
+    requires { ⌜ (clients ≤ 8) × (items ≤ 64) × (6352 ≤ length (now b)) ⌝ }
     ensures { λ r. ⌜ r ≡ every clients (λ i. clientTest (now (b .entry)) (suc i) clients items) ⌝ }
 {
     let mut ok = true;

@@ -1,12 +1,21 @@
-// Single values: stamps, entries, stored versions, and whether a set lacks an item.
+// Single values: words, stamps, entries, stored versions, and whether a set lacks an item.
 ghost use mathlib.Core.Path.{_≡_};
 ghost use mathlib.Core.Bool.{not};
 ghost use Prim.Native.Nat.{_<_};
+ghost use lib.ListN.{length, getD};
 ghost use Rattle.itemset.specs.Set.{has};
 ghost use Rattle.protocol.specs.Range.{stampInRange, entryInRange, versionInRange};
 ghost use Rattle.range.specs.Sized.{sized};
 use protocol::Entry;
 use protocol::Version;
+
+// The word at `place`, which the block has.
+pub fn word(b: &[u64], place: usize) -> u64
+    requires { ⌜ place < length (now b) ⌝ }
+    ensures { λ r. ⌜ r ≡ getD (now (b .entry)) place 0 ⌝ }
+{
+    b[place]
+}
 
 // A stamp: 0, or a number of 1 to 4,294,967,295 and a client that exists.
 pub fn stamp_in_range(clients: u64, stamp: u64) -> bool

@@ -38,7 +38,7 @@ fn tables_in_range(
     versions: u64,
     messages: u64,
 ) -> bool
-    requires { ⌜ (clients ≤ 8) × (items ≤ 64) × (versions ≤ 512) × (messages ≤ 128) ⌝ }
+    requires { ⌜ (clients ≤ 8) × (items ≤ 64) × (versions ≤ 512) × (messages ≤ 128) × (6352 ≤ length (now b)) ⌝ }
     ensures { λ r. ⌜ r ≡ tablesTest (now (b .entry)) clients partitions items versions messages ⌝ }
 {
     entry::latest_in_range(b, clients, items)

@@ -2,6 +2,7 @@
 ghost use mathlib.Core.Path.{_≡_};
 ghost use mathlib.Core.Bool.{_&&_};
 ghost use Prim.Native.Nat.{_≤_, _<_};
+ghost use lib.ListN.{length};
 ghost use lib.Dec.{leb};
 ghost use Rattle.basics.specs.Lists.{every};
 ghost use Rattle.protocol.specs.Range.{versionInRange, messageInRange};
@@ -12,20 +13,20 @@ ghost use Rattle.range.specs.Messages.{messageTest};
 use crate::field::entry_in_range;
 use crate::field::stamp_in_range;
 use crate::field::version_in_range;
-use layout::word;
+use crate::field::word;
 use protocol::Entry;
 use protocol::Version;
 
 // Word `f` of stored version `i`.
 fn version_word(b: &[u64], i: u64, f: u64) -> u64
-    requires { ⌜ (i < 512) × (f < 4) ⌝ }
+    requires { ⌜ (i < 512) × (f < 4) × (6352 ≤ length (now b)) ⌝ }
     ensures { λ r. ⌜ r ≡ at (now (b .entry)) versions (versionAt i f) ⌝ }
 {
     word(b, (3280 + (4 * i + f)) as usize)
 }
 
 fn version(b: &[u64], i: u64) -> Version
-    requires { ⌜ i < 512 ⌝ }
+    requires { ⌜ (i < 512) × (6352 ≤ length (now b)) ⌝ }
     ensures { λ r. ⌜ r ≡ versionIn (now (b .entry)) i ⌝ }
 {
     Version {
@@ -38,7 +39,7 @@ fn version(b: &[u64], i: u64) -> Version
 
 // The first `n` stored versions.
 pub fn versions_in_range(b: &[u64], n: u64, clients: u64, items: u64) -> bool
-    requires { ⌜ n ≤ 512 ⌝ }
+    requires { ⌜ (n ≤ 512) × (6352 ≤ length (now b)) ⌝ }
     ensures { λ r. ⌜ r ≡ every n (λ i. versionInRange (sized clients items) (versionIn (now (b .entry)) i)) ⌝ }
 {
     let mut ok = true;
@@ -52,7 +53,7 @@ pub fn versions_in_range(b: &[u64], n: u64, clients: u64, items: u64) -> bool
 
 // Word `f` of message `i`.
 pub fn message_word(b: &[u64], i: u64, f: u64) -> u64
-    requires { ⌜ (i < 128) × (f < 8) ⌝ }
+    requires { ⌜ (i < 128) × (f < 8) × (6352 ≤ length (now b)) ⌝ }
     ensures { λ r. ⌜ r ≡ at (now (b .entry)) messages (messageAt i f) ⌝ }
 {
     word(b, (5328 + (8 * i + f)) as usize)
@@ -86,7 +87,7 @@ fn words_in_range(
 }
 
 fn message_in_range(b: &[u64], i: u64, clients: u64, partitions: u64, items: u64) -> bool
-    requires { ⌜ i < 128 ⌝ }
+    requires { ⌜ (i < 128) × (6352 ≤ length (now b)) ⌝ }
     ensures { λ r. ⌜ r ≡ messageTest (now (b .entry)) i clients partitions items ⌝ }
 {
     words_in_range(
@@ -108,7 +109,7 @@ fn message_in_range(b: &[u64], i: u64, clients: u64, partitions: u64, items: u64
 
 // The first `n` messages.
 pub fn messages_in_range(b: &[u64], n: u64, clients: u64, partitions: u64, items: u64) -> bool
-    requires { ⌜ n ≤ 128 ⌝ }
+    requires { ⌜ (n ≤ 128) × (6352 ≤ length (now b)) ⌝ }
     ensures { λ r. ⌜ r ≡ every n (λ i. messageTest (now (b .entry)) i clients partitions items) ⌝ }
 {
     let mut ok = true;

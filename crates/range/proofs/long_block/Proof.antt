@@ -23,7 +23,9 @@ header-in-range-requires : tie.Need-header-in-range-requires
 header-in-range-requires c κs = search needs
 
 tables-in-range-requires : tie.Need-tables-in-range-requires
-tables-in-range-requires c κs = header-bounds _ _ _ _ _ (c .before .header-in-range .ensures) (c .if1 .taken)
+tables-in-range-requires c κs =
+    let f = header-bounds _ _ _ _ _ (c .before .header-in-range .ensures) (c .if1 .taken) in
+    (f .0, f .1, f .2, f .3, search needs)
 
 returns : tie.Need-returns
 returns c =

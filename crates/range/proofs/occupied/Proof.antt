@@ -17,7 +17,7 @@ occupied-of-requires : tie.Need-occupied-of-requires
 occupied-of-requires c κs =
     let start = c .before .before .before in
     let words : WellFormed (start .args .b .now) = tells-valid-block (start .args .b .now) .0 (search needs) .wellFormed in
-    (omega (arith, c .before .version-count .ensures, words .versionCount), omega (arith, c .message-count .ensures, words .messageCount))
+    (omega (arith, c .before .version-count .ensures, words .versionCount), omega (arith, c .message-count .ensures, words .messageCount), words .long)
 
 returns : tie.Need-returns
 returns c =
