@@ -59,7 +59,7 @@ pub fn message_word(b: &[u64], i: u64, f: u64) -> u64
     word(b, (5328 + (8 * i + f)) as usize)
 }
 
-// The words of a message, each tested where its kind uses it: 1 prepare, 2 prepared, 3 commit, 4 get, 5 got.
+// The words of a message that its kind uses: 1 prepare, 2 prepared, 3 commit, 4 get, 5 got.
 fn words_in_range(
     kind: u64,
     who: u64,
@@ -74,16 +74,33 @@ fn words_in_range(
 ) -> bool
     ensures { λ r. ⌜ r ≡ (leb 1 kind && leb kind 5 && messageInRange (sizes clients partitions items) (messageOf kind who item value stamp set latest)) ⌝ }
 {
-    (1 <= kind)
-        & (kind <= 5)
-        & ((kind < 4) | ((1 <= who) & (who <= clients)))
-        & ((kind != 3) | (who < partitions))
-        & ((kind == 3) | (item < items))
-        & (((1 < kind) & (kind < 5)) | (value < 4294967296))
-        & stamp_in_range(clients, stamp)
-        & ((3 < kind) | (stamp != 0))
-        & ((1 < kind) | (itemset::all_below(set, items) & itemset::has(set, item)))
-        & ((kind < 5) | entry_in_range(clients, items, latest))
+    if kind == 1 {
+        return version_in_range(
+            clients,
+            items,
+            Version {
+                item: item,
+                value: value,
+                stamp: stamp,
+                set: set,
+            },
+        );
+    }
+    if kind == 2 {
+        return (item < items) & stamp_in_range(clients, stamp) & (stamp != 0);
+    }
+    if kind == 3 {
+        return (who < partitions) & stamp_in_range(clients, stamp) & (stamp != 0);
+    }
+    if kind == 4 {
+        return ((1 <= who) & (who <= clients)) & (item < items) & stamp_in_range(clients, stamp);
+    }
+    (kind == 5)
+        & (((1 <= who) & (who <= clients))
+            & (item < items)
+            & (value < 4294967296)
+            & stamp_in_range(clients, stamp)
+            & entry_in_range(clients, items, latest))
 }
 
 fn message_in_range(b: &[u64], i: u64, clients: u64, partitions: u64, items: u64) -> bool
