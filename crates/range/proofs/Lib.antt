@@ -8,6 +8,7 @@ pub mod MaskedTables
 pub mod MaskedStep
 pub mod Sizes
 pub mod Bits
+pub mod Gathered
 pub mod ClientTests
 pub mod MessageTests
 pub mod CapacityTests

@@ -6,6 +6,7 @@ ghost use lib.ListN.{length, getD};
 ghost use Rattle.itemset.specs.Set.{has};
 ghost use Rattle.protocol.specs.Range.{stampInRange, entryInRange, versionInRange};
 ghost use Rattle.range.specs.Sized.{sized};
+ghost use Rattle.range.specs.Entries.{partsTest};
 use protocol::Entry;
 use protocol::Version;
 
@@ -24,6 +25,15 @@ pub fn stamp_in_range(clients: u64, stamp: u64) -> bool
     let number = stamp / 16;
     let writer = stamp % 16;
     (stamp == 0) | (((1 <= number) & (number < 4294967296)) & ((1 <= writer) & (writer <= clients)))
+}
+
+// The same but for the size of the number.
+pub fn parts_in_range(clients: u64, stamp: u64) -> bool
+    ensures { λ r. ⌜ r ≡ partsTest clients stamp ⌝ }
+{
+    let number = stamp / 16;
+    let writer = stamp % 16;
+    ((writer == 0) == (number == 0)) & (writer <= clients)
 }
 
 pub fn entry_in_range(clients: u64, items: u64, e: Entry) -> bool

@@ -1,53 +1,18 @@
--- `range::entry::latest_in_range` meets its contract: item after item. Assumes nothing.
+-- `range::entry::latest_in_range` meets its contract: the entries from the section's first place on. Assumes nothing.
 use borrow.Author.Needs.{needs}
-use mathlib.Core.Path.{ap, _∙_}
-use Prim.Native.Nat.{_-_}
-use Rattle.protocol.specs.Range.{entryInRange}
-use Rattle.layout.specs.Decode.{latestIn}
-use Rattle.range.specs.Sized.{sized}
-use Rattle.range.proofs.Folds.{SoFar, tested-none, tested-next, tested-all}
+use mathlib.Core.Path.{_∙_}
+use Prim.Native.Nat.{_*_}
+use native.Mathlib.Nat.{zero-add}
+use Rattle.range.proofs.Folds.{every-same}
 use Rattle.range.proofs.entry.latest_in_range.Statement.{statement}
 use Rattle.range.proofs.entry.latest_in_range.Tie as tie
 
-abbrev Inv-loop : tie.InvT-loop
-Inv-loop b clients items ok₀ k₀ ok k = SoFar items (λ k. entryInRange (sized clients items) (latestIn b k)) k ok
+entries-in-range-requires : tie.Need-entries-in-range-requires
+entries-in-range-requires c κs = search needs
 
-abbrev μ-loop : tie.MeasureT-loop
-μ-loop b clients items ok₀ k₀ ok k = items - k
-
-loop-holds : tie.Need-loop-holds Inv-loop μ-loop
-loop-holds c = tested-none
-
-latest-requires : tie.Need-latest-requires Inv-loop μ-loop
-latest-requires c κs = search needs
-
-entry-in-range-requires : tie.Need-entry-in-range-requires Inv-loop μ-loop
-entry-in-range-requires c κs = search needs
-
-add-k : tie.Need-add-k Inv-loop μ-loop
-add-k c = search needs
-
-loop-less : tie.Need-loop-less Inv-loop μ-loop
-loop-less c = search needs
-
-loop-again : tie.Need-loop-again Inv-loop μ-loop
-loop-again c =
-    tested-next (c .before .before .before .loop .inv) (c .before .before .loop-test .taken)
-    (c .entry-in-range .ensures ∙ ap (entryInRange _) (c .before .latest .ensures))
-
-returns : tie.Need-returns Inv-loop μ-loop
-returns c = tested-all (c .before .loop .inv) (c .loop-test .left)
+returns : tie.Need-returns
+returns c =
+    c .entries-in-range .ensures ∙ every-same (c .before .before .args .items) _ _ (λ k l. rw (zero-add (2 * k)))
 
 pub latest-in-range-spec : {M : Type 1} → statement M
-latest-in-range-spec =
-    tie.close
-    (tie.spec
-    Inv-loop
-    μ-loop
-    loop-holds
-    latest-requires
-    entry-in-range-requires
-    add-k
-    loop-less
-    loop-again
-    returns)
+latest-in-range-spec = tie.close (tie.spec entries-in-range-requires returns)

@@ -1,0 +1,90 @@
+-- Words gathered by `|` pass a test of their size exactly when each of them does, so that a loop tests them once, at its end. Assumes nothing.
+use mathlib.Core.Bool.{Bool, true, false, not, Bool·beq, _&&_, _||_}
+use mathlib.Core.Path.{_≡_, refl, sym, ap, ap₂, subst, _∙_}
+use Prim.Native.Nat.{ℕ, zero, suc, _+_, _^_, _<_}
+use native.Mathlib.Omega.{arith}
+use lib.Bits.{bitOr, or-lt, or-add-and, and-le-l, and-le-r}
+use lib.Dec.{eqb, leb}
+use lib.Pow.{pow-pos}
+use borrow.Author.Tests.{ltb-true, lt-ltb, le-leb, eqb-true, eq-eqb, ne-eqb}
+use Rattle.basics.specs.Cases.{test-ext, and-left, and-right, and-both}
+use Rattle.itemset.specs.Set.{allBelow}
+use Rattle.protocol.specs.declared.Entry.{Entry}
+use Rattle.protocol.specs.Tables.{numberOf, writerOf}
+use Rattle.protocol.specs.Range.{fits, stampInRange, entryInRange}
+use Rattle.range.specs.Sized.{sized}
+use Rattle.range.specs.Entries.{partsTest}
+use Rattle.range.proofs.Folds.{SoFar, tested-none, tested-next}
+
+pub or-below : (a b n : ℕ) → allBelow (bitOr a b) n ≡ (allBelow a n && allBelow b n)
+or-below a b n =
+    test-ext _ _
+    (λ e.
+    let l : bitOr a b < 2 ^ n = ltb-true (bitOr a b) (2 ^ n) e in
+    and-both _ _ (lt-ltb a (2 ^ n) (omega (arith, or-add-and a b, and-le-r a b))) (lt-ltb b (2 ^ n) (omega (arith, or-add-and a b, and-le-l a b))))
+    (λ e. lt-ltb _ _ (or-lt n a b (ltb-true a (2 ^ n) (and-left _ _ e)) (ltb-true b (2 ^ n) (and-right (allBelow a n) _ e))))
+
+-- ---- What a loop keeps that gathers numbers of 32 bits and sets
+
+regroup : (ok here l m s t : Bool) → ((ok && l && s) && (here && m && t)) ≡ ((ok && here) && (l && m) && (s && t))
+regroup false here l m s t = refl
+regroup true false false m s t = refl
+regroup true false true m false t = refl
+regroup true false true m true t = refl
+regroup true true false m s t = refl
+regroup true true true false false t = refl
+regroup true true true false true t = refl
+regroup true true true true s t = refl
+
+module _ {n : ℕ} {p : ℕ → Bool} (items : ℕ) where
+  pub gather-none : SoFar n p 0 (true && fits 0 && allBelow 0 items)
+  gather-none = subst (SoFar n p 0) (sym (lt-ltb 0 (2 ^ items) (pow-pos items))) tested-none
+
+  pub gather-next : (ok here : Bool) (numbers number sets set : ℕ) {k : ℕ} → SoFar n p k (ok && fits numbers && allBelow sets items) → k < n
+      → (here && fits number && allBelow set items) ≡ p k
+      → SoFar n p (k + 1) ((ok && here) && fits (bitOr numbers number) && allBelow (bitOr sets set) items)
+  gather-next ok here numbers number sets set {k = k} s l e =
+      subst (SoFar n p (k + 1))
+      (regroup ok here (fits numbers) (fits number) (allBelow sets items) (allBelow set items)
+      ∙ ap₂ (λ (x y : Bool). (ok && here) && x && y) (sym (or-below numbers number 32)) (sym (or-below sets set items)))
+      (tested-next s l e)
+
+-- ---- A stamp by its parts
+
+not-one : (n : ℕ) → leb 1 n ≡ not (eqb n 0)
+not-one zero = refl
+not-one (suc n) = rw (le-leb 1 (suc n) (omega arith), ne-eqb (suc n) 0 (omega arith))
+
+both-none : (stamp : ℕ) → eqb stamp 0 ≡ (eqb (writerOf stamp) 0 && eqb (numberOf stamp) 0)
+both-none stamp =
+    test-ext _ _
+    (λ e. rw (eqb-true stamp 0 e))
+    (λ e. eq-eqb stamp 0
+    (omega (arith, eqb-true (writerOf stamp) 0 (and-left _ _ e), eqb-true (numberOf stamp) 0 (and-right (eqb (writerOf stamp) 0) _ e))))
+
+parts : (w n f l : Bool) → (w ≡ true → l ≡ true) → (n ≡ true → f ≡ true)
+    → ((w && n) || (not n && f && (not w && l))) ≡ (Bool·beq w n && l && f)
+parts true true f l p q = rw (p refl, q refl)
+parts true false true l p q = refl
+parts true false false l p q = refl
+parts false true f l p q = refl
+parts false false true true p q = refl
+parts false false true false p q = refl
+parts false false false true p q = refl
+parts false false false false p q = refl
+
+pub stamp-parts : (clients items stamp : ℕ) → stampInRange (sized clients items) stamp ≡ (partsTest clients stamp && fits (numberOf stamp))
+unfolding stampInRange
+stamp-parts clients items stamp =
+    rw (both-none stamp, not-one (numberOf stamp), not-one (writerOf stamp))
+    (parts (eqb (writerOf stamp) 0) (eqb (numberOf stamp) 0) (fits (numberOf stamp)) (leb (writerOf stamp) clients)
+    (λ e. le-leb (writerOf stamp) clients (omega (arith, eqb-true (writerOf stamp) 0 e))) (λ e. rw (eqb-true (numberOf stamp) 0 e)))
+
+entry-parts : (clients items : ℕ) (e : Entry)
+    → (partsTest clients (e .stamp) && fits (numberOf (e .stamp)) && allBelow (e .set) items) ≡ entryInRange (sized clients items) e
+unfolding entryInRange
+entry-parts clients items e = ap (λ (x : Bool). x && allBelow (e .set) items) (sym (stamp-parts clients items (e .stamp)))
+
+pub entry-words : (clients items : ℕ) (e : Entry) {stamp set : ℕ} {here : Bool} → here ≡ partsTest clients stamp → stamp ≡ e .stamp → set ≡ e .set
+    → (here && fits (numberOf stamp) && allBelow set items) ≡ entryInRange (sized clients items) e
+entry-words clients items e p q r = rw (p, q, r) (entry-parts clients items e)

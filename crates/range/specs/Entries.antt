@@ -1,0 +1,16 @@
+-- What a loop over entries tests at each: a stamp but for the size of its number, which one test at the end holds for all. Assumes nothing.
+use mathlib.Core.Bool.{Bool, Bool·beq, _&&_}
+use mathlib.Core.List.{List}
+use Prim.Native.Nat.{ℕ, _+_, _*_}
+use lib.Dec.{eqb, leb}
+use lib.ListN.{getD}
+use Rattle.protocol.specs.declared.Entry.{Entry}
+use Rattle.protocol.specs.Tables.{numberOf, writerOf}
+
+-- number and writer are both 0 or neither, and the writer is a client
+abbrev pub partsTest : ℕ → ℕ → Bool
+partsTest clients stamp = Bool·beq (eqb (writerOf stamp) 0) (eqb (numberOf stamp) 0) && leb (writerOf stamp) clients
+
+-- entry k of those that lie one after another from place base + i on
+abbrev pub entryFrom : List ℕ → ℕ → ℕ → ℕ → Entry
+entryFrom b base i k = record { stamp = getD b (base + (i + 2 * k)) 0; set = getD b (base + (i + 2 * k + 1)) 0 }
