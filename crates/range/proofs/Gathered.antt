@@ -4,16 +4,18 @@ use mathlib.Core.Path.{_≡_, refl, sym, ap, ap₂, subst, _∙_}
 use Prim.Native.Nat.{ℕ, zero, suc, _+_, _^_, _<_}
 use native.Mathlib.Omega.{arith}
 use lib.Bits.{bitOr, or-lt, or-add-and, and-le-l, and-le-r}
-use lib.Dec.{eqb, leb}
+use lib.Dec.{eqb, ltb, leb}
 use lib.Pow.{pow-pos}
 use borrow.Author.Tests.{ltb-true, lt-ltb, le-leb, eqb-true, eq-eqb, ne-eqb}
 use Rattle.basics.specs.Cases.{test-ext, and-left, and-right, and-both}
-use Rattle.itemset.specs.Set.{allBelow}
+use Rattle.itemset.specs.Set.{has, allBelow}
 use Rattle.protocol.specs.declared.Entry.{Entry}
+use Rattle.protocol.specs.declared.Version.{Version}
 use Rattle.protocol.specs.Tables.{numberOf, writerOf}
-use Rattle.protocol.specs.Range.{fits, stampInRange, entryInRange}
+use Rattle.protocol.specs.Range.{fits, notInitial, stampInRange, entryInRange, versionInRange}
+use Rattle.protocol.proofs.Tells.{tells-and}
 use Rattle.range.specs.Sized.{sized}
-use Rattle.range.specs.Entries.{partsTest}
+use Rattle.range.specs.Entries.{partsTest, ownTest}
 use Rattle.range.proofs.Folds.{SoFar, tested-none, tested-next}
 
 pub or-below : (a b n : ℕ) → allBelow (bitOr a b) n ≡ (allBelow a n && allBelow b n)
@@ -88,3 +90,49 @@ entry-parts clients items e = ap (λ (x : Bool). x && allBelow (e .set) items) (
 pub entry-words : (clients items : ℕ) (e : Entry) {stamp set : ℕ} {here : Bool} → here ≡ partsTest clients stamp → stamp ≡ e .stamp → set ≡ e .set
     → (here && fits (numberOf stamp) && allBelow set items) ≡ entryInRange (sized clients items) e
 entry-words clients items e p q r = rw (p, q, r) (entry-parts clients items e)
+
+-- ---- A version
+
+later : (z n f c : Bool) → (z ≡ true → n ≡ false) → ((z || (n && f && c)) && not z) ≡ (n && c && f)
+later true n f c h = rw (h refl)
+later false false f c h = refl
+later false true true true h = refl
+later false true true false h = refl
+later false true false true h = refl
+later false true false false h = refl
+
+later-parts : (clients items stamp : ℕ) → (stampInRange (sized clients items) stamp && notInitial stamp)
+    ≡ (leb 1 (numberOf stamp) && (leb 1 (writerOf stamp) && leb (writerOf stamp) clients) && fits (numberOf stamp))
+unfolding stampInRange
+later-parts clients items stamp =
+    later (eqb stamp 0) (leb 1 (numberOf stamp)) (fits (numberOf stamp)) (leb 1 (writerOf stamp) && leb (writerOf stamp) clients)
+    (λ e. rw (eqb-true stamp 0 e))
+
+regroup-version : (i v s n w f b h : Bool) → (s && n) ≡ (w && f) → ((i && w && h) && (v && f) && b) ≡ (i && v && s && n && b && h)
+regroup-version i v s n w f b h e =
+    test-ext _ _
+    (λ t.
+    let g = simp tells-and at t in
+    let both : (s && n) ≡ true = e ∙ simp tells-and search in
+    let k = simp tells-and at both in
+    simp tells-and search)
+    (λ t.
+    let g = simp tells-and at t in
+    let both : (w && f) ≡ true = sym e ∙ simp tells-and search in
+    let k = simp tells-and at both in
+    simp tells-and search)
+
+version-parts : (clients items : ℕ) (v : Version)
+    → (ownTest clients items (v .item) (v .stamp) (v .set) && fits (bitOr (v .value) (numberOf (v .stamp))) && allBelow (v .set) items)
+    ≡ versionInRange (sized clients items) v
+unfolding versionInRange
+version-parts clients items v =
+    rw (or-below (v .value) (numberOf (v .stamp)) 32)
+    (regroup-version (ltb (v .item) items) (fits (v .value)) (stampInRange (sized clients items) (v .stamp)) (notInitial (v .stamp))
+    (leb 1 (numberOf (v .stamp)) && (leb 1 (writerOf (v .stamp)) && leb (writerOf (v .stamp)) clients)) (fits (numberOf (v .stamp)))
+    (allBelow (v .set) items) (has (v .set) (v .item)) (later-parts clients items (v .stamp)))
+
+pub version-words : (clients items : ℕ) (v : Version) {k value stamp set : ℕ} {here : Bool} → here ≡ ownTest clients items k stamp set
+    → k ≡ v .item → value ≡ v .value → stamp ≡ v .stamp → set ≡ v .set
+    → (here && fits (bitOr value (numberOf stamp)) && allBelow set items) ≡ versionInRange (sized clients items) v
+version-words clients items v p q r s t = rw (p, q, r, s, t) (version-parts clients items v)

@@ -6,7 +6,7 @@ ghost use lib.ListN.{length, getD};
 ghost use Rattle.itemset.specs.Set.{has};
 ghost use Rattle.protocol.specs.Range.{stampInRange, entryInRange, versionInRange};
 ghost use Rattle.range.specs.Sized.{sized};
-ghost use Rattle.range.specs.Entries.{partsTest};
+ghost use Rattle.range.specs.Entries.{partsTest, ownTest};
 use protocol::Entry;
 use protocol::Version;
 
@@ -51,6 +51,17 @@ pub fn version_in_range(clients: u64, items: u64, v: Version) -> bool
         & (v.stamp != 0)
         & itemset::all_below(v.set, items)
         & itemset::has(v.set, v.item)
+}
+
+// The same but for the sizes of value, number and set.
+pub fn own_in_range(clients: u64, items: u64, item: u64, stamp: u64, set: u64) -> bool
+    ensures { λ r. ⌜ r ≡ ownTest clients items item stamp set ⌝ }
+{
+    let number = stamp / 16;
+    let writer = stamp % 16;
+    (item < items)
+        & ((1 <= number) & ((1 <= writer) & (writer <= clients)))
+        & itemset::has(set, item)
 }
 
 // Item `k` is no member of `set`.

@@ -11,6 +11,7 @@ ghost use Rattle.layout.specs.Decode.{messageOf, versionIn};
 ghost use Rattle.range.specs.Sized.{sizes, sized};
 ghost use Rattle.range.specs.Messages.{messageTest};
 use crate::field::entry_in_range;
+use crate::field::own_in_range;
 use crate::field::stamp_in_range;
 use crate::field::version_in_range;
 use crate::field::word;
@@ -25,30 +26,26 @@ fn version_word(b: &[u64], i: u64, f: u64) -> u64
     word(b, (3280 + (4 * i + f)) as usize)
 }
 
-fn version(b: &[u64], i: u64) -> Version
-    requires { ⌜ (i < 512) × (6352 ≤ length (now b)) ⌝ }
-    ensures { λ r. ⌜ r ≡ versionIn (now (b .entry)) i ⌝ }
-{
-    Version {
-        item: version_word(b, i, 0),
-        value: version_word(b, i, 1),
-        stamp: version_word(b, i, 2),
-        set: version_word(b, i, 3),
-    }
-}
-
-// The first `n` stored versions.
+// The first `n` stored versions; the sizes of values, numbers and sets are tested once, for all.
 pub fn versions_in_range(b: &[u64], n: u64, clients: u64, items: u64) -> bool
     requires { ⌜ (n ≤ 512) × (6352 ≤ length (now b)) ⌝ }
     ensures { λ r. ⌜ r ≡ every n (λ i. versionInRange (sized clients items) (versionIn (now (b .entry)) i)) ⌝ }
 {
     let mut ok = true;
+    let mut numbers = 0;
+    let mut sets = 0;
     let mut i = 0;
     while i < n {
-        ok = ok & version_in_range(clients, items, version(b, i));
+        let item = version_word(b, i, 0);
+        let value = version_word(b, i, 1);
+        let stamp = version_word(b, i, 2);
+        let set = version_word(b, i, 3);
+        ok = ok & own_in_range(clients, items, item, stamp, set);
+        numbers = numbers | (value | (stamp / 16));
+        sets = sets | set;
         i += 1;
     }
-    ok
+    ok & (numbers < 4294967296) & itemset::all_below(sets, items)
 }
 
 // Word `f` of message `i`.
