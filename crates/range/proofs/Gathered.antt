@@ -9,6 +9,7 @@ use lib.Pow.{pow-pos}
 use borrow.Author.Tests.{ltb-true, lt-ltb, le-leb, eqb-true, eq-eqb, ne-eqb}
 use Rattle.basics.specs.Cases.{test-ext, and-left, and-right, and-both}
 use Rattle.itemset.specs.Set.{has, allBelow}
+use Rattle.itemset.specs.Laws.{has-below}
 use Rattle.protocol.specs.declared.Entry.{Entry}
 use Rattle.protocol.specs.declared.Version.{Version}
 use Rattle.protocol.specs.Tables.{numberOf, writerOf}
@@ -108,13 +109,15 @@ later-parts clients items stamp =
     later (eqb stamp 0) (leb 1 (numberOf stamp)) (fits (numberOf stamp)) (leb 1 (writerOf stamp) && leb (writerOf stamp) clients)
     (λ e. rw (eqb-true stamp 0 e))
 
-regroup-version : (i v s n w f b h : Bool) → (s && n) ≡ (w && f) → ((i && w && h) && (v && f) && b) ≡ (i && v && s && n && b && h)
-regroup-version i v s n w f b h e =
+regroup-version : (i v s n w f b h : Bool) → (s && n) ≡ (w && f) → (b ≡ true → h ≡ true → i ≡ true)
+    → ((w && h) && (v && f) && b) ≡ (i && v && s && n && b && h)
+regroup-version i v s n w f b h e own =
     test-ext _ _
     (λ t.
     let g = simp tells-and at t in
     let both : (s && n) ≡ true = e ∙ simp tells-and search in
     let k = simp tells-and at both in
+    let item : i ≡ true = own (search) (search) in
     simp tells-and search)
     (λ t.
     let g = simp tells-and at t in
@@ -123,16 +126,17 @@ regroup-version i v s n w f b h e =
     simp tells-and search)
 
 version-parts : (clients items : ℕ) (v : Version)
-    → (ownTest clients items (v .item) (v .stamp) (v .set) && fits (bitOr (v .value) (numberOf (v .stamp))) && allBelow (v .set) items)
+    → (ownTest clients (v .item) (v .stamp) (v .set) && fits (bitOr (v .value) (numberOf (v .stamp))) && allBelow (v .set) items)
     ≡ versionInRange (sized clients items) v
 unfolding versionInRange
 version-parts clients items v =
     rw (or-below (v .value) (numberOf (v .stamp)) 32)
     (regroup-version (ltb (v .item) items) (fits (v .value)) (stampInRange (sized clients items) (v .stamp)) (notInitial (v .stamp))
     (leb 1 (numberOf (v .stamp)) && (leb 1 (writerOf (v .stamp)) && leb (writerOf (v .stamp)) clients)) (fits (numberOf (v .stamp)))
-    (allBelow (v .set) items) (has (v .set) (v .item)) (later-parts clients items (v .stamp)))
+    (allBelow (v .set) items) (has (v .set) (v .item)) (later-parts clients items (v .stamp))
+    (λ e f. lt-ltb (v .item) items (has-below (v .set) (v .item) items (ltb-true (v .set) (2 ^ items) e) f)))
 
-pub version-words : (clients items : ℕ) (v : Version) {k value stamp set : ℕ} {here : Bool} → here ≡ ownTest clients items k stamp set
+pub version-words : (clients items : ℕ) (v : Version) {k value stamp set : ℕ} {here : Bool} → here ≡ ownTest clients k stamp set
     → k ≡ v .item → value ≡ v .value → stamp ≡ v .stamp → set ≡ v .set
     → (here && fits (bitOr value (numberOf stamp)) && allBelow set items) ≡ versionInRange (sized clients items) v
 version-words clients items v p q r s t = rw (p, q, r, s, t) (version-parts clients items v)

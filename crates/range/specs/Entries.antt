@@ -2,7 +2,7 @@
 use mathlib.Core.Bool.{Bool, Bool·beq, _&&_}
 use mathlib.Core.List.{List}
 use Prim.Native.Nat.{ℕ, _+_, _*_}
-use lib.Dec.{eqb, ltb, leb}
+use lib.Dec.{eqb, leb}
 use lib.ListN.{getD}
 use Rattle.itemset.specs.Set.{has}
 use Rattle.protocol.specs.declared.Entry.{Entry}
@@ -16,7 +16,6 @@ partsTest clients stamp = Bool·beq (eqb (writerOf stamp) 0) (eqb (numberOf stam
 abbrev pub entryFrom : List ℕ → ℕ → ℕ → ℕ → Entry
 entryFrom b base i k = record { stamp = getD b (base + (i + 2 * k)) 0; set = getD b (base + (i + 2 * k + 1)) 0 }
 
--- a version's item exists and is in its set, its stamp isn't initial and has a client for a writer
-abbrev pub ownTest : ℕ → ℕ → ℕ → ℕ → ℕ → Bool
-ownTest clients items k stamp s =
-    ltb k items && (leb 1 (numberOf stamp) && (leb 1 (writerOf stamp) && leb (writerOf stamp) clients)) && has s k
+-- a version's item is in its set, its stamp isn't initial and has a client for a writer
+abbrev pub ownTest : ℕ → ℕ → ℕ → ℕ → Bool
+ownTest clients k stamp s = leb 1 (numberOf stamp) && (leb 1 (writerOf stamp) && leb (writerOf stamp) clients) && has s k

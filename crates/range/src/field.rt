@@ -53,15 +53,13 @@ pub fn version_in_range(clients: u64, items: u64, v: Version) -> bool
         & itemset::has(v.set, v.item)
 }
 
-// The same but for the sizes of value, number and set.
-pub fn own_in_range(clients: u64, items: u64, item: u64, stamp: u64, set: u64) -> bool
-    ensures { λ r. ⌜ r ≡ ownTest clients items item stamp set ⌝ }
+// The same but for the sizes of value, number and set; an item of a set in range exists.
+pub fn own_in_range(clients: u64, item: u64, stamp: u64, set: u64) -> bool
+    ensures { λ r. ⌜ r ≡ ownTest clients item stamp set ⌝ }
 {
     let number = stamp / 16;
     let writer = stamp % 16;
-    (item < items)
-        & ((1 <= number) & ((1 <= writer) & (writer <= clients)))
-        & itemset::has(set, item)
+    ((1 <= number) & ((1 <= writer) & (writer <= clients))) & itemset::has(set, item)
 }
 
 // Item `k` is no member of `set`.

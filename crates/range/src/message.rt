@@ -40,7 +40,7 @@ pub fn versions_in_range(b: &[u64], n: u64, clients: u64, items: u64) -> bool
         let value = version_word(b, i, 1);
         let stamp = version_word(b, i, 2);
         let set = version_word(b, i, 3);
-        ok = ok & own_in_range(clients, items, item, stamp, set);
+        ok = ok & own_in_range(clients, item, stamp, set);
         numbers = numbers | (value | (stamp / 16));
         sets = sets | set;
         i += 1;
