@@ -1,5 +1,5 @@
 -- Words gathered by `|` pass a test of their size exactly when each of them does, so that a loop tests them once, at its end. Assumes nothing.
-use mathlib.Core.Bool.{Bool, true, false, not, Bool·beq, _&&_, _||_}
+use mathlib.Core.Bool.{Bool, true, false, not, cond, Bool·beq, _&&_, _||_}
 use mathlib.Core.Path.{_≡_, refl, sym, ap, ap₂, subst, _∙_}
 use Prim.Native.Nat.{ℕ, zero, suc, _+_, _^_, _<_}
 use native.Mathlib.Omega.{arith}
@@ -52,6 +52,21 @@ module _ {n : ℕ} {p : ℕ → Bool} (items : ℕ) where
       ∙ ap₂ (λ (x y : Bool). (ok && here) && x && y) (sym (or-below numbers number 32)) (sym (or-below sets set items)))
       (tested-next s l e)
 
+-- and one that gathers numbers alone
+regroup-one : (ok here l m : Bool) → ((ok && l) && (here && m)) ≡ ((ok && here) && (l && m))
+regroup-one false here l m = refl
+regroup-one true false false m = refl
+regroup-one true false true m = refl
+regroup-one true true l m = refl
+
+module _ {n : ℕ} {p : ℕ → Bool} where
+  pub gather-one : (ok here : Bool) (numbers number : ℕ) {k : ℕ} → SoFar n p k (ok && fits numbers) → k < n → (here && fits number) ≡ p k
+      → SoFar n p (k + 1) ((ok && here) && fits (bitOr numbers number))
+  gather-one ok here numbers number {k = k} s l e =
+      subst (SoFar n p (k + 1))
+      (regroup-one ok here (fits numbers) (fits number) ∙ ap (λ (x : Bool). (ok && here) && x) (sym (or-below numbers number 32)))
+      (tested-next s l e)
+
 -- ---- A stamp by its parts
 
 not-one : (n : ℕ) → leb 1 n ≡ not (eqb n 0)
@@ -91,6 +106,26 @@ entry-parts clients items e = ap (λ (x : Bool). x && allBelow (e .set) items) (
 pub entry-words : (clients items : ℕ) (e : Entry) {stamp set : ℕ} {here : Bool} → here ≡ partsTest clients stamp → stamp ≡ e .stamp → set ≡ e .set
     → (here && fits (numberOf stamp) && allBelow set items) ≡ entryInRange (sized clients items) e
 entry-words clients items e p q r = rw (p, q, r) (entry-parts clients items e)
+
+-- ---- A word that a set keeps
+
+kept-value : (h : Bool) (word : ℕ) → fits (cond h word 0) ≡ (not h || fits word)
+kept-value true word = refl
+kept-value false word = refl
+
+pub value-words : (h : Bool) {word word′ kept : ℕ} → kept ≡ cond h word′ 0 → word′ ≡ word → fits kept ≡ (not h || fits word)
+value-words h {word = word} p q = rw (p, q) (kept-value h word)
+
+kept-stamp : (clients items : ℕ) (h : Bool) (word : ℕ)
+    → stampInRange (sized clients items) (cond h word 0) ≡ (not h || stampInRange (sized clients items) word)
+unfolding stampInRange
+kept-stamp clients items true word = refl
+kept-stamp clients items false word = refl
+
+pub stamp-words : (clients items : ℕ) (h : Bool) {word word′ kept : ℕ} {here : Bool} → here ≡ partsTest clients kept → kept ≡ cond h word′ 0
+    → word′ ≡ word → (here && fits (numberOf kept)) ≡ (not h || stampInRange (sized clients items) word)
+stamp-words clients items h {word = word} p q r =
+    rw (p, q, r) (sym (stamp-parts clients items (cond h word 0)) ∙ kept-stamp clients items h word)
 
 -- ---- A version
 

@@ -8,7 +8,8 @@ ghost use Rattle.layout.specs.Layout.{itemAt};
 ghost use Rattle.layout.specs.Decode.{clientIn};
 ghost use Rattle.range.specs.Sized.{sized};
 ghost use Rattle.range.specs.Clients.{askedInRange, lastRead, lastWrite, lastTest, stateTest, valuesTest, clientTest};
-use crate::field::lacks;
+use crate::field::kept;
+use crate::field::parts_in_range;
 use crate::field::stamp_in_range;
 use crate::field::word;
 
@@ -26,12 +27,15 @@ fn some_stamps_in_range(b: &[u64], base: u64, d: u64, set: u64, clients: u64, it
     ensures { λ r. ⌜ r ≡ each (sized clients items) set (λ k. stampInRange (sized clients items) (getD (now (b .entry)) (base + itemAt d k) 0)) ⌝ }
 {
     let mut ok = true;
+    let mut numbers = 0;
     let mut k = 0;
     while k < items {
-        ok = ok & (lacks(set, k) | stamp_in_range(clients, item_word(b, base, d, k)));
+        let stamp = kept(set, k, item_word(b, base, d, k));
+        ok = ok & parts_in_range(clients, stamp);
+        numbers = numbers | (stamp / 16);
         k += 1;
     }
-    ok
+    ok & (numbers < 4294967296)
 }
 
 // The same, with no look at the items where the set is empty.
@@ -51,13 +55,13 @@ fn some_values_in_range(b: &[u64], base: u64, d: u64, set: u64, items: u64) -> b
     requires { ⌜ (base ≤ 2768) × (1 ≤ d) × (d ≤ 8) × (items ≤ 64) × (6352 ≤ length (now b)) ⌝ }
     ensures { λ r. ⌜ r ≡ each (sized 0 items) set (λ k. fits (getD (now (b .entry)) (base + itemAt d k) 0)) ⌝ }
 {
-    let mut ok = true;
+    let mut values = 0;
     let mut k = 0;
     while k < items {
-        ok = ok & (lacks(set, k) | (item_word(b, base, d, k) < 4294967296));
+        values = values | kept(set, k, item_word(b, base, d, k));
         k += 1;
     }
-    ok
+    values < 4294967296
 }
 
 // The same, with no look at the items where the set is empty.

@@ -1,6 +1,6 @@
-// Single values: words, stamps, entries, stored versions, and whether a set lacks an item.
+// Single values: words, stamps, entries, stored versions, whether a set lacks an item, and what it keeps of one.
 ghost use mathlib.Core.Path.{_≡_};
-ghost use mathlib.Core.Bool.{not};
+ghost use mathlib.Core.Bool.{not, cond};
 ghost use Prim.Native.Nat.{_<_};
 ghost use lib.ListN.{length, getD};
 ghost use Rattle.itemset.specs.Set.{has};
@@ -68,4 +68,12 @@ pub fn lacks(set: u64, k: u64) -> bool
     ensures { λ r. ⌜ r ≡ not (has set k) ⌝ }
 {
     (set >> k) % 2 == 0
+}
+
+// The word of item `k` where it is a member of `set`, and 0 where it is none.
+pub fn kept(set: u64, k: u64, word: u64) -> u64
+    requires { ⌜ k < 64 ⌝ }
+    ensures { λ r. ⌜ r ≡ cond (has set k) word 0 ⌝ }
+{
+    if lacks(set, k) { 0 } else { word }
 }

@@ -1,31 +1,31 @@
--- `range::client::some_values_in_range` meets its contract: item after item, a value of the set's. Assumes nothing.
+-- `range::client::some_values_in_range` meets its contract: item after item, a value of the set's, and the sizes of all at the end. Assumes nothing.
 use borrow.Author.Needs.{needs}
-use mathlib.Core.Bool.{not, _||_}
-use mathlib.Core.Path.{ap, ap₂}
-use Prim.Native.Nat.{ℕ, _+_, _^_, _-_}
+use mathlib.Core.Bool.{true, not, _||_}
+use Prim.Native.Nat.{_+_, _-_, _^_}
 use lib.Dec.{ltb}
 use lib.ListN.{getD}
 use Rattle.itemset.specs.Set.{has}
 use Rattle.layout.specs.Layout.{itemAt}
-use Rattle.range.proofs.Folds.{SoFar, tested-none, tested-next, tested-all}
+use Rattle.range.proofs.Folds.{SoFar, tested-none, tested-all}
+use Rattle.range.proofs.Gathered.{gather-one, value-words}
 use Rattle.range.proofs.client.some_values_in_range.Statement.{statement}
 use Rattle.range.proofs.client.some_values_in_range.Tie as tie
 
 abbrev Inv-loop : tie.InvT-loop
-Inv-loop b base d set items ok₀ k₀ ok k =
-    SoFar items (λ k. not (has set k) || ltb (getD b (base + itemAt d k) 0) (2 ^ 32)) k ok
+Inv-loop b base d set items values₀ k₀ values k =
+    SoFar items (λ k. not (has set k) || ltb (getD b (base + itemAt d k) 0) (2 ^ 32)) k (ltb values (2 ^ 32))
 
 abbrev μ-loop : tie.MeasureT-loop
-μ-loop b base d set items ok₀ k₀ ok k = items - k
+μ-loop b base d set items values₀ k₀ values k = items - k
 
 loop-holds : tie.Need-loop-holds Inv-loop μ-loop
 loop-holds c = tested-none
 
-lacks-requires : tie.Need-lacks-requires Inv-loop μ-loop
-lacks-requires c κs = search needs
-
 item-word-requires : tie.Need-item-word-requires Inv-loop μ-loop
 item-word-requires c κs = search needs
+
+kept-requires : tie.Need-kept-requires Inv-loop μ-loop
+kept-requires c κs = search needs
 
 add-k : tie.Need-add-k Inv-loop μ-loop
 add-k c = search needs
@@ -35,8 +35,10 @@ loop-less c = search needs
 
 loop-again : tie.Need-loop-again Inv-loop μ-loop
 loop-again c =
-    let value = ap (λ (v : ℕ). ltb v (2 ^ 32)) (c .item-word .ensures) in
-    tested-next (c .before .before .before .loop .inv) (c .before .before .loop-test .taken) (ap₂ _||_ (c .before .lacks .ensures) value)
+    let l = c .before .before .before .loop in
+    let a = c .before .before .before .before .before .args in
+    gather-one true true (l .values) (c .kept .result) (l .inv) (c .before .before .loop-test .taken)
+    (value-words (has (a .set) (l .k)) (c .kept .ensures) (c .before .item-word .ensures))
 
 returns : tie.Need-returns Inv-loop μ-loop
 returns c = tested-all (c .before .loop .inv) (c .loop-test .left)
@@ -48,8 +50,8 @@ some-values-in-range-spec =
     Inv-loop
     μ-loop
     loop-holds
-    lacks-requires
     item-word-requires
+    kept-requires
     add-k
     loop-less
     loop-again
