@@ -53,19 +53,9 @@ module _ {n : ℕ} {p : ℕ → Bool} (items : ℕ) where
       (tested-next s l e)
 
 -- and one that gathers numbers alone
-regroup-one : (ok here l m : Bool) → ((ok && l) && (here && m)) ≡ ((ok && here) && (l && m))
-regroup-one false here l m = refl
-regroup-one true false false m = refl
-regroup-one true false true m = refl
-regroup-one true true l m = refl
-
-module _ {n : ℕ} {p : ℕ → Bool} where
-  pub gather-one : (ok here : Bool) (numbers number : ℕ) {k : ℕ} → SoFar n p k (ok && fits numbers) → k < n → (here && fits number) ≡ p k
-      → SoFar n p (k + 1) ((ok && here) && fits (bitOr numbers number))
-  gather-one ok here numbers number {k = k} s l e =
-      subst (SoFar n p (k + 1))
-      (regroup-one ok here (fits numbers) (fits number) ∙ ap (λ (x : Bool). (ok && here) && x) (sym (or-below numbers number 32)))
-      (tested-next s l e)
+pub gather-numbers : {n : ℕ} {p : ℕ → Bool} (numbers number : ℕ) {k : ℕ} → SoFar n p k (fits numbers) → k < n → fits number ≡ p k
+    → SoFar n p (k + 1) (fits (bitOr numbers number))
+gather-numbers {n = n} {p = p} numbers number {k = k} s l e = subst (SoFar n p (k + 1)) (sym (or-below numbers number 32)) (tested-next s l e)
 
 -- ---- A stamp by its parts
 
@@ -115,17 +105,6 @@ kept-value false word = refl
 
 pub value-words : (h : Bool) {word word′ kept : ℕ} → kept ≡ cond h word′ 0 → word′ ≡ word → fits kept ≡ (not h || fits word)
 value-words h {word = word} p q = rw (p, q) (kept-value h word)
-
-kept-stamp : (clients items : ℕ) (h : Bool) (word : ℕ)
-    → stampInRange (sized clients items) (cond h word 0) ≡ (not h || stampInRange (sized clients items) word)
-unfolding stampInRange
-kept-stamp clients items true word = refl
-kept-stamp clients items false word = refl
-
-pub stamp-words : (clients items : ℕ) (h : Bool) {word word′ kept : ℕ} {here : Bool} → here ≡ partsTest clients kept → kept ≡ cond h word′ 0
-    → word′ ≡ word → (here && fits (numberOf kept)) ≡ (not h || stampInRange (sized clients items) word)
-stamp-words clients items h {word = word} p q r =
-    rw (p, q, r) (sym (stamp-parts clients items (cond h word 0)) ∙ kept-stamp clients items h word)
 
 -- ---- A version
 

@@ -9,7 +9,7 @@ ghost use Rattle.layout.specs.Decode.{clientIn};
 ghost use Rattle.range.specs.Sized.{sized};
 ghost use Rattle.range.specs.Clients.{askedInRange, lastRead, lastWrite, lastTest, stateTest, valuesTest, clientTest};
 use crate::field::kept;
-use crate::field::parts_in_range;
+use crate::field::lacks;
 use crate::field::stamp_in_range;
 use crate::field::word;
 
@@ -27,15 +27,12 @@ fn some_stamps_in_range(b: &[u64], base: u64, d: u64, set: u64, clients: u64, it
     ensures { λ r. ⌜ r ≡ each (sized clients items) set (λ k. stampInRange (sized clients items) (getD (now (b .entry)) (base + itemAt d k) 0)) ⌝ }
 {
     let mut ok = true;
-    let mut numbers = 0;
     let mut k = 0;
     while k < items {
-        let stamp = kept(set, k, item_word(b, base, d, k));
-        ok = ok & parts_in_range(clients, stamp);
-        numbers = numbers | (stamp / 16);
+        ok = ok & (lacks(set, k) | stamp_in_range(clients, item_word(b, base, d, k)));
         k += 1;
     }
-    ok & (numbers < 4294967296)
+    ok
 }
 
 // The same, with no look at the items where the set is empty.

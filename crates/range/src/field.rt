@@ -18,22 +18,21 @@ pub fn word(b: &[u64], place: usize) -> u64
     b[place]
 }
 
-// A stamp: 0, or a number of 1 to 4,294,967,295 and a client that exists.
-pub fn stamp_in_range(clients: u64, stamp: u64) -> bool
-    ensures { λ r. ⌜ r ≡ stampInRange (sized clients 0) stamp ⌝ }
-{
-    let number = stamp / 16;
-    let writer = stamp % 16;
-    (stamp == 0) | (((1 <= number) & (number < 4294967296)) & ((1 <= writer) & (writer <= clients)))
-}
-
-// The same but for the size of the number.
+// A stamp but for the size of its number: 0, or a number above 0 and a client that exists.
 pub fn parts_in_range(clients: u64, stamp: u64) -> bool
     ensures { λ r. ⌜ r ≡ partsTest clients stamp ⌝ }
 {
     let number = stamp / 16;
     let writer = stamp % 16;
     ((writer == 0) == (number == 0)) & (writer <= clients)
+}
+
+// A stamp: 0, or a number of 1 to 4,294,967,295 and a client that exists.
+pub fn stamp_in_range(clients: u64, stamp: u64) -> bool
+    ensures { λ r. ⌜ r ≡ stampInRange (sized clients 0) stamp ⌝ }
+{
+    let number = stamp / 16;
+    parts_in_range(clients, stamp) & (number < 4294967296)
 }
 
 pub fn entry_in_range(clients: u64, items: u64, e: Entry) -> bool

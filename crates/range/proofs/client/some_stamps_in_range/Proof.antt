@@ -1,36 +1,36 @@
--- `range::client::some_stamps_in_range` meets its contract: item after item, a stamp of the set's, and the sizes of all at the end. Assumes nothing.
+-- `range::client::some_stamps_in_range` meets its contract: item after item, a stamp of the set's. Assumes nothing.
 use borrow.Author.Needs.{needs}
-use mathlib.Core.Bool.{not, _&&_, _||_}
-use Prim.Native.Nat.{_+_, _-_, _/_, _^_}
-use lib.Dec.{ltb}
+use mathlib.Core.Bool.{not, _||_}
+use mathlib.Core.Path.{ap, ap₂, _∙_}
+use Prim.Native.Nat.{_+_, _-_}
 use lib.ListN.{getD}
 use Rattle.itemset.specs.Set.{has}
 use Rattle.protocol.specs.Range.{stampInRange}
 use Rattle.layout.specs.Layout.{itemAt}
 use Rattle.range.specs.Sized.{sized}
-use Rattle.range.proofs.Folds.{SoFar, tested-none, tested-all}
-use Rattle.range.proofs.Gathered.{gather-one, stamp-words}
+use Rattle.range.proofs.Sizes.{stamp-sized}
+use Rattle.range.proofs.Folds.{SoFar, tested-none, tested-next, tested-all}
 use Rattle.range.proofs.client.some_stamps_in_range.Statement.{statement}
 use Rattle.range.proofs.client.some_stamps_in_range.Tie as tie
 
 abbrev Inv-loop : tie.InvT-loop
-Inv-loop b base d set clients items ok₀ numbers₀ k₀ ok numbers k =
-    SoFar items (λ k. not (has set k) || stampInRange (sized clients items) (getD b (base + itemAt d k) 0)) k (ok && ltb numbers (2 ^ 32))
+Inv-loop b base d set clients items ok₀ k₀ ok k =
+    SoFar items (λ k. not (has set k) || stampInRange (sized clients items) (getD b (base + itemAt d k) 0)) k ok
 
 abbrev μ-loop : tie.MeasureT-loop
-μ-loop b base d set clients items ok₀ numbers₀ k₀ ok numbers k = items - k
+μ-loop b base d set clients items ok₀ k₀ ok k = items - k
 
 loop-holds : tie.Need-loop-holds Inv-loop μ-loop
 loop-holds c = tested-none
 
+lacks-requires : tie.Need-lacks-requires Inv-loop μ-loop
+lacks-requires c κs = search needs
+
 item-word-requires : tie.Need-item-word-requires Inv-loop μ-loop
 item-word-requires c κs = search needs
 
-kept-requires : tie.Need-kept-requires Inv-loop μ-loop
-kept-requires c κs = search needs
-
-parts-in-range-requires : tie.Need-parts-in-range-requires Inv-loop μ-loop
-parts-in-range-requires c κs = search needs
+stamp-in-range-requires : tie.Need-stamp-in-range-requires Inv-loop μ-loop
+stamp-in-range-requires c κs = search needs
 
 add-k : tie.Need-add-k Inv-loop μ-loop
 add-k c = search needs
@@ -40,10 +40,8 @@ loop-less c = search needs
 
 loop-again : tie.Need-loop-again Inv-loop μ-loop
 loop-again c =
-    let l = c .before .before .before .before .loop in
-    let a = c .before .before .before .before .before .before .args in
-    gather-one (l .ok) (c .parts-in-range .result) (l .numbers) (c .before .kept .result / 16) (l .inv) (c .before .before .before .loop-test .taken)
-    (stamp-words (a .clients) (a .items) (has (a .set) (l .k)) (c .parts-in-range .ensures) (c .before .kept .ensures) (c .before .before .item-word .ensures))
+    let stamp = c .stamp-in-range .ensures ∙ stamp-sized _ 0 _ _ ∙ ap (stampInRange _) (c .before .item-word .ensures) in
+    tested-next (c .before .before .before .before .loop .inv) (c .before .before .before .loop-test .taken) (ap₂ _||_ (c .before .before .lacks .ensures) stamp)
 
 returns : tie.Need-returns Inv-loop μ-loop
 returns c = tested-all (c .before .loop .inv) (c .loop-test .left)
@@ -55,9 +53,9 @@ some-stamps-in-range-spec =
     Inv-loop
     μ-loop
     loop-holds
+    lacks-requires
     item-word-requires
-    kept-requires
-    parts-in-range-requires
+    stamp-in-range-requires
     add-k
     loop-less
     loop-again

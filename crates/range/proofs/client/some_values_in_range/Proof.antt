@@ -1,13 +1,13 @@
 -- `range::client::some_values_in_range` meets its contract: item after item, a value of the set's, and the sizes of all at the end. Assumes nothing.
 use borrow.Author.Needs.{needs}
-use mathlib.Core.Bool.{true, not, _||_}
+use mathlib.Core.Bool.{not, _||_}
 use Prim.Native.Nat.{_+_, _-_, _^_}
 use lib.Dec.{ltb}
 use lib.ListN.{getD}
 use Rattle.itemset.specs.Set.{has}
 use Rattle.layout.specs.Layout.{itemAt}
 use Rattle.range.proofs.Folds.{SoFar, tested-none, tested-all}
-use Rattle.range.proofs.Gathered.{gather-one, value-words}
+use Rattle.range.proofs.Gathered.{gather-numbers, value-words}
 use Rattle.range.proofs.client.some_values_in_range.Statement.{statement}
 use Rattle.range.proofs.client.some_values_in_range.Tie as tie
 
@@ -37,7 +37,7 @@ loop-again : tie.Need-loop-again Inv-loop μ-loop
 loop-again c =
     let l = c .before .before .before .loop in
     let a = c .before .before .before .before .before .args in
-    gather-one true true (l .values) (c .kept .result) (l .inv) (c .before .before .loop-test .taken)
+    gather-numbers (l .values) (c .kept .result) (l .inv) (c .before .before .loop-test .taken)
     (value-words (has (a .set) (l .k)) (c .kept .ensures) (c .before .item-word .ensures))
 
 returns : tie.Need-returns Inv-loop μ-loop
