@@ -19,7 +19,7 @@ use Rattle.range.specs.Sized.{sized}
 use Rattle.range.specs.Entries.{partsTest, ownTest}
 use Rattle.range.proofs.Folds.{SoFar, tested-none, tested-next}
 
-pub or-below : (a b n : ℕ) → allBelow (bitOr a b) n ≡ (allBelow a n && allBelow b n)
+or-below : (a b n : ℕ) → allBelow (bitOr a b) n ≡ (allBelow a n && allBelow b n)
 or-below a b n =
     test-ext _ _
     (λ e.
