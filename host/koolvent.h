@@ -21,8 +21,8 @@
  *
  * A start puts messages in flight, one for each item; a delivery takes one out, does what it says, and may put others
  * in flight. They are numbered 0, 1, .. by their place: the one delivered is taken out, those after it move up by
- * one, and new ones join at the end. A delivery at any place below the number in flight is accepted. example.c
- * plays a whole session.
+ * one, and new ones join at the end. On a block that only the calls have written since a fresh start, a delivery at any
+ * place below the number in flight is accepted. example.c plays a whole session.
  *
  * What is proved. Each call's answer, and every word and byte that was lent as the call leaves it, are fixed by what
  * it was given, for all numbers, lengths and contents of the block, damaged ones included; a refused call changes
@@ -36,8 +36,8 @@
  *   - one caller at a time: while a call runs, nobody else reads or writes what was lent to it;
  *   - between calls the host leaves the block's words as they are. (It may copy and keep them: that is a backup.)
  *
- * Link with libstore.a (the five calls on a block) and libjudge.a (the judge), or by pkg-config: koolvent. For Linux on
- * x86-64.
+ * Link with libstore.a (the five calls on a block) and libjudge.a (the judge); installed, with -lkoolvent_store and
+ * -lkoolvent_judge, or by pkg-config: koolvent. For Linux on x86-64.
  */
 #ifndef KOOLVENT_H
 #define KOOLVENT_H

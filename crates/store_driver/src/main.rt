@@ -1,5 +1,5 @@
 // Reads store frames from standard input, a line each, and prints the line that answers each before it waits for more (document 01: frames).
-// It sees only the promises of `lines`. The block starts as zeros, on which every frame but an accepted `01` is refused by 1.
+// It sees only the promises of `lines`. The block starts as zeros, on which every well-formed frame but an `01` is refused by 1.
 use libc::STDIN_FILENO;
 use libc::STDOUT_FILENO;
 use lines::input::end;

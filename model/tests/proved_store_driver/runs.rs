@@ -1,4 +1,4 @@
-//! 3,000 random runs as frames, with lines among them that are none. A run begins with a fresh start, so that one process
+//! 3,106 random runs as frames, with lines among them that are none. A run begins with a fresh start, so that one process
 //! can have many; some hundred have a process each.
 
 use crate::program::agreed;

@@ -36,7 +36,7 @@ pub fn limits(measured: &Measured) -> Vec<Limit> {
         ),
     ];
     limits.extend(measured.sheets.iter().map(|row| {
-        let faster = row.sqlite.map(|sqlite| sqlite.stores);
+        let faster = row.sqlite.map(|sqlite| sqlite.times);
         let found = faster.map_or("SQLite is not installed".to_owned(), |faster| {
             format!("{faster:.2} times, {}", row.name)
         });

@@ -83,23 +83,27 @@ fn calls_table(title: &str, rows: &[call::Row]) -> String {
 fn sheets_table(rows: &[sheet::Row]) -> String {
     let title =
         "A write of 4 items and a read of them on the small sheet, delivered and shown: 22 calls";
-    let head = "| | Store | Model on the block | SQLite in memory | SQLite / store |";
-    let mut text = format!("\n### {title}\n\n{head}\n|---|--:|--:|--:|--:|\n");
+    let head = "| | Store | Model on the block | Floor | SQLite in memory | Store / floor | SQLite / store |";
+    let mut text = format!("\n### {title}\n\n{head}\n|---|--:|--:|--:|--:|--:|--:|\n");
+    let times_of =
+        |beside: Option<sheet::Beside>| beside.map_or(String::new(), |beside| ratio(beside.times));
     for row in rows {
+        let floor = row
+            .floor
+            .map_or("not measured".to_owned(), |floor| time(floor.time));
         let sqlite = row
             .sqlite
             .map_or("not installed".to_owned(), |sqlite| time(sqlite.time));
-        let to_sqlite = row
-            .sqlite
-            .map_or(String::new(), |sqlite| ratio(sqlite.stores));
         line(
             &mut text,
             &[
                 &row.name,
                 &time(row.store),
                 &time(row.model),
+                &floor,
                 &sqlite,
-                &to_sqlite,
+                &times_of(row.floor),
+                &times_of(row.sqlite),
             ],
         );
     }

@@ -3,12 +3,15 @@
 
 use crate::block::Lent;
 use crate::clock::{steps, steps_undone, Contender, Rounds};
+use crate::floor;
 use crate::session::Session;
 #[cfg(feature = "sqlite")]
 use crate::sqlite::Sheet;
 use koolvent_model::block::{Calls, Modelled};
 use koolvent_model::proved::store::Proved;
+use std::cell::RefCell;
 use std::hint::black_box;
+use std::ops::Range;
 
 /// So many writes of four items fill the 512 versions.
 const WRITES_OF_A_LIFE: usize = 128;
@@ -23,14 +26,15 @@ pub struct Row {
     pub versions: u64,
     pub store: f64,
     pub model: f64,
+    pub floor: Option<Beside>,
     pub sqlite: Option<Beside>,
 }
 
-/// SQLite's time, and how many times the store's that is.
+/// A time beside the store's: how many of it the store takes, or of the store's it is.
 #[derive(Clone, Copy)]
 pub struct Beside {
     pub time: f64,
-    pub stores: f64,
+    pub times: f64,
 }
 
 /// On a fresh sheet, and over the life of one.
@@ -44,6 +48,7 @@ pub fn rows() -> Vec<Row> {
                 beside(vec![a_life(Proved), a_life(Modelled::default())]),
             ),
             0,
+            None,
         )
     };
     let mut rows = on_sheets(&[0]);
@@ -64,14 +69,18 @@ fn on_sheets(versions: &[u64]) -> Vec<Row> {
         beside(vec![
             once(Proved, &block),
             once(Modelled::default(), &block),
+            passes(&block),
         ])
     };
     let of_each: Vec<Vec<Contender>> = versions.iter().map(of_one).collect();
     let each = of_each.first().map_or(0, Vec::len);
     let rounds = Rounds::run(ROUNDS, of_each.into_iter().flatten().collect());
     let rows = versions.iter().enumerate();
-    rows.map(|(place, versions)| row(*versions, &rounds, each * place))
-        .collect()
+    let of_one = |(place, versions): (usize, &u64)| {
+        let place = each * place;
+        row(*versions, &rounds, place, Some(place + 2))
+    };
+    rows.map(of_one).collect()
 }
 
 fn sheet_with(versions: u64) -> Vec<u64> {
@@ -83,23 +92,30 @@ fn sheet_with(versions: u64) -> Vec<u64> {
     session.block()
 }
 
-/// The store and the model, and SQLite where it is there.
+/// These, and SQLite where it is there.
 fn beside<'a>(mut contenders: Vec<Contender<'a>>) -> Vec<Contender<'a>> {
     contenders.extend(in_sqlite());
     contenders
 }
 
-/// The row of the store, the model and perhaps SQLite, of which the store is the contender at the place.
-fn row(versions: u64, rounds: &Rounds, place: usize) -> Row {
+/// The row of the store, which is the contender at the place, the model behind it, the floor where there is one, and perhaps
+/// SQLite behind them all.
+fn row(versions: u64, rounds: &Rounds, place: usize, floor: Option<usize>) -> Row {
+    let last = floor.unwrap_or(place + 1) + 1;
     let sqlite = cfg!(feature = "sqlite").then(|| Beside {
-        time: rounds.median(place + 2),
-        stores: rounds.ratio(place + 2, place),
+        time: rounds.median(last),
+        times: rounds.ratio(last, place),
+    });
+    let floor = floor.map(|floor| Beside {
+        time: rounds.median(floor),
+        times: rounds.ratio(place, floor),
     });
     Row {
         name: format!("on a sheet with {versions} stored versions"),
         versions,
         store: rounds.median(place),
         model: rounds.median(place + 1),
+        floor,
         sqlite,
     }
 }
@@ -118,6 +134,58 @@ fn once<'a>(served: impl Calls + 'a, block: &[u64]) -> Contender<'a> {
     let lent = Lent::new(block, &after.block);
     let step = move |lent: &mut Lent| write_and_read(&served, lent, 1);
     steps_undone(lent, step, Lent::undo)
+}
+
+/// The floor: for each call one plain pass over the words in use before it.
+fn passes<'a>(block: &[u64]) -> Contender<'a> {
+    let watched = Watched::default();
+    write_and_read(&watched, &mut Lent::new(block, block), 1);
+    let calls = watched.in_use.into_inner();
+    assert_eq!(calls.len(), 22);
+    let block = block.to_vec();
+    steps(move || {
+        for in_use in &calls {
+            black_box(floor::sum(black_box(&block), in_use));
+        }
+    })
+}
+
+/// The proved store, and the words in use before each call of it.
+#[derive(Default)]
+struct Watched {
+    in_use: RefCell<Vec<Vec<Range<usize>>>>,
+}
+
+impl Watched {
+    fn look(&self, block: &[u64]) {
+        self.in_use.borrow_mut().push(floor::in_use(block));
+    }
+}
+
+impl Calls for Watched {
+    fn fresh(&self, block: &mut [u64], clients: u64, partitions: u64, items: u64) -> u64 {
+        Proved.fresh(block, clients, partitions, items)
+    }
+
+    fn start_read(&self, block: &mut [u64], client: u64, set: u64) -> u64 {
+        self.look(block);
+        Proved.start_read(block, client, set)
+    }
+
+    fn start_write(&self, block: &mut [u64], client: u64, set: u64, values: &[u8]) -> u64 {
+        self.look(block);
+        Proved.start_write(block, client, set, values)
+    }
+
+    fn deliver(&self, block: &mut [u64], place: u64) -> u64 {
+        self.look(block);
+        Proved.deliver(block, place)
+    }
+
+    fn show(&self, block: &[u64], client: u64, output: &mut [u8]) -> u64 {
+        self.look(block);
+        Proved.show(block, client, output)
+    }
 }
 
 fn a_life<'a>(served: impl Calls + 'a) -> Contender<'a> {
