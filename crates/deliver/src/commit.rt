@@ -7,6 +7,7 @@ use layout::entry::latest;
 use layout::entry::put_latest;
 use protocol::Entry;
 use protocol::Version;
+use slots::version::stamp_of;
 use slots::version::version;
 
 // The item of version `v`, if it lies in partition `p`.
@@ -30,9 +31,8 @@ fn commit_version(b: &mut [u64], partitions: u64, p: u64, stamp: u64, i: u64)
     requires { ⌜ (1 ≤ partitions) × (i < 512) ⌝ }
     ensures { λ _. ⌜ now (b .exit) ≡ commitVersion partitions p stamp (now (b .entry)) i ⌝ }
 {
-    let v = version(b, i);
-    if v.stamp == stamp {
-        commit_item(b, partitions, p, v);
+    if stamp_of(b, i) == stamp {
+        commit_item(b, partitions, p, version(b, i));
     }
 }
 

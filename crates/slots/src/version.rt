@@ -37,6 +37,14 @@ pub fn version(b: &[u64], i: u64) -> Version
     }
 }
 
+// Its stamp alone.
+pub fn stamp_of(b: &[u64], i: u64) -> u64
+    requires { ⌜ i < 512 ⌝ }
+    ensures { λ r. ⌜ r ≡ versionIn (now (b .entry)) i .stamp ⌝ }
+{
+    part(b, i, 2)
+}
+
 // Version `v` joins the `n` that are there, at the end.
 pub fn append(b: &mut [u64], n: u64, v: Version)
     requires { ⌜ n < 512 ⌝ }

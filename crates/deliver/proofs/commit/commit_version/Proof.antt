@@ -1,13 +1,15 @@
 -- `deliver::commit::commit_version` meets its contract: by the test. Assumes nothing.
 use mathlib.Core.Path.{refl, sym, ap, _∙_}
 use borrow.Author.Tests.{eq-eqb, ne-eqb}
-use Rattle.protocol.specs.declared.Version.{Version}
 use Rattle.ends.proofs.Chosen.{when, unless}
 use Rattle.deliver.specs.Deliver.{commitItem}
 use borrow.Author.Needs.{needs}
 use denote.Ref.{now}
 use Rattle.deliver.proofs.commit.commit_version.Statement.{statement}
 use Rattle.deliver.proofs.commit.commit_version.Tie as tie
+
+stamp-of-requires : tie.Need-stamp-of-requires
+stamp-of-requires c κs = search needs
 
 version-requires : tie.Need-version-requires
 version-requires c κs = search needs
@@ -20,21 +22,21 @@ same-length c = search needs
 
 returns : tie.Need-returns
 returns c =
-    let a = c .before .before .before .before .before .before .before .before .before .args in
-    let e = c .before .before .before .before .before .before .version .ensures in
-    when _ _ _ _ (eq-eqb _ _ (ap (λ (v : Version). v .stamp) (sym e) ∙ c .before .before .before .before .if1 .taken))
-    (c .before .before .commit-item .ensures ∙ ap (commitItem (a .partitions) (a .p) (now (a .b))) e)
+    let a = c .before .before .before .before .before .before .before .before .before .before .args in
+    when _ _ _ _ (eq-eqb _ _ (sym (c .before .before .before .before .before .before .before .stamp-of .ensures) ∙ c .before .before .before .before .before .before .if1 .taken))
+    (c .before .before .commit-item .ensures ∙ ap (commitItem (a .partitions) (a .p) (now (a .b))) (c .before .before .before .version .ensures))
 
 same-length-2 : tie.Need-same-length-2
 same-length-2 c = search needs
 
 returns-2 : tie.Need-returns-2
-returns-2 c = unless _ _ _ _ (ne-eqb _ _ (λ e. c .if1 .left (ap (λ (v : Version). v .stamp) (c .before .before .version .ensures) ∙ e))) refl
+returns-2 c = unless _ _ _ _ (ne-eqb _ _ (λ e. c .if1 .left (c .before .stamp-of .ensures ∙ e))) refl
 
 pub commit-version-spec : {M : Type 1} → statement M
 commit-version-spec =
     tie.close
     (tie.spec
+    stamp-of-requires
     version-requires
     commit-item-requires
     same-length
