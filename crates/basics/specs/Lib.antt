@@ -1,4 +1,3 @@
 -- What the other crates' definitions and proofs share: tests, and lists with a test.
-pub mod Cases
 pub mod Lists
 pub mod Fold

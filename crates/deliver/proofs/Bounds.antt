@@ -1,4 +1,4 @@
--- A message in range names clients and items that have words in a block. Assumes nothing.
+-- A message in range names clients and items that have words in a block.
 use Prim.Native.Nat.{_≤_}
 use native.Mathlib.Omega.{arith}
 use Rattle.protocol.specs.declared.Message.{Message}

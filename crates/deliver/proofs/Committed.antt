@@ -1,5 +1,5 @@
 -- A commit, version by version: after the first n stored versions an item's latest is what `committed` says of those n. A second version
--- alike changes nothing, since at equal stamps the latest already there stays. Assumes nothing.
+-- alike changes nothing, since at equal stamps the latest already there stays.
 use mathlib.Core.Bool.{true, false, cond, _&&_, or-false}
 use mathlib.Core.List.{List, [], _∷_, _++_}
 use mathlib.Core.Path.{_≡_, refl, sym, ap, _∙_, subst}
@@ -9,9 +9,10 @@ use lib.Dec.{eqb, ltb}
 use lib.ListN.{length, getD, take}
 use lib.Seq.{take-suc, take-length}
 use borrow.Author.Tests.{eqb-true, eqb-false, ne-eqb, le-ltb, lt-ltb}
-use Rattle.basics.specs.Cases.{by-test, not-both, and-left, and-both, eqb-same}
-use Rattle.basics.specs.Fold.{upTo, upTo-all}
-use Rattle.basics.specs.Lists.{in-getD}
+use Rattle.basics.proofs.Cases.{by-test, not-both, and-left, and-both, eqb-same}
+use Rattle.basics.specs.Fold.{upTo}
+use Rattle.basics.proofs.Fold.{upTo-all}
+use Rattle.basics.proofs.Lists.{in-getD}
 use Rattle.protocol.specs.declared.Version.{Version}
 use Rattle.protocol.specs.declared.Entry.{Entry}
 use Rattle.protocol.specs.Tables.{Tables, laterOf, put, withLatest}

@@ -1,10 +1,10 @@
 -- A delivery on the block is the delivery in the tables: the message is taken out, does its work, and its new messages join at the end.
--- Assumes nothing.
 use mathlib.Core.List.{List}
 use mathlib.Core.Path.{_≡_, refl, sym, ap, subst}
 use Prim.Native.Nat.{ℕ}
 use native.Mathlib.Omega.{arith}
-use Rattle.basics.specs.Lists.{without, length-without}
+use Rattle.basics.specs.Lists.{without}
+use Rattle.basics.proofs.Lists.{length-without}
 use Rattle.protocol.specs.declared.Message.{Message}
 use Rattle.protocol.specs.declared.Message.the-variants.{Commit}
 use Rattle.protocol.specs.Tables.{Tables, withMessages}

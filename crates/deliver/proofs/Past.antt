@@ -1,4 +1,4 @@
--- A delivery keeps the block's length, and every word past the length that a block needs. Assumes nothing.
+-- A delivery keeps the block's length, and every word past the length that a block needs.
 use mathlib.Core.Bool.{_&&_}
 use mathlib.Core.List.{List, []}
 use Prim.Native.Nat.{ℕ, _+_, _-_, _*_, _%_, _≤_, _<_}
@@ -6,7 +6,7 @@ use native.Mathlib.Omega.{arith}
 use lib.Dec.{eqb, ltb, lit<}
 use lib.ListN.{take, drop, length-take}
 use borrow.Author.Tests.{ltb-true}
-use Rattle.basics.specs.Cases.{and-right}
+use Rattle.basics.proofs.Cases.{and-right}
 use Rattle.itemset.specs.Set.{remove}
 use Rattle.protocol.specs.declared.Message.{Message}
 use Rattle.protocol.specs.declared.Message.the-variants.{Prepare, Prepared, Commit, Get, Got}

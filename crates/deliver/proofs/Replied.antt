@@ -1,5 +1,5 @@
 -- A prepared reply on the block is a prepared reply in the tables: the client goes on, or with the last one its write ends and commits
--- join. Assumes nothing.
+-- join.
 use mathlib.Core.Bool.{cond}
 use mathlib.Core.List.{List, [], _++_, append-nil}
 use mathlib.Core.Path.{_≡_, refl, sym, subst}
@@ -8,7 +8,7 @@ use native.Mathlib.Omega.{arith}
 use lib.Dec.{eqb, lit<}
 use lib.ListN.{length}
 use borrow.Author.Tests.{eqb-true}
-use Rattle.basics.specs.Cases.{by-test}
+use Rattle.basics.proofs.Cases.{by-test}
 use Rattle.basics.specs.Fold.{upTo}
 use Rattle.itemset.specs.Set.{remove}
 use Rattle.protocol.specs.declared.Message.{Message}

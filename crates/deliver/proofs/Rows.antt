@@ -1,4 +1,4 @@
--- What a reply leaves, from what each call leaves: by whether it is the last one. Assumes nothing.
+-- What a reply leaves, from what each call leaves: by whether it is the last one.
 use mathlib.Core.List.{List}
 use mathlib.Core.Path.{_≡_, sym, ap, _∙_}
 use Prim.Native.Nat.{ℕ}

@@ -1,4 +1,4 @@
--- An item is struck from those that a client awaits: one word, and for an answer the value's. Assumes nothing.
+-- An item is struck from those that a client awaits: one word, and for an answer the value's.
 use mathlib.Core.Bool.{true}
 use mathlib.Core.Path.{_≡_, refl}
 use Prim.Native.Nat.{ℕ}

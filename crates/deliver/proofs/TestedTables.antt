@@ -1,11 +1,10 @@
 -- What is told of a message from the words of a block is what the tables say: refusals 11 and 12, the outcome, a get's value.
--- Assumes nothing.
 use mathlib.Core.Bool.{Bool, true, false, cond, not, _&&_, _||_}
 use mathlib.Core.List.{List, [], _∷_}
 use mathlib.Core.Path.{_≡_, refl, sym, ap, _∙_}
 use Prim.Native.Nat.{ℕ}
 use lib.Dec.{eqb}
-use Rattle.basics.specs.Cases.{by-test}
+use Rattle.basics.proofs.Cases.{by-test}
 use Rattle.basics.specs.Lists.{table}
 use Rattle.itemset.specs.Set.{has, remove}
 use Rattle.protocol.specs.declared.Version.{Version}

@@ -1,4 +1,4 @@
--- The work of each message on the block is its work in the tables, with its new messages at the end. Assumes nothing.
+-- The work of each message on the block is its work in the tables, with its new messages at the end.
 use mathlib.Core.List.{List, [], _∷_, _++_, append-nil}
 use mathlib.Core.Path.{_≡_, sym, subst}
 use Prim.Native.Nat.{ℕ, _≤_, _<_}

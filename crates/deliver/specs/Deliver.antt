@@ -1,4 +1,4 @@
--- The five deliveries as changes of the block. Assumes nothing.
+-- The five deliveries as changes of the block.
 use mathlib.Core.Bool.{cond, _&&_}
 use mathlib.Core.List.{List, []}
 use Prim.Native.Nat.{ℕ, _%_}

@@ -1,5 +1,5 @@
 -- What is told of a message before it is delivered, from the words of the block: the refusal (0 where there is none), the outcome, and
--- the value that answers a get. Assumes nothing.
+-- the value that answers a get.
 use mathlib.Core.Bool.{Bool, cond, _&&_, _||_}
 use mathlib.Core.List.{List}
 use Prim.Native.Nat.{ℕ, _≤_, _<_}

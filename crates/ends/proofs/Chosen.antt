@@ -1,4 +1,4 @@
--- A choice by a test that is known; a later entry that is stored. Assumes nothing.
+-- A choice by a test that is known; a later entry that is stored.
 use mathlib.Core.Bool.{Bool, true, false, cond}
 use mathlib.Core.List.{List}
 use mathlib.Core.Path.{_≡_, ap, _∙_}

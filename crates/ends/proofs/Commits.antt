@@ -1,14 +1,15 @@
--- Messages that join partition by partition: after n partitions, one for each of the first n that passes. Assumes nothing.
+-- Messages that join partition by partition: after n partitions, one for each of the first n that passes.
 use mathlib.Core.Bool.{Bool, true, false}
 use mathlib.Core.List.{List, [], _∷_, _++_, map, append-nil, append-assoc}
 use mathlib.Core.Path.{_≡_, sym, ap, _∙_, subst}
 use Prim.Native.Nat.{ℕ, suc, _+_, _≤_, _<_}
 use native.Mathlib.Omega.{arith}
 use lib.ListN.{length, length-append, length-map}
-use Rattle.basics.specs.Fold.{upTo, upTo-all}
-use Rattle.basics.specs.Lists.{map-append}
+use Rattle.basics.specs.Fold.{upTo}
+use Rattle.basics.proofs.Fold.{upTo-all}
+use Rattle.basics.proofs.Lists.{map-append}
 use Rattle.itemset.specs.Set.{has, only, upto}
-use Rattle.itemset.specs.Members.{upto-suc, length-upto-lt}
+use Rattle.itemset.proofs.Members.{upto-suc, length-upto-lt}
 use Rattle.protocol.specs.declared.Message.{Message}
 use Rattle.protocol.specs.declared.Message.the-variants.{Commit}
 use Rattle.protocol.specs.Tables.{Tables, withMessages}

@@ -1,5 +1,4 @@
 -- The last ended transaction takes over words of a client, item by item: after n items, those of the set among the first n.
--- Assumes nothing.
 use mathlib.Core.Bool.{true, false}
 use mathlib.Core.List.{List}
 use mathlib.Core.Path.{_≡_}
@@ -7,8 +6,9 @@ use Prim.Native.Nat.{ℕ, suc, _≤_, _<_}
 use native.Mathlib.Omega.{arith}
 use lib.Dec.{eqb}
 use borrow.Author.Tests.{eqb-true, eqb-false}
-use Rattle.basics.specs.Cases.{by-test, not-both}
-use Rattle.basics.specs.Fold.{upTo, upTo-all}
+use Rattle.basics.proofs.Cases.{by-test, not-both}
+use Rattle.basics.specs.Fold.{upTo}
+use Rattle.basics.proofs.Fold.{upTo-all}
 use Rattle.itemset.specs.Set.{has}
 use Rattle.protocol.specs.Tables.{put}
 use Rattle.protocol.proofs.Put.{by-cond}

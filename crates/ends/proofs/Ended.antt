@@ -1,4 +1,4 @@
--- A transaction's end on the block is its end in the tables: the client rests, with its last ended transaction. Assumes nothing.
+-- A transaction's end on the block is its end in the tables: the client rests, with its last ended transaction.
 use mathlib.Core.Bool.{true}
 use mathlib.Core.List.{List}
 use mathlib.Core.Path.{_≡_, sym, _∙_, subst}
@@ -7,7 +7,7 @@ use native.Mathlib.Omega.{arith}
 use lib.Dec.{lit<}
 use Rattle.basics.specs.Fold.{upTo}
 use Rattle.itemset.specs.Set.{has}
-use Rattle.itemset.specs.Laws.{has-below}
+use Rattle.itemset.proofs.Laws.{has-below}
 use Rattle.protocol.specs.Tables.{Tables, read, write, resting, withClient, withView}
 use Rattle.protocol.specs.Steps.{seen}
 use Rattle.layout.specs.Encodes.{Encodes, HoldsClient}

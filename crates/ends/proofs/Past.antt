@@ -1,4 +1,4 @@
--- Changes that keep the block's length, and every word past the length that a block needs. Assumes nothing.
+-- Changes that keep the block's length, and every word past the length that a block needs.
 use mathlib.Core.Bool.{Bool, cond}
 use mathlib.Core.List.{List, []}
 use mathlib.Core.Path.{_≡_, refl, _∙_}
@@ -8,7 +8,8 @@ use lib.Dec.{ltb, lit<}
 use lib.ListN.{length, getD}
 use lib.Seq.{getD-set-other}
 use borrow.Author.Tests.{ltb-true}
-use Rattle.basics.specs.Fold.{upTo, upTo-all}
+use Rattle.basics.specs.Fold.{upTo}
+use Rattle.basics.proofs.Fold.{upTo-all}
 use Rattle.itemset.specs.Set.{has}
 use Rattle.protocol.specs.declared.Version.{Version}
 use Rattle.protocol.specs.declared.Entry.{Entry}

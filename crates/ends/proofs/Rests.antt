@@ -1,12 +1,12 @@
--- The words of a client after the end of its transaction hold a resting client. Assumes nothing.
+-- The words of a client after the end of its transaction hold a resting client.
 use mathlib.Core.Bool.{true}
 use mathlib.Core.List.{List}
 use mathlib.Core.Path.{_≡_, refl}
 use Prim.Native.Nat.{ℕ}
 use lib.Dec.{lit<}
-use Rattle.basics.specs.Cases.{not-both}
+use Rattle.basics.proofs.Cases.{not-both}
 use Rattle.itemset.specs.Set.{has}
-use Rattle.itemset.specs.Laws.{has-empty}
+use Rattle.itemset.proofs.Laws.{has-empty}
 use Rattle.protocol.specs.Tables.{Ended, read, write, resting}
 use Rattle.protocol.specs.Range.{isWriting}
 use Rattle.layout.proofs.Room.{NarrowEnded, NarrowClient}

@@ -1,4 +1,4 @@
--- What a row of calls leaves, from what each of them leaves. Assumes nothing.
+-- What a row of calls leaves, from what each of them leaves.
 use mathlib.Core.List.{List}
 use mathlib.Core.Path.{_≡_, ap, _∙_}
 use Prim.Native.Nat.{ℕ}

@@ -1,4 +1,4 @@
--- A block holds tables by their entries and clients within the sizes: functions that agree there are as good. Assumes nothing.
+-- A block holds tables by their entries and clients within the sizes: functions that agree there are as good.
 use mathlib.Core.List.{List}
 use mathlib.Core.Path.{_≡_, subst}
 use Prim.Native.Nat.{ℕ, _≤_, _<_}

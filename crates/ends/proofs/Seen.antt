@@ -1,5 +1,4 @@
 -- A client's view takes a write, item by item: after n items the first n have it, and after all of them the view is `seen`.
--- Assumes nothing.
 use mathlib.Core.Bool.{true, false, cond}
 use mathlib.Core.List.{List}
 use mathlib.Core.Path.{_≡_, refl, sym, ap, _∙_}
@@ -7,8 +6,9 @@ use Prim.Native.Nat.{ℕ, suc, _≤_, _<_}
 use native.Mathlib.Omega.{arith}
 use lib.Dec.{eqb, ltb}
 use borrow.Author.Tests.{eqb-true, eqb-false, ltb-true, ltb-false, lt-ltb, le-ltb}
-use Rattle.basics.specs.Cases.{by-test, eqb-same}
-use Rattle.basics.specs.Fold.{upTo, upTo-all}
+use Rattle.basics.proofs.Cases.{by-test, eqb-same}
+use Rattle.basics.specs.Fold.{upTo}
+use Rattle.basics.proofs.Fold.{upTo-all}
 use Rattle.itemset.specs.Set.{has}
 use Rattle.protocol.specs.declared.Entry.{Entry}
 use Rattle.protocol.specs.Tables.{Tables, laterOf, put, withView}

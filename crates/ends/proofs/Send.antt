@@ -1,4 +1,4 @@
--- A version is stored, or a message joins: where there is room for it, the block holds the tables with it at the end. Assumes nothing.
+-- A version is stored, or a message joins: where there is room for it, the block holds the tables with it at the end.
 use mathlib.Core.List.{List, [], _∷_, _++_}
 use Prim.Native.Nat.{ℕ, _<_}
 use native.Mathlib.Omega.{arith}

@@ -1,4 +1,4 @@
--- The set of partitions that a set's items lie in is what `touches` says, partition by partition. Assumes nothing.
+-- The set of partitions that a set's items lie in is what `touches` says, partition by partition.
 use mathlib.Core.Bool.{Bool, _&&_, _||_, or-true, or-false}
 use mathlib.Core.Path.{_≡_, sym}
 use Prim.Native.Nat.{ℕ, zero, suc, _%_, _≤_}
@@ -6,10 +6,10 @@ use native.Mathlib.Nat.{mod-lt}
 use native.Mathlib.Omega.{arith}
 use lib.Dec.{eqb}
 use borrow.Author.Tests.{eqb-true, eqb-false, eq-eqb, ne-eqb}
-use Rattle.basics.specs.Cases.{by-test}
+use Rattle.basics.proofs.Cases.{by-test}
 use Rattle.basics.specs.Fold.{upTo}
 use Rattle.itemset.specs.Set.{has}
-use Rattle.itemset.specs.Laws.{has-empty, has-insert, insert64-lt}
+use Rattle.itemset.proofs.Laws.{has-empty, has-insert, insert64-lt}
 use Rattle.protocol.specs.Tables.{Tables}
 use Rattle.protocol.specs.Steps.{touches}
 use Rattle.ends.specs.Ends.{touchItem, touched}

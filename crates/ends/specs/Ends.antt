@@ -1,4 +1,4 @@
--- The end of a transaction of client d as a change of the block. Assumes nothing.
+-- The end of a transaction of client d as a change of the block.
 use mathlib.Core.Bool.{cond}
 use mathlib.Core.List.{List}
 use Prim.Native.Nat.{ℕ, _%_}

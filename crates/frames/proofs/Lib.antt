@@ -2,3 +2,4 @@
 pub mod Parsing
 pub mod Reading
 mod Writing
+mod Examples

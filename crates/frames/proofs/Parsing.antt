@@ -1,4 +1,4 @@
--- What a frame tells of the bytes that it was parsed from. Assumes nothing.
+-- What a frame tells of the bytes that it was parsed from.
 use mathlib.Core.Bool.{true, false}
 use mathlib.Core.List.{List, []}
 use mathlib.Core.Path.{_≡_, refl, sym, subst}
@@ -7,7 +7,7 @@ use native.Mathlib.Omega.{arith}
 use lib.Dec.{eqb, leb}
 use lib.ListN.{length}
 use borrow.Author.Tests.{eqb-true, leb-true}
-use Rattle.basics.specs.Cases.{by-test, and-left, and-right}
+use Rattle.basics.proofs.Cases.{by-test, and-left, and-right}
 use Rattle.frames.specs.declared.StoreFrame.{StoreFrame}
 use Rattle.frames.specs.declared.StoreFrame.the-variants.{Fresh, Read, Write, Deliver, Show}
 use Rattle.frames.specs.declared.Parsed.{Parsed}

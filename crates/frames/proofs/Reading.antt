@@ -1,4 +1,4 @@
--- What reading a line tells: the bytes that it stores are the frame's, and a line that isn't decoded is malformed. Assumes nothing.
+-- What reading a line tells: the bytes that it stores are the frame's, and a line that isn't decoded is malformed.
 use mathlib.Core.Bool.{true, false, _&&_, false≢true}
 use mathlib.Core.List.{List, [], _∷_}
 use mathlib.Core.Path.{_≡_, refl, sym, ap, _∙_, subst}
@@ -8,12 +8,14 @@ use lib.Dec.{leb}
 use lib.ListN.{length, take}
 use lib.Seq.{sets, take-at, length-take-le}
 use borrow.Author.Tests.{leb-true, leb-false, lt-leb}
-use Rattle.basics.specs.Cases.{by-test, and-left, and-right, and-both, not-both}
+use Rattle.basics.proofs.Cases.{by-test, and-left, and-right, and-both, not-both}
 use Rattle.hex.specs.declared.Decoded.{Decoded}
 use Rattle.hex.specs.declared.Decoded.the-variants.{Bytes, Malformed as Undecoded}
-use Rattle.hex.specs.Decode.{decoded, decoded-bytes, decoded-malformed}
-use Rattle.hex.specs.Stores.{sets-front}
-use Rattle.hex.specs.Text.{isHex, bytesOf, length-hexText, hexText-bytesOf, length-bytesOf}
+use Rattle.hex.specs.Decode.{decoded}
+use Rattle.hex.proofs.Decoding.{decoded-bytes, decoded-malformed}
+use Rattle.hex.proofs.Stores.{sets-front}
+use Rattle.hex.specs.Text.{isHex, bytesOf}
+use Rattle.hex.proofs.Text.{length-hexText, hexText-bytesOf, length-bytesOf}
 use Rattle.frames.specs.declared.StoreFrame.{StoreFrame}
 use Rattle.frames.specs.declared.Parsed.the-variants.{Frame, Malformed}
 use Rattle.frames.specs.Frames.{isEnded, textOf, frameBytes, parsed, frameOf, isDecoded, decodedLine, storedBytes}

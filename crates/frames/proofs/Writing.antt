@@ -1,4 +1,4 @@
--- A line written to the front of an output: digits and then 0a, stored one behind the other; and each answer's line. Assumes nothing.
+-- A line written to the front of an output: digits and then 0a, stored one behind the other; and each answer's line.
 use mathlib.Core.List.{List, [], _∷_, _++_}
 use mathlib.Core.Path.{_≡_, refl, ap, ap₂, _∙_}
 use Prim.Native.Nat.{ℕ, zero, suc, _+_, _*_, _/_, _%_, _≤_}
@@ -7,8 +7,9 @@ use lib.ListN.{length, take, set, length-append}
 use lib.Seq.{sets}
 use Rattle.hex.specs.Digit.{hexByte}
 use Rattle.hex.specs.Number.{bigEndian}
-use Rattle.hex.specs.Stores.{sets-join}
-use Rattle.hex.specs.Text.{hexText, length-hexText}
+use Rattle.hex.proofs.Stores.{sets-join}
+use Rattle.hex.specs.Text.{hexText}
+use Rattle.hex.proofs.Text.{length-hexText}
 use Rattle.protocol.specs.declared.Answer.the-variants.{Refused, Made, Started, Delivered, Shown}
 use Rattle.protocol.specs.Calls.{bytesOfAnswer}
 use Rattle.frames.specs.Answers.{lineOf, answerLine}

@@ -1,4 +1,4 @@
--- An answer as a line: the digits of its bytes, and then 0a (document 01: frames, answers). Assumes nothing.
+-- An answer as a line: the digits of its bytes, and then 0a (document 01: frames, answers).
 use mathlib.Core.List.{List, [], _∷_, _++_}
 use Prim.Native.Nat.{ℕ}
 use Rattle.hex.specs.Text.{hexText}

@@ -1,6 +1,5 @@
 -- The store's frames (document 01: frames): lines of lowercase hexadecimal, two digits a byte, one frame a line, most significant byte first,
 -- each ended by byte 0a. Any other line is malformed, and so is a last line without its 0a. A line is all its bytes, its 0a with them.
--- Assumes nothing.
 use mathlib.Core.Bool.{Bool, cond, _&&_}
 use mathlib.Core.List.{List, []}
 use Prim.Native.Nat.{ℕ, _+_, _-_, _*_, _/_}

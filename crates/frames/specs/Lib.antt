@@ -1,4 +1,3 @@
--- The definitions that the contracts of `frames` cite, and their laws.
+-- The definitions that the contracts of `frames` cite.
 pub mod Frames
 pub mod Answers
-mod Examples

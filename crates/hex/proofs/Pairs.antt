@@ -1,5 +1,4 @@
 -- How a text goes on from its pair k: whether it is hex, and what is left to store of its bytes. Each law opens one pair of the text.
--- Assumes nothing.
 use mathlib.Core.Bool.{true, false}
 use mathlib.Core.List.{List, [], _∷_}
 use mathlib.Core.Path.{_≡_, _∙_}

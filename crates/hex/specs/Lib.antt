@@ -1,9 +1,7 @@
--- The definitions that the contracts of `hex` cite, and their laws.
+-- The definitions that the contracts of `hex` cite.
 pub mod Bytes
 pub mod Decode
 pub mod Digit
-mod Examples
 pub mod Line
 pub mod Number
-pub mod Stores
 pub mod Text

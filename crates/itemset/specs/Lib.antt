@@ -1,7 +1,2 @@
--- The definitions that the contracts of `itemset` cite, and their laws.
+-- The definitions that the contracts of `itemset` cite.
 pub mod Set
-pub mod Laws
-pub mod Counts
-pub mod Members
-pub mod Least
-pub mod Bits

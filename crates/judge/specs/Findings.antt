@@ -1,11 +1,9 @@
 -- The three findings, their order, and the verdict on a log (document 01: findings; refusals 15 and 16). A line's number here counts from 0.
--- Assumes nothing.
 use mathlib.Core.Bool.{Bool, cond, not, _&&_}
 use mathlib.Core.List.{List, [], _∷_, _++_}
 use Prim.Native.Nat.{ℕ, _+_, _*_}
 use lib.Dec.{eqb, ltb}
 use lib.ListN.{length, getD, take}
-use Rattle.basics.specs.Lists.{counted}
 use Rattle.hex.specs.Number.{bigEndian}
 use Rattle.itemset.specs.Set.{has}
 use Rattle.judge_log.specs.Some.{some, someFrom}

@@ -1,6 +1,5 @@
 -- The published definitions as statements about a log, with the lines and items that they speak of: read atomicity and fractured reads (sources
 -- 001 and 002), reading one's own writes (source 000), and what a well-formed line is. A line is a transaction; lines and items count from 0.
--- Assumes nothing.
 use mathlib.Core.Bool.{true}
 use mathlib.Core.List.{List, [], _∷_, _++_}
 use mathlib.Core.Logic.{_⊎_}

@@ -1,4 +1,4 @@
--- What reading the input into a buffer tells of the number of bytes read. Assumes nothing.
+-- What reading the input into a buffer tells of the number of bytes read.
 use Prim.Native.Nat.{ℕ, _+_, _≤_}
 use Rattle.judge_driver.specs.declared.Got.{Got}
 use Rattle.judge_driver.specs.declared.Got.the-variants.{Bytes, End, Failed}

@@ -1,3 +1,2 @@
 -- The definitions that the contracts of `judge_driver` cite.
 pub mod Input
-pub mod Lines

@@ -1,4 +1,4 @@
--- The definitions that the contracts of `judge_log` cite, and their laws.
+-- The definitions that the contracts of `judge_log` cite.
 pub mod Some
 pub mod Log
 pub mod Cut

@@ -1,5 +1,4 @@
 -- A log as lines, a line as its frame, a frame as its fields, and which line is malformed (document 01: frames, log frames, refusal 15).
--- Assumes nothing.
 use mathlib.Core.Bool.{Bool, cond, not, _&&_, _||_}
 use mathlib.Core.List.{List, [], _∷_, map}
 use Prim.Native.Nat.{ℕ, _+_, _*_}

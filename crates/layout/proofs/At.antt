@@ -1,4 +1,4 @@
--- A word of the block after a store: the stored one at that place, the same one at any other. Assumes nothing.
+-- A word of the block after a store: the stored one at that place, the same one at any other.
 use mathlib.Core.List.{List}
 use mathlib.Core.Logic.{_≢_}
 use mathlib.Core.Path.{_≡_}

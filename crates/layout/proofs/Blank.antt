@@ -1,4 +1,4 @@
--- A list whose first n words are 0, and one more word after another. Assumes nothing.
+-- A list whose first n words are 0, and one more word after another.
 use mathlib.Core.List.{List}
 use mathlib.Core.Path.{_≡_, _∙_}
 use Prim.Native.Nat.{ℕ, _+_, _≤_, _<_}

@@ -1,5 +1,4 @@
 -- A change of one client, store by store: each store adds one word, and at the end the words say which client the block holds.
--- Assumes nothing.
 use mathlib.Core.List.{List}
 use Prim.Native.Nat.{ℕ, _≤_, _<_}
 use native.Mathlib.Omega.{arith}

@@ -1,4 +1,4 @@
--- What a block holds of a client depends on that client's words alone. Assumes nothing.
+-- What a block holds of a client depends on that client's words alone.
 use mathlib.Core.Bool.{true, false}
 use mathlib.Core.List.{List}
 use mathlib.Core.Path.{_≡_, _∙_}

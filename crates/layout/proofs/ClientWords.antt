@@ -1,4 +1,4 @@
--- The words of a client, its view apart, and what they are after a store. Assumes nothing.
+-- The words of a client, its view apart, and what they are after a store.
 use mathlib.Core.List.{List}
 use mathlib.Core.Logic.{_≢_}
 use mathlib.Core.Path.{_≡_, refl, _∙_}

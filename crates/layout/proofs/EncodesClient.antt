@@ -1,5 +1,5 @@
 -- A block that holds tables, changed in words of one client alone, holds the tables with that client another, if its words hold that
--- client. Assumes nothing.
+-- client.
 use mathlib.Core.List.{List}
 use mathlib.Core.Path.{_∙_}
 use Prim.Native.Nat.{ℕ, _≤_}

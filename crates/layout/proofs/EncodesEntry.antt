@@ -1,4 +1,4 @@
--- A block that holds tables, with an entry stored, holds the tables with that entry: of latest, or of a client's view. Assumes nothing.
+-- A block that holds tables, with an entry stored, holds the tables with that entry: of latest, or of a client's view.
 use mathlib.Core.List.{List}
 use mathlib.Core.Logic.{_≢_}
 use mathlib.Core.Path.{_≡_, _∙_}

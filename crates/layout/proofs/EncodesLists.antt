@@ -1,5 +1,5 @@
 -- A block that holds tables, changed in stored versions, messages and their counts alone, holds the tables with other lists, if it holds
--- these. Assumes nothing.
+-- these.
 use mathlib.Core.List.{List}
 use mathlib.Core.Path.{_≡_, _∙_}
 use Prim.Native.Nat.{ℕ, _≤_, _<_}

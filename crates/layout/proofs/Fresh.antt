@@ -1,12 +1,12 @@
--- A block after an accepted fresh holds fresh tables: its words are 0 but for the sizes. Assumes nothing.
+-- A block after an accepted fresh holds fresh tables: its words are 0 but for the sizes.
 use mathlib.Core.List.{List}
 use mathlib.Core.Path.{_≡_, _∙_}
 use Prim.Native.Nat.{ℕ, _+_, _≤_, _<_}
 use native.Mathlib.Omega.{arith}
 use lib.Dec.{lit<}
 use lib.ListN.{length, length-set}
-use Rattle.basics.specs.Cases.{not-both}
-use Rattle.itemset.specs.Laws.{has-empty}
+use Rattle.basics.proofs.Cases.{not-both}
+use Rattle.itemset.proofs.Laws.{has-empty}
 use Rattle.protocol.specs.Tables.{Sizes, fresh, initial, resting, nothing}
 use Rattle.layout.specs.Layout.{Section, header, scalars, latest, views, base, needed, at, store, clientsAt, partitionsAt, itemsAt, versionsAt, messagesAt, scalarAt, latestAt, viewAt}
 use Rattle.layout.specs.Store.{storeSizes, blank, freshBlock}

@@ -1,4 +1,4 @@
--- What a block holds at a place is what is read there, and what is read there the block holds. Assumes nothing.
+-- What a block holds at a place is what is read there, and what is read there the block holds.
 use mathlib.Core.List.{List}
 use mathlib.Core.Path.{_≡_, refl}
 use Prim.Native.Nat.{ℕ, zero, suc, _≤_}

@@ -1,4 +1,4 @@
--- Words that two blocks share: what one holds there, the other holds too. Assumes nothing.
+-- Words that two blocks share: what one holds there, the other holds too.
 use mathlib.Core.List.{List}
 use mathlib.Core.Logic.{_≢_}
 use mathlib.Core.Path.{_≡_, _∙_}

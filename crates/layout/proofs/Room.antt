@@ -1,4 +1,4 @@
--- The tables that a block has words for: no size, set or list is past its section. Valid tables are such. Assumes nothing.
+-- The tables that a block has words for: no size, set or list is past its section. Valid tables are such.
 use mathlib.Core.Bool.{true}
 use mathlib.Core.List.{List}
 use mathlib.Core.Path.{_≡_}
@@ -7,7 +7,7 @@ use native.Mathlib.Nat.{lt-of-lt-of-le}
 use native.Mathlib.Omega.{arith}
 use lib.ListN.{length}
 use Rattle.itemset.specs.Set.{has}
-use Rattle.itemset.specs.Laws.{has-below}
+use Rattle.itemset.proofs.Laws.{has-below}
 use Rattle.protocol.specs.declared.Version.{Version}
 use Rattle.protocol.specs.declared.Message.{Message}
 use Rattle.protocol.specs.Tables.{Sizes, Tables, Client, Ended, nothing, read, write, withClient, withVersions, withMessages}

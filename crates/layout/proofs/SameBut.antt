@@ -1,5 +1,5 @@
 -- Two blocks that differ in words of one client alone, its view apart: the relation is reflexive and transitive, and a store to such
--- a word gives it. Assumes nothing.
+-- a word gives it.
 use mathlib.Core.List.{List}
 use mathlib.Core.Logic.{_≢_}
 use mathlib.Core.Path.{_≡_, refl, _∙_}

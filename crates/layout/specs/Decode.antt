@@ -1,5 +1,4 @@
 -- The decoder: the tables that the words of a block are, initial outside the sizes, the counts and the sets; and which blocks are valid.
--- Assumes nothing.
 use mathlib.Core.Bool.{Bool, true, false, cond, not, _&&_, _||_}
 use mathlib.Core.List.{List, [], _∷_, _++_, map}
 use Prim.Native.Nat.{ℕ, zero, suc, _+_, min}

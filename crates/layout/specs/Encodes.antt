@@ -1,4 +1,4 @@
--- When a block holds tables, word by word, with no mention of the decoder. Assumes nothing.
+-- When a block holds tables, word by word, with no mention of the decoder.
 use mathlib.Core.Bool.{Bool, true, false}
 use mathlib.Core.List.{List, [], _∷_}
 use mathlib.Core.Path.{_≡_}

@@ -1,4 +1,4 @@
--- The sections of the block and the place of each field in its section (docs/LAYOUT.md). Assumes nothing.
+-- The sections of the block and the place of each field in its section (docs/LAYOUT.md).
 use mathlib.Core.List.{List}
 use Prim.Native.Nat.{ℕ, _+_, _-_, _*_}
 use lib.ListN.{getD, set}

@@ -1,4 +1,4 @@
--- Tables that are initial outside their sizes and sets: what a decoder can give. Assumes nothing.
+-- Tables that are initial outside their sizes and sets: what a decoder can give.
 use mathlib.Core.Bool.{true, false}
 use mathlib.Core.Path.{_≡_}
 use Prim.Native.Nat.{ℕ}

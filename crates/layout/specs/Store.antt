@@ -1,4 +1,4 @@
--- The changes of a block, one for each field, and for whole entries, versions and messages: what the setters write. Assumes nothing.
+-- The changes of a block, one for each field, and for whole entries, versions and messages: what the setters write.
 use mathlib.Core.Bool.{cond}
 use mathlib.Core.List.{List, [], _∷_, _++_}
 use Prim.Native.Nat.{ℕ, zero, suc, _+_, _-_, _*_}

@@ -1,4 +1,4 @@
--- What the call of a line's frame gives is what the line gives, and its answer is the line's reply. Assumes nothing.
+-- What the call of a line's frame gives is what the line gives, and its answer is the line's reply.
 use mathlib.Core.List.{List}
 use mathlib.Core.Path.{_≡_, ap, ap₂, _∙_}
 use Prim.Native.Nat.{ℕ, _-_}

@@ -1,4 +1,4 @@
--- The bytes kept of a line begun, and what one byte more leads to. Assumes nothing.
+-- The bytes kept of a line begun, and what one byte more leads to.
 use mathlib.Core.Bool.{true, false}
 use mathlib.Core.List.{List, [], _∷_, _++_}
 use mathlib.Core.Path.{_≡_, refl, sym, ap, _∙_}

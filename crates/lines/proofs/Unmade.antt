@@ -1,12 +1,12 @@
 -- Before an accepted `01` (document 01: frames): on a block of zeros, however long, every well-formed frame but an `01` answers 01, and a
--- malformed line 0f, and neither changes a word; nor does an `01` that isn't accepted. A size of 0 is out of range, so that such a block is refused by 1. Assumes nothing.
+-- malformed line 0f, and neither changes a word; nor does an `01` that isn't accepted. A size of 0 is out of range, so that such a block is refused by 1.
 use mathlib.Core.Bool.{Bool, true, false, false≢true}
 use mathlib.Core.List.{List, [], _∷_}
 use mathlib.Core.Path.{_≡_, refl, ap, _∙_, subst}
 use Prim.Native.Nat.{ℕ, zero, suc}
 use lib.Dec.{leb}
 use lib.ListN.{length, getD}
-use Rattle.basics.specs.Cases.{by-test}
+use Rattle.basics.proofs.Cases.{by-test}
 use Rattle.hex.specs.Digit.{hexDigit}
 use Rattle.hex.specs.Number.{bigEndian}
 use Rattle.hex.specs.Text.{hexText}

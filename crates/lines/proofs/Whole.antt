@@ -1,5 +1,5 @@
 -- The replies to the bytes of an input, one at a time, are the replies to its lines: what is kept of a line gets the reply of the line,
--- since both are malformed where they differ. Assumes nothing.
+-- since both are malformed where they differ.
 use mathlib.Core.List.{List, [], _∷_, _++_, append-nil}
 use mathlib.Core.Path.{_≡_, refl, sym, ap, ap₂, _∙_}
 use Prim.Native.Nat.{ℕ, _<_}
@@ -8,7 +8,7 @@ use lib.Dec.{eqb, leb}
 use lib.ListN.{length, take}
 use lib.Seq.{take-all, take-take, take-append-le, length-take-le}
 use borrow.Author.Tests.{leb-true, leb-false}
-use Rattle.basics.specs.Cases.{by-test}
+use Rattle.basics.proofs.Cases.{by-test}
 use Rattle.frames.proofs.Reading.{frameOf-long}
 use Rattle.lines.specs.Input.{lastLine, linesFrom, linesOf, repliesTo, joined, keptAfter, byteReply, byteBlock, endReply, inputReply}
 use Rattle.lines.specs.Lines.{lineReply, lineBlock}

@@ -1,6 +1,5 @@
 -- An input, cut into lines after each 0a, and what the driver answers to it: one line a line, each carried out on the block that the line
 -- before it left. The driver sees one byte at a time, and keeps at most 534 bytes of a line: no frame's line has more than 533.
--- Assumes nothing.
 use mathlib.Core.Bool.{cond}
 use mathlib.Core.List.{List, [], _∷_, _++_}
 use Prim.Native.Nat.{ℕ}

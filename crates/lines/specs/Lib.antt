@@ -1,3 +1,3 @@
--- The definitions that the contracts of `lines` cite, and their laws.
+-- The definitions that the contracts of `lines` cite.
 pub mod Lines
 pub mod Input

@@ -1,5 +1,5 @@
 -- What a line of the store's driver answers on a block, whatever the line and the words: the call of its frame, 15 where it is malformed
--- (document 01: frames). A showing writes into 586 bytes, as many as the longest log frame has. Assumes nothing.
+-- (document 01: frames). A showing writes into 586 bytes, as many as the longest log frame has.
 use mathlib.Core.List.{List}
 use Prim.Native.Nat.{ℕ}
 use lib.ListN.{replicate}

@@ -1,5 +1,5 @@
 -- Condition 3, proved: of every list of calls made from a world with the invariant, and so from freshly made tables of any sizes that
--- refusal 2 allows. Assumes nothing.
+-- refusal 2 allows.
 use mathlib.Core.Bool.{Bool, true, cond}
 use mathlib.Core.List.{List, [], _∷_, _++_}
 use mathlib.Core.Path.{_≡_, refl, sym, ap, _∙_, subst}
@@ -8,7 +8,7 @@ use native.Mathlib.Nat.{le-of-eq}
 use native.Mathlib.Omega.{arith}
 use lib.Dec.{eqb, eqb·suc-zero}
 use lib.ListN.{replicate, length-replicate}
-use Rattle.basics.specs.Cases.{by-test}
+use Rattle.basics.proofs.Cases.{by-test}
 use Rattle.basics.specs.Lists.{counted}
 use Rattle.itemset.specs.Set.{has, count}
 use Rattle.protocol.specs.Tables.{Sizes}

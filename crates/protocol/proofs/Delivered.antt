@@ -1,4 +1,4 @@
--- What a delivery leaves as it is, whatever the message. Assumes nothing.
+-- What a delivery leaves as it is, whatever the message.
 use mathlib.Core.Path.{_≡_, refl}
 use Rattle.protocol.specs.declared.Message.{Message}
 use Rattle.protocol.specs.declared.Message.the-variants.{Prepare, Prepared, Commit, Get, Got}

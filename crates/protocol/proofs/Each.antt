@@ -1,12 +1,13 @@
 -- What holds of each element of a list holds of lists put together, with one taken out, of one element, or made from numbers that pass
--- a test. Assumes nothing.
+-- a test.
 use mathlib.Core.Bool.{Bool, true, false}
 use mathlib.Core.List.{List, [], _∷_, _++_, map}
 use mathlib.Core.Logic.{inl, inr, ⊎-elim}
 use mathlib.Core.Path.{_≡_, refl, sym, subst}
 use Prim.Native.Nat.{ℕ, zero, suc, _<_}
 use native.Mathlib.Omega.{arith}
-use Rattle.basics.specs.Lists.{In, in-append, in-map, without, in-without}
+use Rattle.basics.specs.Lists.{In, without}
+use Rattle.basics.proofs.Lists.{in-append, in-map, in-without}
 use Rattle.itemset.specs.Set.{only, upto}
 
 module _ {A : Type 0} where

@@ -1,5 +1,5 @@
 -- Document 01's bench examples for the store (★), its whole session, and rows that tell the steps from near misses: one table, proved by
--- computing every answer through the whole definitions, refusal 1 first. Assumes nothing.
+-- computing every answer through the whole definitions, refusal 1 first.
 use mathlib.Core.Bool.{true, _&&_}
 use mathlib.Core.List.{List, [], _∷_, _++_}
 use mathlib.Core.Path.{_≡_, refl}

@@ -1,4 +1,4 @@
--- The invariant of a world: whole stamps, agreeing sets, counts, and one fitting message for each awaited item. Assumes nothing.
+-- The invariant of a world: whole stamps, agreeing sets, counts, and one fitting message for each awaited item.
 pub mod Growth
 pub mod Delivery
 pub mod Deliver

@@ -1,5 +1,5 @@
 -- A start adds to the load one for each item of its set, and a delivery adds nothing: what joins and what has arrived is at most the
--- message that leaves. Assumes nothing.
+-- message that leaves.
 use mathlib.Core.Bool.{true, cond}
 use mathlib.Core.List.{List, [], _++_}
 use mathlib.Core.Path.{_≡_, refl, ap, _∙_}
@@ -7,11 +7,12 @@ use Prim.Native.Nat.{ℕ, suc, _+_, _-_, _^_, _≤_, _<_}
 use native.Mathlib.Omega.{arith}
 use lib.ListN.{length, length-append, length-map}
 use borrow.Author.Tests.{eqb-true}
-use Rattle.basics.specs.Cases.{by-test}
-use Rattle.basics.specs.Lists.{without, length-without}
+use Rattle.basics.proofs.Cases.{by-test}
+use Rattle.basics.specs.Lists.{without}
+use Rattle.basics.proofs.Lists.{length-without}
 use Rattle.itemset.specs.Set.{has, count, remove}
-use Rattle.itemset.specs.Counts.{count-empty, count-remove}
-use Rattle.itemset.specs.Members.{length-members}
+use Rattle.itemset.proofs.Counts.{count-empty, count-remove}
+use Rattle.itemset.proofs.Members.{length-members}
 use Rattle.protocol.specs.declared.Message.{Message}
 use Rattle.protocol.specs.declared.Message.the-variants.{Prepare, Prepared, Commit, Get, Got}
 use Rattle.protocol.specs.Tables.{Tables, Client, idle, reading, writing, read, write, put, resting, writerOf, withClient, withMessages}

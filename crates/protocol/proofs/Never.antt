@@ -1,5 +1,5 @@
 -- From freshly made tables no call of a list is refused by 1, 11 or 12, the load is never above its bound, and versions + prepares are
--- never above theirs: the invariant keeps the tables valid, and every message in flight is expected. Assumes nothing.
+-- never above theirs: the invariant keeps the tables valid, and every message in flight is expected.
 use mathlib.Core.Bool.{Bool, true, false, not}
 use mathlib.Core.List.{List, [], _∷_}
 use mathlib.Core.Path.{_≡_, refl}
@@ -8,7 +8,7 @@ use native.Mathlib.Omega.{arith}
 use lib.Dec.{leb}
 use lib.ListN.{length}
 use borrow.Author.Tests.{leb-false}
-use Rattle.basics.specs.Cases.{by-test}
+use Rattle.basics.proofs.Cases.{by-test}
 use Rattle.protocol.specs.Tables.{Sizes}
 use Rattle.protocol.specs.Range.{Capacities, sizesInRange, valid, load, occupied}
 use Rattle.protocol.specs.Calls.{Call, startRead, startWrite, deliver, show, Test, test, first, refusal}

@@ -1,15 +1,16 @@
 -- A read occupies no version, a write one for each item of its set, and a delivery none more: a delivered prepare leaves and its
--- version stays. Assumes nothing.
+-- version stays.
 use mathlib.Core.Bool.{Bool, true, false, cond}
 use mathlib.Core.List.{List, [], _∷_, map}
 use mathlib.Core.Path.{_≡_, refl}
 use Prim.Native.Nat.{ℕ, _+_}
 use native.Mathlib.Omega.{arith}
 use lib.ListN.{length, length-append}
-use Rattle.basics.specs.Cases.{by-test}
-use Rattle.basics.specs.Lists.{counted, counted-append, counted-without, without}
+use Rattle.basics.proofs.Cases.{by-test}
+use Rattle.basics.specs.Lists.{counted, without}
+use Rattle.basics.proofs.Lists.{counted-append, counted-without}
 use Rattle.itemset.specs.Set.{count, members, upto}
-use Rattle.itemset.specs.Members.{length-members}
+use Rattle.itemset.proofs.Members.{length-members}
 use Rattle.protocol.specs.declared.Message.{Message}
 use Rattle.protocol.specs.declared.Message.the-variants.{Prepare, Prepared, Commit, Get, Got}
 use Rattle.protocol.specs.Tables.{Tables, writerOf}

@@ -1,4 +1,4 @@
--- The laws of a choice, of a function with another value at one place, and of a sum over the clients when one client changes. Assumes nothing.
+-- The laws of a choice, of a function with another value at one place, and of a sum over the clients when one client changes.
 use mathlib.Core.Bool.{Bool, true, false, cond}
 use mathlib.Core.Path.{_≡_, refl, sym, ap, subst}
 use mathlib.Core.Logic.{_≢_}
@@ -6,7 +6,7 @@ use Prim.Native.Nat.{ℕ, zero, suc, _+_, _≤_, _<_}
 use native.Mathlib.Omega.{arith}
 use lib.Dec.{eqb}
 use borrow.Author.Tests.{eqb-true, eqb-false, ne-eqb}
-use Rattle.basics.specs.Cases.{by-test, eqb-same}
+use Rattle.basics.proofs.Cases.{by-test, eqb-same}
 use Rattle.protocol.specs.Tables.{put}
 use Rattle.protocol.specs.Range.{total}
 

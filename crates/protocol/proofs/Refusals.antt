@@ -1,4 +1,4 @@
--- What an accepted call tells: its tests, taken one by one, as a record of plain facts, both ways. Assumes nothing.
+-- What an accepted call tells: its tests, taken one by one, as a record of plain facts, both ways.
 use mathlib.Core.Bool.{Bool, true, false}
 use mathlib.Core.List.{List, [], _∷_}
 use mathlib.Core.Logic.{_↔_, _≢_, inl, inr}
@@ -7,8 +7,8 @@ use Prim.Native.Nat.{ℕ, _+_, _*_, _^_, _≤_, _<_}
 use lib.Dec.{eqb}
 use lib.ListN.{length}
 use borrow.Author.Tests.{eqb-false}
-use Rattle.basics.specs.Cases.{not-both}
-use Rattle.basics.specs.Lists.{in-getD}
+use Rattle.basics.proofs.Cases.{not-both}
+use Rattle.basics.proofs.Lists.{in-getD}
 use Rattle.itemset.specs.Set.{has, count}
 use Rattle.protocol.specs.declared.Version.{Version}
 use Rattle.protocol.specs.declared.Message.{Message}

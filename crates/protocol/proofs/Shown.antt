@@ -1,5 +1,5 @@
 -- A showing's frame gives back what it shows: its length, its head, and of each item the stamp and the value, read at the item's rank.
--- Entries are of equal length, so the entry of a place begins at a multiple of it. Assumes nothing.
+-- Entries are of equal length, so the entry of a place begins at a multiple of it.
 use mathlib.Core.Bool.{true}
 use mathlib.Core.List.{List, [], _∷_, _++_, append-assoc}
 use mathlib.Core.Path.{_≡_, refl, sym, ap, ap₂, _∙_}
@@ -8,11 +8,12 @@ use native.Mathlib.Nat.{mul-zero, mul-suc, zero-add, mod-eq-of-lt, not-suc-le-ze
 use native.Mathlib.Omega.{arith}
 use lib.ListN.{length, getD, take, length-append}
 use lib.Seq.{take-at}
-use Rattle.hex.specs.Number.{numberAt, bigEndian, length-bigEndian, numberAt-append, numberAt-append-add, numberAt-append-bigEndian}
+use Rattle.hex.specs.Number.{numberAt, bigEndian}
+use Rattle.hex.proofs.Number.{length-bigEndian, numberAt-append, numberAt-append-add, numberAt-append-bigEndian}
 use Rattle.itemset.specs.Set.{has, count, rank, members}
-use Rattle.itemset.specs.Laws.{has-below}
-use Rattle.itemset.specs.Counts.{rank-lt}
-use Rattle.itemset.specs.Members.{length-members, members-at}
+use Rattle.itemset.proofs.Laws.{has-below}
+use Rattle.itemset.proofs.Counts.{rank-lt}
+use Rattle.itemset.proofs.Members.{length-members, members-at}
 use Rattle.protocol.specs.Tables.{read, write, stampOf, numberOf, writerOf}
 use Rattle.protocol.specs.Frame.{listed, shownEntry, frame}
 

@@ -1,5 +1,4 @@
 -- A stamp kept as one number has the paper's order: with a client below 16, number and client are its digits to the base 16.
--- Assumes nothing.
 use mathlib.Core.Logic.{_⊎_, inl, inr, ⊎-elim, _↔_}
 use mathlib.Core.Path.{_≡_}
 use Prim.Native.Nat.{ℕ, _≤_, _<_}

@@ -1,4 +1,4 @@
--- Laws of stored versions and of the choice of stamps. Assumes nothing.
+-- Laws of stored versions and of the choice of stamps.
 use mathlib.Core.Bool.{true, false, _&&_, _||_}
 use mathlib.Core.List.{List, [], _∷_, _++_}
 use mathlib.Core.Logic.{_⊎_, inl, inr, ⊎-elim}
@@ -8,7 +8,7 @@ use native.Mathlib.Nat.{le-refl}
 use native.Mathlib.Omega.{arith}
 use lib.Dec.{eqb, leb}
 use borrow.Author.Tests.{eqb-true, eqb-false, leb-true, leb-false}
-use Rattle.basics.specs.Cases.{by-test, not-both, and-left, and-right, or-cases, or-left, or-right, eqb-same}
+use Rattle.basics.proofs.Cases.{by-test, not-both, and-left, and-right, or-cases, or-left, or-right, eqb-same}
 use Rattle.basics.specs.Lists.{In}
 use Rattle.itemset.specs.Set.{has}
 use Rattle.protocol.specs.declared.Version.{Version}

@@ -1,5 +1,5 @@
 -- What a test tells, as one law for each test that goes both ways: `simp tells at e` turns a chain of tests into plain facts,
--- and `simp tells` turns the chain to prove into the facts that prove it. Assumes nothing.
+-- and `simp tells` turns the chain to prove into the facts that prove it.
 use mathlib.Core.Bool.{Bool, true, false, not, Bool·beq, _&&_, _||_}
 use mathlib.Core.List.{List}
 use mathlib.Core.Logic.{_↔_, _≢_}
@@ -7,8 +7,9 @@ use mathlib.Core.Path.{_≡_, refl, sym}
 use Prim.Native.Nat.{ℕ, _≤_, _<_}
 use lib.Dec.{eqb, ltb, leb}
 use borrow.Author.Tests.{leb-true, leb-false, ltb-true, ltb-false, eqb-true, eqb-false, eq-eqb, ne-eqb, lt-ltb, le-ltb, le-leb, lt-leb}
-use Rattle.basics.specs.Cases.{not-both, and-left, and-right, and-both, not-true, not-false, beq-true, or-neither}
-use Rattle.basics.specs.Lists.{In, all, all-in, in-all, every, every-at, at-every}
+use Rattle.basics.proofs.Cases.{not-both, and-left, and-right, and-both, not-true, not-false, beq-true, or-neither}
+use Rattle.basics.specs.Lists.{In, all, every}
+use Rattle.basics.proofs.Lists.{all-in, in-all, every-at, at-every}
 
 -- ---- && || and not
 

@@ -1,4 +1,4 @@
--- A set touches at most as many partitions as it has items: each item, taken in turn, touches at most one more. Assumes nothing.
+-- A set touches at most as many partitions as it has items: each item, taken in turn, touches at most one more.
 use mathlib.Core.Bool.{Bool, true, false, cond, _&&_, _||_}
 use mathlib.Core.Path.{_≡_, refl}
 use Prim.Native.Nat.{ℕ, zero, suc, _+_, _-_, _^_, _≤_, _<_, min}
@@ -6,10 +6,10 @@ use native.Mathlib.Omega.{arith}
 use lib.Dec.{eqb}
 use lib.ListN.{length, length-map}
 use borrow.Author.Tests.{eqb-true, eqb-false}
-use Rattle.basics.specs.Cases.{by-test}
+use Rattle.basics.proofs.Cases.{by-test}
 use Rattle.itemset.specs.Set.{has, count, rank, upto}
-use Rattle.itemset.specs.Counts.{rank-suc, rank-all}
-use Rattle.itemset.specs.Members.{length-upto-suc}
+use Rattle.itemset.proofs.Counts.{rank-suc, rank-all}
+use Rattle.itemset.proofs.Members.{length-upto-suc}
 use Rattle.protocol.specs.Tables.{Tables, partitionOf}
 use Rattle.protocol.specs.Steps.{touches, commits}
 

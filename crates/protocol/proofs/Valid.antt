@@ -1,4 +1,4 @@
--- An accepted call leaves valid tables: in range, with a load and stored versions within the bounds. So does a fresh start. Assumes nothing.
+-- An accepted call leaves valid tables: in range, with a load and stored versions within the bounds. So does a fresh start.
 use mathlib.Core.Bool.{true}
 use mathlib.Core.Path.{_≡_, refl}
 use Prim.Native.Nat.{ℕ, zero, suc}

@@ -1,4 +1,4 @@
--- The calls: the refusal table, answers with document 01's numbers and bytes, and what each call gives. Assumes nothing.
+-- The calls: the refusal table, answers with document 01's numbers and bytes, and what each call gives.
 use mathlib.Core.Bool.{Bool, true, false, cond, not, _&&_, _||_}
 use mathlib.Core.List.{List, [], _∷_, _++_}
 use Prim.Native.Nat.{ℕ, zero, suc, _+_, _*_, _^_}

@@ -1,7 +1,7 @@
 -- Condition 3 of the tender: one claim about a list of calls, empty or as long as you like, made one after another from a world (freshly
 -- made tables are `begin`, specs/World.antt). Each clause of the condition is one field, with the clause's own words above it; document 01's
 -- line is an item here, its desk a client, its cabinet a partition. It is proved for all capacities, all sizes that refusal 2 allows and
--- all lists: `condition-3`, proofs/Condition3.antt. Assumes nothing.
+-- all lists: `condition-3`, proofs/Condition3.antt.
 use mathlib.Core.Bool.{true}
 use mathlib.Core.List.{List, [], _∷_, _++_, map}
 use mathlib.Core.Logic.{_⊎_, _↔_}

@@ -1,4 +1,4 @@
--- The log frame of an ended transaction (document 01, 'Frames'): what a showing writes. Assumes nothing.
+-- The log frame of an ended transaction (document 01, 'Frames'): what a showing writes.
 use mathlib.Core.List.{List, [], _∷_, _++_}
 use Prim.Native.Nat.{ℕ}
 use Rattle.hex.specs.Number.{bigEndian}

@@ -1,4 +1,4 @@
--- What is in range, and the load (document 01, 'Tables'): the fields that a block's words are held to. Assumes nothing.
+-- What is in range, and the load (document 01, 'Tables'): the fields that a block's words are held to.
 use mathlib.Core.Bool.{Bool, true, false, cond, not, Bool·beq, _&&_, _||_}
 use Prim.Native.Nat.{ℕ, zero, suc, _+_, _-_, _^_}
 use lib.Dec.{eqb, ltb, leb}

@@ -1,4 +1,4 @@
--- The steps (document 01, 'Steps'): what each call does to the tables once it is accepted. Assumes nothing.
+-- The steps (document 01, 'Steps'): what each call does to the tables once it is accepted.
 use mathlib.Core.Bool.{Bool, false, cond, _&&_, _||_}
 use mathlib.Core.List.{List, [], _∷_, _++_, map}
 use Prim.Native.Nat.{ℕ, zero, suc, _*_, _%_, _^_, max}

@@ -1,5 +1,5 @@
 -- The store's tables (document 01, 'Tables'), as values with no word of a block in them: a client is document 01's desk, a partition its
--- cabinet, an item its line, the messages its pile. Assumes nothing.
+-- cabinet, an item its line, the messages its pile.
 use mathlib.Core.Bool.{cond}
 use mathlib.Core.List.{List, []}
 use Prim.Native.Nat.{ℕ, _+_, _*_, _/_, _%_}

@@ -1,5 +1,5 @@
 -- A run of calls with provenance (document 01, 'Whole lists of calls'): the pile beside the tables, each message with a label that
--- the start gives and a delivery passes on, and the history of accepted writes and of delivered prepares. Assumes nothing.
+-- the start gives and a delivery passes on, and the history of accepted writes and of delivered prepares.
 use mathlib.Core.Bool.{Bool, true, false, cond, not, _&&_, _||_}
 use mathlib.Core.List.{List, [], _∷_, _++_, map}
 use Prim.Native.Nat.{ℕ, suc}

@@ -1,16 +1,17 @@
--- The tests of bits: an item that a set lacks, and a set within another. Assumes nothing.
+-- The tests of bits: an item that a set lacks, and a set within another.
 use mathlib.Core.Bool.{Bool, true, false, not, _&&_, _||_}
 use mathlib.Core.Path.{_≡_, refl, sym, ap, _∙_}
 use Prim.Native.Nat.{ℕ, _/_, _%_, _^_, _<_}
 use lib.Bits.{bitAnd}
 use lib.Dec.{eqb}
 use borrow.Author.Tests.{eqb-true, eq-eqb}
-use Rattle.basics.specs.Cases.{test-ext}
-use Rattle.basics.specs.Lists.{every, every-at, at-every}
+use Rattle.basics.proofs.Cases.{test-ext}
+use Rattle.basics.specs.Lists.{every}
+use Rattle.basics.proofs.Lists.{every-at, at-every}
 use Rattle.itemset.specs.Set.{has}
-use Rattle.basics.specs.Cases.{by-test}
-use Rattle.itemset.specs.Laws.{low-set, low-clear, has-power, has-below, set-ext}
-use Rattle.itemset.specs.Bits.{has-and}
+use Rattle.basics.proofs.Cases.{by-test}
+use Rattle.itemset.proofs.Laws.{low-set, low-clear, has-power, has-below, set-ext}
+use Rattle.itemset.proofs.Bits.{has-and}
 
 pub lacks-power : (s k : ℕ) → eqb (s / 2 ^ k % 2) 0 ≡ not (has s k)
 lacks-power s k =

@@ -1,4 +1,4 @@
--- The tests of a block's words are `validBlock`. Assumes nothing.
+-- The tests of a block's words are `validBlock`.
 use mathlib.Core.Bool.{Bool, true, false, cond, _&&_}
 use mathlib.Core.List.{List}
 use mathlib.Core.Path.{_≡_, sym, _∙_}
@@ -7,7 +7,7 @@ use native.Mathlib.Omega.{arith}
 use lib.Dec.{leb, ltb}
 use lib.ListN.{length}
 use borrow.Author.Tests.{lt-ltb, le-leb, lt-leb}
-use Rattle.basics.specs.Cases.{by-test, not-both, test-ext}
+use Rattle.basics.proofs.Cases.{by-test, not-both, test-ext}
 use Rattle.basics.specs.Lists.{every, all, table, counted}
 use Rattle.protocol.specs.Tables.{Sizes, initial, resting, nothing}
 use Rattle.protocol.specs.Range.{sizesInRange, entryInRange, versionInRange, messageInRange, clientInRange, inRange, valid}

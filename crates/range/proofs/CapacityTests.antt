@@ -1,4 +1,4 @@
--- The load and the versions in use, counted on the words, are those of the tables that the words are. Assumes nothing.
+-- The load and the versions in use, counted on the words, are those of the tables that the words are.
 use mathlib.Core.Bool.{cond}
 use mathlib.Core.List.{List}
 use mathlib.Core.Logic.{_≢_}
@@ -7,7 +7,8 @@ use Prim.Native.Nat.{ℕ, zero, suc, _+_, _-_, _≤_, _<_, min}
 use native.Mathlib.Omega.{arith}
 use lib.Dec.{eqb}
 use borrow.Author.Tests.{le-leb, lt-leb, ne-eqb}
-use Rattle.basics.specs.Lists.{counted, table, length-table}
+use Rattle.basics.specs.Lists.{counted, table}
+use Rattle.basics.proofs.Lists.{length-table}
 use Rattle.itemset.specs.Set.{count}
 use Rattle.protocol.specs.declared.Entry.{Entry}
 use Rattle.protocol.specs.Tables.{nothing, resting}

@@ -1,4 +1,4 @@
--- The tests of a client, part by part, are the protocol's test of the client that its words are. Assumes nothing.
+-- The tests of a client, part by part, are the protocol's test of the client that its words are.
 use mathlib.Core.Bool.{Bool, true, false, not, Bool·beq, _&&_, _||_}
 use mathlib.Core.List.{List}
 use mathlib.Core.Path.{_≡_, refl, sym, ap, ap₂, _∙_}
@@ -7,10 +7,10 @@ use native.Mathlib.Omega.{arith}
 use lib.Bits.{bitAnd}
 use lib.Dec.{eqb, ltb, leb}
 use borrow.Author.Tests.{le-leb, lt-leb, ne-eqb, ltb-true}
-use Rattle.basics.specs.Cases.{by-test, or-right, test-ext}
-use Rattle.basics.specs.Lists.{at-every}
+use Rattle.basics.proofs.Cases.{by-test, or-right, test-ext}
+use Rattle.basics.proofs.Lists.{at-every}
 use Rattle.itemset.specs.Set.{has, allBelow}
-use Rattle.itemset.specs.Laws.{has-empty}
+use Rattle.itemset.proofs.Laws.{has-empty}
 use Rattle.protocol.specs.Tables.{Sizes, write}
 use Rattle.protocol.specs.Range.{fits, each, stampInRange, endedInRange, clientInRange, isWriting, isIdle}
 use Rattle.protocol.proofs.Tells.{tells-and}

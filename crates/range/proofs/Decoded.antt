@@ -1,4 +1,4 @@
--- A block that holds tables decodes to them, where they are initial outside their sizes and sets. Assumes nothing.
+-- A block that holds tables decodes to them, where they are initial outside their sizes and sets.
 use mathlib.Core.Bool.{true, cond, _&&_}
 use mathlib.Core.List.{List}
 use mathlib.Core.Path.{_≡_, refl, sym, ap, _∙_, fun-ext}
@@ -6,8 +6,9 @@ use Prim.Native.Nat.{ℕ, _+_, _≤_, min}
 use native.Mathlib.Omega.{arith}
 use lib.ListN.{length}
 use borrow.Author.Tests.{ltb-true}
-use Rattle.basics.specs.Cases.{by-test, between}
-use Rattle.basics.specs.Lists.{in-getD, table}
+use Rattle.basics.proofs.Cases.{by-test, between}
+use Rattle.basics.specs.Lists.{table}
+use Rattle.basics.proofs.Lists.{in-getD}
 use Rattle.itemset.specs.Set.{has}
 use Rattle.protocol.specs.declared.Entry.{Entry}
 use Rattle.protocol.specs.declared.Message.the-variants.{Commit}

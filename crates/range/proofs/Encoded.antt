@@ -1,4 +1,4 @@
--- A well-formed block holds the tables that it decodes to. Assumes nothing.
+-- A well-formed block holds the tables that it decodes to.
 use mathlib.Core.Bool.{true, cond}
 use mathlib.Core.List.{List}
 use mathlib.Core.Path.{_≡_, refl, sym, _∙_}
@@ -6,7 +6,8 @@ use Prim.Native.Nat.{ℕ, zero, suc, _<_, min}
 use native.Mathlib.Omega.{arith}
 use lib.ListN.{length, getD}
 use borrow.Author.Tests.{lt-ltb}
-use Rattle.basics.specs.Lists.{table, length-table, table-at}
+use Rattle.basics.specs.Lists.{table}
+use Rattle.basics.proofs.Lists.{length-table, table-at}
 use Rattle.itemset.specs.Set.{has}
 use Rattle.layout.specs.Layout.{header, scalars, values, lastStamps, lastValues, at, messagesAt, versionsAt}
 use Rattle.layout.specs.Layout.{modeAt, lastKindAt, lastSetAt, lastStampAt, setAt, itemAt}

@@ -1,4 +1,4 @@
--- Tests and sums over the places of a table, of numbers below a bound and of clients: what they take from each place. Assumes nothing.
+-- Tests and sums over the places of a table, of numbers below a bound and of clients: what they take from each place.
 use mathlib.Core.Bool.{Bool, true, cond, _&&_}
 use mathlib.Core.List.{List, [], _∷_}
 use mathlib.Core.Path.{_≡_, refl, sym, ap, _∙_}
@@ -7,8 +7,9 @@ use native.Mathlib.Numerals.{add-one}
 use native.Mathlib.Omega.{arith}
 use lib.ListN.{length, getD}
 use lib.Seq.{ext-getD}
-use Rattle.basics.specs.Cases.{test-ext, and-left, and-right, and-both}
-use Rattle.basics.specs.Lists.{in-getD, all, all-in, in-all, counted, counted-append, every, every-at, at-every, table, length-table, table-at}
+use Rattle.basics.proofs.Cases.{test-ext, and-left, and-right, and-both}
+use Rattle.basics.specs.Lists.{all, counted, every, table}
+use Rattle.basics.proofs.Lists.{in-getD, all-in, in-all, counted-append, every-at, at-every, length-table, table-at}
 use Rattle.protocol.specs.Range.{total}
 use Rattle.protocol.proofs.Each.{Each, each-none, each-one, each-append}
 

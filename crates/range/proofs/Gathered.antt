@@ -1,4 +1,4 @@
--- Words gathered by `|` pass a test of their size exactly when each of them does, so that a loop tests them once, at its end. Assumes nothing.
+-- Words gathered by `|` pass a test of their size exactly when each of them does, so that a loop tests them once, at its end.
 use mathlib.Core.Bool.{Bool, true, false, not, cond, Bool·beq, _&&_, _||_}
 use mathlib.Core.Path.{_≡_, refl, sym, ap, ap₂, subst, _∙_}
 use Prim.Native.Nat.{ℕ, zero, suc, _+_, _^_, _<_}
@@ -7,9 +7,9 @@ use lib.Bits.{bitOr, or-lt, or-add-and, and-le-l, and-le-r}
 use lib.Dec.{eqb, ltb, leb}
 use lib.Pow.{pow-pos}
 use borrow.Author.Tests.{ltb-true, lt-ltb, le-leb, eqb-true, eq-eqb, ne-eqb}
-use Rattle.basics.specs.Cases.{test-ext, and-left, and-right, and-both}
+use Rattle.basics.proofs.Cases.{test-ext, and-left, and-right, and-both}
 use Rattle.itemset.specs.Set.{has, allBelow}
-use Rattle.itemset.specs.Laws.{has-below}
+use Rattle.itemset.proofs.Laws.{has-below}
 use Rattle.protocol.specs.declared.Entry.{Entry}
 use Rattle.protocol.specs.declared.Version.{Version}
 use Rattle.protocol.specs.Tables.{numberOf, writerOf}

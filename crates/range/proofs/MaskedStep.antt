@@ -1,5 +1,5 @@
 -- An accepted call leaves tables initial outside their sizes and sets: it writes only at clients and items that exist, and a client's
--- stamps and values only at the items of its set. So does a fresh start. Assumes nothing.
+-- stamps and values only at the items of its set. So does a fresh start.
 use mathlib.Core.Bool.{true, false, cond, _&&_}
 use mathlib.Core.List.{List, [], _∷_, _++_}
 use mathlib.Core.Logic.{_≢_}
@@ -7,10 +7,10 @@ use mathlib.Core.Path.{_≡_, refl, ap, _∙_, subst}
 use Prim.Native.Nat.{ℕ, _^_, _<_}
 use lib.Dec.{eqb}
 use borrow.Author.Tests.{lt-ltb}
-use Rattle.basics.specs.Cases.{by-test, not-both, and-right}
+use Rattle.basics.proofs.Cases.{by-test, not-both, and-right}
 use Rattle.basics.specs.Lists.{without}
 use Rattle.itemset.specs.Set.{has}
-use Rattle.itemset.specs.Laws.{has-below}
+use Rattle.itemset.proofs.Laws.{has-below}
 use Rattle.protocol.specs.declared.Version.{Version}
 use Rattle.protocol.specs.declared.Entry.{Entry}
 use Rattle.protocol.specs.declared.Message.{Message}

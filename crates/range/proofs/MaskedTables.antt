@@ -1,8 +1,8 @@
--- The decoder's tables are initial outside their sizes and sets. Assumes nothing.
+-- The decoder's tables are initial outside their sizes and sets.
 use mathlib.Core.List.{List}
 use mathlib.Core.Path.{refl}
 use Prim.Native.Nat.{ℕ, zero, suc}
-use Rattle.basics.specs.Cases.{by-test}
+use Rattle.basics.proofs.Cases.{by-test}
 use Rattle.protocol.specs.Tables.{Ended, nothing, resting}
 use Rattle.protocol.specs.Range.{isClient, isWriting}
 use Rattle.protocol.proofs.Put.{by-cond}

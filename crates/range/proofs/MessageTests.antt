@@ -1,4 +1,4 @@
--- The tests of those words of a message that its kind uses are the protocol's test of the message that they are. Assumes nothing.
+-- The tests of those words of a message that its kind uses are the protocol's test of the message that they are.
 use mathlib.Core.Bool.{Bool, not, _&&_}
 use mathlib.Core.List.{List}
 use mathlib.Core.Logic.{_≢_}

@@ -1,4 +1,4 @@
--- The tests look only at those sizes that they speak of. Assumes nothing.
+-- The tests look only at those sizes that they speak of.
 use mathlib.Core.Path.{_≡_, refl}
 use Prim.Native.Nat.{ℕ}
 use Rattle.protocol.specs.declared.Entry.{Entry}

@@ -1,4 +1,4 @@
--- A block is valid exactly when it holds some tables that are in range and within the capacities. Assumes nothing.
+-- A block is valid exactly when it holds some tables that are in range and within the capacities.
 use mathlib.Core.Bool.{true}
 use mathlib.Core.List.{List}
 use mathlib.Core.Logic.{_↔_}
@@ -7,8 +7,8 @@ use Prim.Native.Nat.{ℕ, _+_, _≤_, _<_}
 use native.Mathlib.Omega.{arith}
 use lib.ListN.{length, getD}
 use borrow.Author.Tests.{lt-ltb}
-use Rattle.basics.specs.Cases.{by-test}
-use Rattle.basics.specs.Lists.{in-getD}
+use Rattle.basics.proofs.Cases.{by-test}
+use Rattle.basics.proofs.Lists.{in-getD}
 use Rattle.protocol.specs.declared.Entry.{Entry}
 use Rattle.protocol.specs.declared.Message.{Message}
 use Rattle.protocol.specs.declared.Message.the-variants.{Prepare, Prepared, Commit, Get, Got}

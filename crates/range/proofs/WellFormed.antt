@@ -1,4 +1,4 @@
--- What `wellFormed` and `validBlock` tell of a block, as records of plain facts, both ways. Assumes nothing.
+-- What `wellFormed` and `validBlock` tell of a block, as records of plain facts, both ways.
 use mathlib.Core.Bool.{true}
 use mathlib.Core.List.{List}
 use mathlib.Core.Logic.{_↔_}
@@ -7,7 +7,7 @@ use Prim.Native.Nat.{ℕ, _≤_, _<_}
 use lib.Dec.{leb}
 use lib.ListN.{length}
 use borrow.Author.Tests.{le-leb}
-use Rattle.basics.specs.Cases.{and-both}
+use Rattle.basics.proofs.Cases.{and-both}
 use Rattle.protocol.specs.Tables.{Sizes}
 use Rattle.protocol.specs.Range.{capacities, isClient}
 use Rattle.protocol.proofs.Tells.{tells, tells-and}

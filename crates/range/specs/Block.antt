@@ -1,4 +1,4 @@
--- The test of a block past its sizes and counts, as `range` goes through it. Assumes nothing.
+-- The test of a block past its sizes and counts, as `range` goes through it.
 use mathlib.Core.Bool.{Bool, _&&_}
 use mathlib.Core.List.{List}
 use Prim.Native.Nat.{ℕ, suc, _+_}

@@ -1,4 +1,4 @@
--- The test of a client, part by part, as `range` goes through it. Assumes nothing.
+-- The test of a client, part by part, as `range` goes through it.
 use mathlib.Core.Bool.{Bool, Bool·beq, _&&_}
 use mathlib.Core.List.{List}
 use Prim.Native.Nat.{ℕ}

@@ -1,4 +1,4 @@
--- What a loop over entries or versions tests at each: all but the sizes of numbers and sets, which one test at the end holds for all. Assumes nothing.
+-- What a loop over entries or versions tests at each: all but the sizes of numbers and sets, which one test at the end holds for all.
 use mathlib.Core.Bool.{Bool, Bool·beq, _&&_}
 use mathlib.Core.List.{List}
 use Prim.Native.Nat.{ℕ, _+_, _*_}

@@ -1,4 +1,4 @@
--- The tests of stored versions and messages in flight, as `range` goes through them. Assumes nothing.
+-- The tests of stored versions and messages in flight, as `range` goes through them.
 use mathlib.Core.Bool.{Bool, _&&_}
 use mathlib.Core.List.{List}
 use Prim.Native.Nat.{ℕ}

@@ -1,5 +1,4 @@
 -- The frame that a block holds, by the kind of the client's last ended transaction; its length; and the same frame in the tables.
--- Assumes nothing.
 use mathlib.Core.Bool.{true}
 use mathlib.Core.List.{List, [], _++_}
 use mathlib.Core.Path.{_≡_, refl, sym, ap, _∙_}
@@ -9,10 +8,11 @@ use native.Mathlib.Omega.{arith}
 use lib.Dec.{eqb, eqb·suc-zero}
 use lib.ListN.{length, length-append}
 use lib.Pow.{pow-pos}
-use Rattle.hex.specs.Number.{bigEndian, length-bigEndian}
+use Rattle.hex.specs.Number.{bigEndian}
+use Rattle.hex.proofs.Number.{length-bigEndian}
 use Rattle.itemset.specs.Set.{count, rank, members}
-use Rattle.itemset.specs.Counts.{rank-mod, count-le}
-use Rattle.itemset.specs.Members.{length-members-rank}
+use Rattle.itemset.proofs.Counts.{rank-mod, count-le}
+use Rattle.itemset.proofs.Members.{length-members-rank}
 use Rattle.protocol.specs.Tables.{Ended, nothing, read, write, numberOf}
 use Rattle.protocol.specs.Range.{isClient}
 use Rattle.protocol.specs.Frame.{listed, shownEntry, frame}

@@ -1,4 +1,4 @@
--- The bytes of a set's items, listed ascending: one item more, and storing them item by item. By the bound of the items. Assumes nothing.
+-- The bytes of a set's items, listed ascending: one item more, and storing them item by item. By the bound of the items.
 use mathlib.Core.Bool.{true, false}
 use mathlib.Core.List.{List, [], _∷_, _++_, append-assoc, append-nil}
 use mathlib.Core.Path.{_≡_, refl, sym, ap, ap₂, _∙_}
@@ -6,10 +6,10 @@ use Prim.Native.Nat.{ℕ, zero, suc, _+_, _*_}
 use native.Mathlib.Numerals.{add-one}
 use lib.ListN.{length}
 use lib.Seq.{sets}
-use Rattle.basics.specs.Cases.{by-test}
-use Rattle.hex.specs.Stores.{sets-join}
+use Rattle.basics.proofs.Cases.{by-test}
+use Rattle.hex.proofs.Stores.{sets-join}
 use Rattle.itemset.specs.Set.{has, rank, upto, members}
-use Rattle.itemset.specs.Members.{upto-suc, length-members-rank}
+use Rattle.itemset.proofs.Members.{upto-suc, length-members-rank}
 use Rattle.protocol.specs.Frame.{listed}
 use Rattle.protocol.proofs.Shown.{length-listed}
 use Rattle.show.specs.Show.{putItem}

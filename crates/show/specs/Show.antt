@@ -1,4 +1,4 @@
--- The log frame that a block holds for a client, and its parts as the words of the block give them. Assumes nothing.
+-- The log frame that a block holds for a client, and its parts as the words of the block give them.
 use mathlib.Core.Bool.{cond}
 use mathlib.Core.List.{List, _∷_, _++_}
 use Prim.Native.Nat.{ℕ, _+_, _*_}

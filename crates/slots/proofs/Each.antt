@@ -1,4 +1,4 @@
--- Lists whose elements are held place by place: one more at the end, one taken out, and the list read back. Assumes nothing.
+-- Lists whose elements are held place by place: one more at the end, one taken out, and the list read back.
 use mathlib.Core.List.{List, [], _∷_, _++_}
 use mathlib.Core.Path.{_≡_, refl, _∙_, subst}
 use Prim.Native.Nat.{ℕ, zero, suc, _≤_, _<_}
@@ -8,8 +8,9 @@ use lib.Dec.{ltb}
 use lib.ListN.{length, getD, length-append, List·getD-append}
 use lib.Seq.{ext-getD, getD-at}
 use borrow.Author.Tests.{ltb-true, ltb-false}
-use Rattle.basics.specs.Cases.{by-test}
-use Rattle.basics.specs.Lists.{table, length-table, table-at, without, length-without}
+use Rattle.basics.proofs.Cases.{by-test}
+use Rattle.basics.specs.Lists.{table, without}
+use Rattle.basics.proofs.Lists.{length-table, table-at, length-without}
 
 module _ {A : Type 0} where
   -- each element is held at its place

@@ -1,4 +1,4 @@
--- A block that holds tables holds them with one version, or one message, more after the append. Assumes nothing.
+-- A block that holds tables holds them with one version, or one message, more after the append.
 use mathlib.Core.List.{List, [], _∷_, _++_}
 use mathlib.Core.Path.{_≡_, refl, _∙_, subst}
 use Prim.Native.Nat.{ℕ, _+_, _<_, _≤_}

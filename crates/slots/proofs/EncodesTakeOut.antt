@@ -1,12 +1,13 @@
 -- A block that holds tables holds them without a message after it is taken out: earlier messages stay, the words of each later one move
--- up by one message. Assumes nothing.
+-- up by one message.
 use mathlib.Core.List.{List}
 use mathlib.Core.Path.{_≡_, ap, _∙_}
 use Prim.Native.Nat.{ℕ, suc, _+_, _-_, _*_, _<_, _≤_}
 use native.Mathlib.Omega.{arith}
 use lib.ListN.{length, getD, take, drop, length-drop}
 use lib.Seq.{length-take-le, getD-take, getD-drop}
-use Rattle.basics.specs.Lists.{without, length-without}
+use Rattle.basics.specs.Lists.{without}
+use Rattle.basics.proofs.Lists.{length-without}
 use Rattle.protocol.specs.Tables.{Tables, withMessages}
 use Rattle.layout.specs.Layout.{versions, messages, base, versionsAt, messagesAt, versionAt, messageAt, needed}
 use Rattle.layout.specs.Store.{takeOut}

@@ -1,4 +1,4 @@
--- Laws of the search for the first that passes, and what it says of a list of versions. Assumes nothing.
+-- Laws of the search for the first that passes, and what it says of a list of versions.
 use mathlib.Core.Bool.{Bool, true, false, cond, _||_, and-true, and-false, or-false}
 use mathlib.Core.List.{List, [], _∷_, _++_}
 use mathlib.Core.Path.{_≡_, refl, _∙_, subst}
@@ -7,7 +7,7 @@ use native.Mathlib.Nat.{not-suc-le-zero}
 use native.Mathlib.Omega.{arith}
 use lib.Dec.{eqb}
 use borrow.Author.Tests.{eqb-true, eqb-false, eq-eqb, ne-eqb}
-use Rattle.basics.specs.Cases.{by-test}
+use Rattle.basics.proofs.Cases.{by-test}
 use Rattle.basics.specs.Lists.{table}
 use Rattle.protocol.specs.declared.Version.{Version}
 use Rattle.protocol.specs.Steps.{version, alike, stored, found}

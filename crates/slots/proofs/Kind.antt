@@ -1,4 +1,4 @@
--- The message of a kind: which of its words a kind uses. Assumes nothing.
+-- The message of a kind: which of its words a kind uses.
 use mathlib.Core.Path.{_≡_, refl}
 use Prim.Native.Nat.{ℕ, zero, suc, _≤_}
 use native.Mathlib.Omega.{arith}

@@ -1,9 +1,10 @@
--- The lists that a block holds are what is read at the first places of their sections. Assumes nothing.
+-- The lists that a block holds are what is read at the first places of their sections.
 use mathlib.Core.List.{List}
 use mathlib.Core.Path.{_≡_}
 use Prim.Native.Nat.{ℕ, _<_}
 use lib.ListN.{length, getD}
-use Rattle.basics.specs.Lists.{In, in-getD, table}
+use Rattle.basics.specs.Lists.{In, table}
+use Rattle.basics.proofs.Lists.{in-getD}
 use Rattle.protocol.specs.declared.Version.{Version}
 use Rattle.protocol.specs.declared.Message.{Message}
 use Rattle.protocol.specs.Tables.{Tables}

@@ -1,4 +1,4 @@
--- Runs of words: a run that is stored word by word, and what a block holds within a run and outside it. Assumes nothing.
+-- Runs of words: a run that is stored word by word, and what a block holds within a run and outside it.
 use mathlib.Core.List.{List, [], _∷_, _++_}
 use mathlib.Core.Logic.{_≢_}
 use mathlib.Core.Path.{_≡_, refl, sym, ap, _∙_}

@@ -1,4 +1,4 @@
--- A run of words among the versions or the messages, and one of the two counts: the rest of the block stays as it is. Assumes nothing.
+-- A run of words among the versions or the messages, and one of the two counts: the rest of the block stays as it is.
 use mathlib.Core.List.{List}
 use Prim.Native.Nat.{ℕ, _+_, _≤_, _<_}
 use native.Mathlib.Omega.{arith}

@@ -1,4 +1,4 @@
--- The first stored version alike in item and stamp. Assumes nothing.
+-- The first stored version alike in item and stamp.
 use mathlib.Core.Bool.{Bool, cond}
 use mathlib.Core.List.{List}
 use Prim.Native.Nat.{ℕ, zero, suc}

@@ -1,11 +1,12 @@
--- The pass that asks: each item of the set gets the stamp chosen from the view, and no value. Assumes nothing.
+-- The pass that asks: each item of the set gets the stamp chosen from the view, and no value.
 use mathlib.Core.List.{List}
 use mathlib.Core.Path.{_≡_, refl}
 use Prim.Native.Nat.{ℕ, suc, _+_, _≤_, _<_}
 use native.Mathlib.Omega.{arith}
 use lib.ListN.{length}
-use Rattle.basics.specs.Cases.{by-test}
-use Rattle.basics.specs.Fold.{upTo, upTo-all}
+use Rattle.basics.proofs.Cases.{by-test}
+use Rattle.basics.specs.Fold.{upTo}
+use Rattle.basics.proofs.Fold.{upTo-all}
 use Rattle.itemset.specs.Set.{has}
 use Rattle.protocol.specs.Steps.{choice}
 use Rattle.layout.specs.Layout.{views, needed, viewAt}

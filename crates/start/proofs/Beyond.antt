@@ -1,13 +1,14 @@
--- A start keeps the block's length, and every word past the length that a block needs. Assumes nothing.
+-- A start keeps the block's length, and every word past the length that a block needs.
 use mathlib.Core.List.{List}
 use mathlib.Core.Path.{_≡_, refl, sym, _∙_, subst}
 use Prim.Native.Nat.{ℕ, suc, _+_, _≤_, _<_}
 use native.Mathlib.Omega.{arith}
 use lib.ListN.{length, getD, length-set}
 use lib.Seq.{getD-set-other}
-use Rattle.basics.specs.Fold.{upTo, upTo-all}
+use Rattle.basics.specs.Fold.{upTo}
+use Rattle.basics.proofs.Fold.{upTo-all}
 use Rattle.itemset.specs.Set.{has, count, rank}
-use Rattle.itemset.specs.Counts.{rank-lt}
+use Rattle.itemset.proofs.Counts.{rank-lt}
 use Rattle.protocol.specs.declared.Message.{Message}
 use Rattle.protocol.specs.declared.Message.the-variants.{Prepare, Get}
 use Rattle.protocol.specs.Tables.{Tables, stampOf}

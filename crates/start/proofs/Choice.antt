@@ -1,4 +1,4 @@
--- The choice of a stamp: one entry more, and that it depends on the own entry and the first n alone. Assumes nothing.
+-- The choice of a stamp: one entry more, and that it depends on the own entry and the first n alone.
 use mathlib.Core.Bool.{Bool, cond}
 use mathlib.Core.Path.{_≡_, refl, sym, ap, ap₂, _∙_}
 use Prim.Native.Nat.{ℕ, zero, suc, _+_, _<_, max}

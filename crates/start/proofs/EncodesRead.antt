@@ -1,5 +1,5 @@
 -- A block that holds tables, after the start of a read, holds the tables after that start: the client's words are those of the reader,
--- and a get joins for each item of the set. Assumes nothing.
+-- and a get joins for each item of the set.
 use mathlib.Core.Bool.{true}
 use mathlib.Core.List.{List}
 use mathlib.Core.Path.{_≡_, refl, sym, ap, _∙_, subst}
@@ -7,10 +7,10 @@ use Prim.Native.Nat.{ℕ, _<_}
 use native.Mathlib.Omega.{arith}
 use lib.Dec.{lit<}
 use lib.ListN.{length}
-use Rattle.basics.specs.Cases.{not-both}
+use Rattle.basics.proofs.Cases.{not-both}
 use Rattle.basics.specs.Fold.{upTo}
 use Rattle.itemset.specs.Set.{has}
-use Rattle.itemset.specs.Laws.{has-below}
+use Rattle.itemset.proofs.Laws.{has-below}
 use Rattle.protocol.specs.declared.Message.{Message}
 use Rattle.protocol.specs.declared.Message.the-variants.{Get}
 use Rattle.protocol.specs.Tables.{Tables, withClient, withMessages}

@@ -1,5 +1,5 @@
 -- A pass over the items of a set that changes words of one client alone, and of these none but the words for each item of its
--- transaction under way. Assumes nothing.
+-- transaction under way.
 use mathlib.Core.Bool.{true, false}
 use mathlib.Core.List.{List}
 use mathlib.Core.Path.{_≡_, refl, subst}
@@ -8,7 +8,7 @@ use native.Mathlib.Omega.{arith}
 use lib.Dec.{eqb}
 use lib.ListN.{length}
 use borrow.Author.Tests.{eqb-true, eqb-false}
-use Rattle.basics.specs.Cases.{by-test, not-both}
+use Rattle.basics.proofs.Cases.{by-test, not-both}
 use Rattle.itemset.specs.Set.{has}
 use Rattle.protocol.specs.Tables.{Ended, put}
 use Rattle.layout.specs.Layout.{needed}

@@ -1,4 +1,4 @@
--- What the starts' code requires, of a block that holds tables for which the start is accepted. Assumes nothing.
+-- What the starts' code requires, of a block that holds tables for which the start is accepted.
 use mathlib.Core.List.{List}
 use Prim.Native.Nat.{ℕ, _+_, _*_, _^_, _≤_, _<_}
 use native.Mathlib.Omega.{arith}

@@ -1,16 +1,17 @@
--- The pass that sends: one message for each item of the set, ascending, joins those that the tables have. Assumes nothing.
+-- The pass that sends: one message for each item of the set, ascending, joins those that the tables have.
 use mathlib.Core.Bool.{true, false}
 use mathlib.Core.List.{List, [], _∷_, _++_, map, append-nil, append-assoc}
 use mathlib.Core.Path.{_≡_, refl, sym, ap, _∙_, subst}
 use Prim.Native.Nat.{ℕ, suc, _+_, _≤_, _<_}
 use native.Mathlib.Omega.{arith}
 use lib.ListN.{length, length-append, length-map}
-use Rattle.basics.specs.Cases.{by-test}
-use Rattle.basics.specs.Fold.{upTo, upTo-all}
-use Rattle.basics.specs.Lists.{map-append}
+use Rattle.basics.proofs.Cases.{by-test}
+use Rattle.basics.specs.Fold.{upTo}
+use Rattle.basics.proofs.Fold.{upTo-all}
+use Rattle.basics.proofs.Lists.{map-append}
 use Rattle.itemset.specs.Set.{has, count, rank, upto, members}
-use Rattle.itemset.specs.Counts.{rank-lt, rank-count}
-use Rattle.itemset.specs.Members.{upto-suc, length-members-rank}
+use Rattle.itemset.proofs.Counts.{rank-lt, rank-count}
+use Rattle.itemset.proofs.Members.{upto-suc, length-members-rank}
 use Rattle.protocol.specs.declared.Message.{Message}
 use Rattle.protocol.specs.Tables.{Tables, withMessages}
 use Rattle.layout.specs.Encodes.{Encodes}

@@ -1,4 +1,4 @@
--- The starts step by step: what the calls in a row leave is what the definitions say. Assumes nothing.
+-- The starts step by step: what the calls in a row leave is what the definitions say.
 use mathlib.Core.List.{List}
 use mathlib.Core.Path.{_≡_, ap, _∙_}
 use Prim.Native.Nat.{ℕ, suc}

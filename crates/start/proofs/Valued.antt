@@ -1,11 +1,12 @@
--- The pass that keeps a write's values: each item of the set gets the number of its four bytes. Assumes nothing.
+-- The pass that keeps a write's values: each item of the set gets the number of its four bytes.
 use mathlib.Core.List.{List}
 use mathlib.Core.Path.{refl}
 use Prim.Native.Nat.{ℕ, suc, _*_, _%_, _^_, _≤_, _<_}
 use native.Mathlib.Omega.{arith}
 use lib.ListN.{length}
-use Rattle.basics.specs.Cases.{by-test}
-use Rattle.basics.specs.Fold.{upTo, upTo-all}
+use Rattle.basics.proofs.Cases.{by-test}
+use Rattle.basics.specs.Fold.{upTo}
+use Rattle.basics.proofs.Fold.{upTo-all}
 use Rattle.hex.specs.Number.{numberAt}
 use Rattle.itemset.specs.Set.{has, rank}
 use Rattle.layout.specs.Layout.{needed}

@@ -1,4 +1,4 @@
--- The starts of a read and of a write as changes of the block, item by item. Assumes nothing.
+-- The starts of a read and of a write as changes of the block, item by item.
 use mathlib.Core.Bool.{cond}
 use mathlib.Core.List.{List}
 use Prim.Native.Nat.{ℕ, suc, _+_, _*_, _%_, _^_}

@@ -1,12 +1,12 @@
 -- What a call gives, by its refusal: accepted, the protocol's answer and the changed block; refused, the refusal alone and the block as it was.
--- And the tables after either. Assumes nothing.
+-- And the tables after either.
 use mathlib.Core.Bool.{true, false}
 use mathlib.Core.List.{List}
 use mathlib.Core.Path.{_≡_, refl, sym, ap, _∙_}
 use Prim.Native.Nat.{ℕ, suc}
 use lib.ListN.{length}
 use native.Mathlib.Omega.{arith}
-use Rattle.basics.specs.Cases.{by-test, and-left, and-right}
+use Rattle.basics.proofs.Cases.{by-test, and-left, and-right}
 use Rattle.protocol.specs.declared.Answer.the-variants.{Refused}
 use Rattle.protocol.specs.Range.{capacities, valid}
 use Rattle.protocol.specs.Calls.{Call, refusal, effect, reply, written, lent, step}

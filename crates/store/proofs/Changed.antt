@@ -1,9 +1,9 @@
--- An accepted call's changes of the block are the protocol's changes of the tables that it holds. Assumes nothing.
+-- An accepted call's changes of the block are the protocol's changes of the tables that it holds.
 use mathlib.Core.Bool.{true}
 use mathlib.Core.List.{List}
 use mathlib.Core.Path.{_≡_}
 use Prim.Native.Nat.{ℕ}
-use Rattle.basics.specs.Lists.{in-getD}
+use Rattle.basics.proofs.Lists.{in-getD}
 use Rattle.protocol.specs.declared.Message.the-variants.{Commit}
 use Rattle.protocol.specs.Tables.{Tables}
 use Rattle.protocol.specs.Steps.{messageAt}

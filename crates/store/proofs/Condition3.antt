@@ -1,5 +1,5 @@
 -- Condition 3 about blocks, proved: of every list of calls, each handed the block whole as the last one left it, from any block long enough on
--- which a fresh start was accepted. Assumes nothing.
+-- which a fresh start was accepted.
 use mathlib.Core.Bool.{true}
 use mathlib.Core.List.{List, [], _∷_, _++_, append-assoc, append-nil}
 use mathlib.Core.Path.{_≡_, refl, sym, ap, _∙_}

@@ -1,4 +1,4 @@
--- Fresh starts on blocks of this and that length, and the number of each case of an answer: one table, computed. Assumes nothing.
+-- Fresh starts on blocks of this and that length, and the number of each case of an answer: one table, computed.
 use mathlib.Core.List.{List, [], _∷_}
 use mathlib.Core.Path.{_≡_, refl}
 use Prim.Native.Nat.{ℕ}

@@ -1,4 +1,4 @@
--- A fresh start that is accepted: the block holds fresh tables. Assumes nothing.
+-- A fresh start that is accepted: the block holds fresh tables.
 use mathlib.Core.Bool.{true}
 use mathlib.Core.List.{List}
 use mathlib.Core.Logic.{_≢_}
@@ -8,7 +8,7 @@ use lib.ListN.{length}
 use lib.Dec.{ltb}
 use native.Mathlib.Omega.{arith}
 use borrow.Author.Tests.{ltb-false, le-ltb}
-use Rattle.basics.specs.Cases.{by-test}
+use Rattle.basics.proofs.Cases.{by-test}
 use Rattle.protocol.specs.declared.Answer.the-variants.{Refused, Made}
 use Rattle.protocol.specs.Tables.{Sizes, fresh}
 use Rattle.protocol.specs.Range.{capacities, sizesInRange}

@@ -1,4 +1,4 @@
--- What the calls' code has done, step by step, is what the calls are to give; and what its parts require. Assumes nothing.
+-- What the calls' code has done, step by step, is what the calls are to give; and what its parts require.
 use mathlib.Core.Bool.{Bool, true, cond}
 use mathlib.Core.List.{List, _++_}
 use mathlib.Core.Logic.{_≢_}
@@ -6,7 +6,7 @@ use mathlib.Core.Path.{_≡_, refl, sym, ap, _∙_}
 use Prim.Native.Nat.{ℕ, zero, suc, _+_, _*_, _^_, _≤_, _<_}
 use native.Mathlib.Omega.{arith}
 use lib.ListN.{length, drop}
-use Rattle.basics.specs.Cases.{between}
+use Rattle.basics.proofs.Cases.{between}
 use Rattle.itemset.specs.Set.{count}
 use Rattle.protocol.specs.declared.Answer.the-variants.{Refused, Started, Shown}
 use Rattle.protocol.specs.Tables.{Sizes}

@@ -1,5 +1,4 @@
 -- A block that holds valid tables is read as those tables, and after a call it holds the tables that the protocol's step gives.
--- Assumes nothing.
 use mathlib.Core.Bool.{true}
 use mathlib.Core.List.{List}
 use mathlib.Core.Path.{_≡_, refl, sym, ap, subst}

@@ -1,4 +1,4 @@
--- A delivery on a valid block: the message at its place is the tables' message, and what is told of it is the refusal table's. Assumes nothing.
+-- A delivery on a valid block: the message at its place is the tables' message, and what is told of it is the refusal table's.
 use mathlib.Core.Bool.{true}
 use mathlib.Core.List.{List, [], _∷_}
 use mathlib.Core.Path.{_≡_, refl, sym, ap, _∙_}
@@ -7,8 +7,8 @@ use native.Mathlib.Omega.{arith}
 use lib.Dec.{leb}
 use lib.ListN.{length}
 use borrow.Author.Tests.{leb-true, leb-false, le-leb, lt-leb}
-use Rattle.basics.specs.Cases.{by-test}
-use Rattle.basics.specs.Lists.{in-getD}
+use Rattle.basics.proofs.Cases.{by-test}
+use Rattle.basics.proofs.Lists.{in-getD}
 use Rattle.protocol.specs.declared.Message.{Message}
 use Rattle.protocol.specs.declared.Message.the-variants.{Commit}
 use Rattle.protocol.specs.declared.Answer.the-variants.{Delivered}

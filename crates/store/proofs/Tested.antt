@@ -1,4 +1,4 @@
--- The refusal table from the words of a valid block. Assumes nothing.
+-- The refusal table from the words of a valid block.
 use mathlib.Core.Bool.{Bool, true, false, cond, not, _||_}
 use mathlib.Core.List.{List}
 use mathlib.Core.Path.{_≡_, refl, sym}

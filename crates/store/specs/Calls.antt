@@ -1,5 +1,5 @@
 -- What a call gives on a block, whatever its words: the answer, the output, and every word after it; and which tables it then holds. The
--- protocol's definitions give them on the tables that the block holds; a block that holds none is refused by 1. Assumes nothing.
+-- protocol's definitions give them on the tables that the block holds; a block that holds none is refused by 1.
 use mathlib.Core.Bool.{cond, not}
 use mathlib.Core.List.{List, [], _∷_}
 use Prim.Native.Nat.{ℕ, _^_, _<_}

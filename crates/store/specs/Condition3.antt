@@ -1,6 +1,5 @@
 -- Condition 3 about blocks: a list of calls, each handed the block whole as the last one left it, refused or not, from a block long enough on
 -- which a fresh start was accepted. It iterates `answerOn`, `outputOn` and `blockAfter`, the very definitions of the calls' promises.
--- Assumes nothing.
 use mathlib.Core.List.{List, [], _∷_, _++_}
 use mathlib.Core.Path.{_≡_}
 use Prim.Native.Nat.{ℕ}

@@ -1,4 +1,4 @@
--- `deliver::deliver_message` meets its contract: the message is taken out, and does its work. Assumes nothing.
+-- `deliver::deliver_message` meets its contract: the message is taken out, and does its work.
 use borrow.Author.Needs.{needs}
 use Rattle.deliver.proofs.deliver_message.Statement.{statement}
 use Rattle.deliver.proofs.deliver_message.Tie as tie

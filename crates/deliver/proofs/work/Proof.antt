@@ -1,4 +1,4 @@
--- `deliver::work` meets its contract: arm by arm. Assumes nothing.
+-- `deliver::work` meets its contract: arm by arm.
 use mathlib.Core.Path.{subst}
 use Rattle.deliver.specs.Tests.{Bounded}
 use Rattle.deliver.specs.Deliver.{messageDelivered}

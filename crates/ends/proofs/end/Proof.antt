@@ -1,4 +1,4 @@
--- `ends::end` meets its contract: store by store. Assumes nothing.
+-- `ends::end` meets its contract: store by store.
 use borrow.Author.Needs.{needs}
 use Rattle.ends.proofs.end.Statement.{statement}
 use Rattle.ends.proofs.end.Tie as tie

@@ -1,4 +1,4 @@
--- `frames::front` meets its contract: a part longer than the whole is the whole. Assumes nothing.
+-- `frames::front` meets its contract: a part longer than the whole is the whole.
 use borrow.Author.Needs.{needs}
 use mathlib.Core.Path.{sym, ap, _∙_}
 use Prim.Native.Nat.{ℕ, _-_}

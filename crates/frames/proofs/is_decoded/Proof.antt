@@ -1,4 +1,4 @@
--- `frames::is_decoded` meets its contract. Assumes nothing.
+-- `frames::is_decoded` meets its contract.
 use borrow.Author.Needs.{needs}
 use Rattle.frames.specs.Frames.{isDecoded}
 use Rattle.frames.proofs.is_decoded.Statement.{statement}

@@ -1,4 +1,4 @@
--- `frames::is_ended` meets its contract: a line with no byte has no last one. Assumes nothing.
+-- `frames::is_ended` meets its contract: a line with no byte has no last one.
 use borrow.Author.Needs.{needs}
 use native.Mathlib.Omega.{arith}
 use Rattle.frames.proofs.Reading.{unended-none}

@@ -1,4 +1,4 @@
--- `frames::is_frame` meets its contract. Assumes nothing.
+-- `frames::is_frame` meets its contract.
 use borrow.Author.Needs.{needs}
 use Rattle.frames.proofs.is_frame.Statement.{statement}
 use Rattle.frames.proofs.is_frame.Tie as tie

@@ -1,4 +1,4 @@
--- `frames::is_write` meets its contract. Assumes nothing.
+-- `frames::is_write` meets its contract.
 use borrow.Author.Needs.{needs}
 use Rattle.frames.proofs.is_write.Statement.{statement}
 use Rattle.frames.proofs.is_write.Tie as tie

@@ -1,4 +1,4 @@
--- `frames::kind` meets its contract: past the end of a list `getD` gives 0. Assumes nothing.
+-- `frames::kind` meets its contract: past the end of a list `getD` gives 0.
 use borrow.Author.Needs.{needs}
 use mathlib.Core.Path.{sym}
 use lib.ListN.{List·getD-eq-default}

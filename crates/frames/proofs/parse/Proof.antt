@@ -1,4 +1,4 @@
--- `frames::parse` meets its contract: each frame that was ruled out by its kind or length, and the one that was not. Assumes nothing.
+-- `frames::parse` meets its contract: each frame that was ruled out by its kind or length, and the one that was not.
 use borrow.Author.Needs.{needs}
 use mathlib.Core.Path.{sym, _∙_}
 use native.Mathlib.Omega.{arith}

@@ -1,4 +1,4 @@
--- `frames::put_into` meets its contract, answer by answer. Assumes nothing.
+-- `frames::put_into` meets its contract, answer by answer.
 use borrow.Author.Needs.{needs}
 use mathlib.Core.List.{List, _∷_}
 use mathlib.Core.Path.{sym, ap, _∙_}

@@ -1,11 +1,12 @@
--- `frames::put_line` meets its contract: the digits and the 0a behind them are one run of stores. Assumes nothing.
+-- `frames::put_line` meets its contract: the digits and the 0a behind them are one run of stores.
 use borrow.Author.Needs.{needs}
 use mathlib.Core.List.{List}
 use mathlib.Core.Path.{ap, _∙_}
 use Prim.Native.Nat.{ℕ, _*_}
 use native.Mathlib.Omega.{arith}
 use lib.ListN.{set}
-use Rattle.hex.specs.Number.{bigEndian, length-bigEndian}
+use Rattle.hex.specs.Number.{bigEndian}
+use Rattle.hex.proofs.Number.{length-bigEndian}
 use Rattle.frames.proofs.Writing.{length-lineOf, line-stored}
 use Rattle.frames.proofs.put_line.Statement.{statement}
 use Rattle.frames.proofs.put_line.Tie as tie

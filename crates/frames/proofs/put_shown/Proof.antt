@@ -1,4 +1,4 @@
--- `frames::put_shown` meets its contract: 00, the bytes' digits and the 0a lie one behind the other. Assumes nothing.
+-- `frames::put_shown` meets its contract: 00, the bytes' digits and the 0a lie one behind the other.
 use borrow.Author.Needs.{needs}
 use mathlib.Core.List.{List, _∷_}
 use mathlib.Core.Path.{ap, _∙_}

@@ -1,4 +1,4 @@
--- `frames::read_into` meets its contract: a line that isn't decoded is malformed, and of one that is the bytes stored are the frame's. Assumes nothing.
+-- `frames::read_into` meets its contract: a line that isn't decoded is malformed, and of one that is the bytes stored are the frame's.
 use borrow.Author.Needs.{needs}
 use mathlib.Core.Path.{sym, ap, _∙_}
 use Prim.Native.Nat.{ℕ, _-_}

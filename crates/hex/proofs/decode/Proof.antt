@@ -1,5 +1,5 @@
 -- `hex::decode` meets its contract. The invariant: from pair k on the line is hex where the whole is, and storing what is left of its bytes
--- from k on makes `out` what storing all of them makes it. The measure is the pairs that are left. Assumes nothing.
+-- from k on makes `out` what storing all of them makes it. The measure is the pairs that are left.
 use mathlib.Core.Bool.{true, false}
 use mathlib.Core.List.{List}
 use mathlib.Core.Path.{_≡_, refl, sym, _∙_}

@@ -1,6 +1,6 @@
--- `hex::digit` meets its contract: the two tests are those of `digit`, and each bounds the byte that is lessened. Assumes nothing.
+-- `hex::digit` meets its contract: the two tests are those of `digit`, and each bounds the byte that is lessened.
 use native.Mathlib.Omega.{arith}
-use Rattle.basics.specs.Cases.{between}
+use Rattle.basics.proofs.Cases.{between}
 use Rattle.hex.specs.Digit.{digit}
 use Rattle.hex.proofs.digit.Statement.{statement}
 use Rattle.hex.proofs.digit.Tie as tie

@@ -1,5 +1,5 @@
 -- `hex::encode` meets its contract. The invariant: storing the digits of the bytes from k on makes `out` what storing all of them makes it.
--- The measure is the bytes that are left. Assumes nothing.
+-- The measure is the bytes that are left.
 use mathlib.Core.List.{List}
 use mathlib.Core.Path.{_≡_, refl, ap, _∙_}
 use Prim.Native.Nat.{ℕ, suc, _+_, _-_, _*_, _≤_, _<_}

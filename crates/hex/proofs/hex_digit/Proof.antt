@@ -1,4 +1,4 @@
--- `hex::hex_digit` meets its contract: its test is that of `hexDigit`. Assumes nothing.
+-- `hex::hex_digit` meets its contract: its test is that of `hexDigit`.
 use borrow.Author.Needs.{needs}
 use borrow.Author.Tests.{lt-ltb, le-ltb}
 use Rattle.hex.specs.Digit.{hexDigit}

@@ -1,10 +1,11 @@
 -- `hex::line_end` meets its contract. The invariant: from `i` on the line ends where it ends from `at` on, since no byte passed is 0a.
--- The measure is what is left of the text. Assumes nothing.
+-- The measure is what is left of the text.
 use mathlib.Core.Path.{_≡_, refl, sym, _∙_}
 use Prim.Native.Nat.{_-_}
 use borrow.Author.Needs.{needs}
 use lib.ListN.{length}
-use Rattle.hex.specs.Line.{lineEnd, lineEnd-here, lineEnd-next, lineEnd-past}
+use Rattle.hex.specs.Line.{lineEnd}
+use Rattle.hex.proofs.Line.{lineEnd-here, lineEnd-next, lineEnd-past}
 use Rattle.hex.proofs.line_end.Statement.{statement}
 use Rattle.hex.proofs.line_end.Tie as tie
 

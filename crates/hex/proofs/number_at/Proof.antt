@@ -1,5 +1,5 @@
 -- `hex::number_at` meets its contract. The invariant: `number` is the number of the k bytes read, so that it is below 256 ^ k.
--- The measure is what is left of n. Assumes nothing.
+-- The measure is what is left of n.
 use mathlib.Core.Path.{_≡_, refl, sym, ap, _∙_}
 use mathlib.Core.List.{List}
 use Prim.Native.Nat.{ℕ, _+_, _-_, _*_, _^_, _≤_, _<_}
@@ -8,7 +8,8 @@ use native.Mathlib.Omega.{arith}
 use borrow.Author.Needs.{needs}
 use lib.Dec.{lit<}
 use lib.ListN.{getD}
-use Rattle.hex.specs.Number.{numberAt, numberAt-lt, numberAt-next}
+use Rattle.hex.specs.Number.{numberAt}
+use Rattle.hex.proofs.Number.{numberAt-lt, numberAt-next}
 use Rattle.hex.proofs.number_at.Statement.{statement}
 use Rattle.hex.proofs.number_at.Tie as tie
 

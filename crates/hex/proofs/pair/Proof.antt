@@ -1,9 +1,8 @@
 -- `hex::pair` meets its contract: its test is that of `pair` on what `digit` returns, and two digits' byte is below 256.
--- Assumes nothing.
 use Prim.Native.Nat.{_<_}
 use native.Mathlib.Omega.{arith}
 use borrow.Author.Needs.{needs}
-use Rattle.basics.specs.Cases.{both-below}
+use Rattle.basics.proofs.Cases.{both-below}
 use Rattle.hex.specs.Digit.{pair}
 use Rattle.hex.proofs.pair.Statement.{statement}
 use Rattle.hex.proofs.pair.Tie as tie

@@ -1,4 +1,4 @@
--- `hex::put_byte` meets its contract: its two stores are those of `hexByte`'s two digits. Assumes nothing.
+-- `hex::put_byte` meets its contract: its two stores are those of `hexByte`'s two digits.
 use native.Mathlib.Numerals.{add-one}
 use native.Mathlib.Omega.{arith}
 use lib.ListN.{length-set}

@@ -1,5 +1,5 @@
 -- `hex::put_bytes` meets its contract. The last byte is written first; the invariant: storing the `left` bytes of `upper` makes `out` what
--- storing all of them makes it. The measure is `left`. Assumes nothing.
+-- storing all of them makes it. The measure is `left`.
 use mathlib.Core.List.{List, [], _∷_}
 use mathlib.Core.Path.{_≡_, refl, sym, ap, _∙_}
 use Prim.Native.Nat.{ℕ, zero, suc, _+_, _-_, _/_, _%_, _≤_, _<_}
@@ -9,8 +9,9 @@ use borrow.Author.Needs.{needs}
 use lib.Arith.{le-zero}
 use lib.ListN.{length, set, length-set}
 use lib.Seq.{sets}
-use Rattle.hex.specs.Number.{bigEndian, length-bigEndian}
-use Rattle.hex.specs.Stores.{sets-append, sets-set}
+use Rattle.hex.specs.Number.{bigEndian}
+use Rattle.hex.proofs.Number.{length-bigEndian}
+use Rattle.hex.proofs.Stores.{sets-append, sets-set}
 use Rattle.hex.proofs.put_bytes.Statement.{statement}
 use Rattle.hex.proofs.put_bytes.Tie as tie
 

@@ -1,5 +1,5 @@
 -- `hex::put_number` meets its contract. The last byte is written first; the invariant: storing the digits of the `left` bytes of `rest` makes
--- `out` what storing all of them makes it. The measure is `left`. Assumes nothing.
+-- `out` what storing all of them makes it. The measure is `left`.
 use mathlib.Core.List.{List, [], _∷_}
 use mathlib.Core.Path.{_≡_, refl, sym, ap, _∙_}
 use Prim.Native.Nat.{ℕ, zero, suc, _+_, _-_, _*_, _/_, _%_, _≤_, _<_}
@@ -10,9 +10,11 @@ use lib.Arith.{le-zero}
 use lib.ListN.{length, length-set}
 use lib.Seq.{sets}
 use Rattle.hex.specs.Digit.{hexByte}
-use Rattle.hex.specs.Number.{bigEndian, length-bigEndian}
-use Rattle.hex.specs.Stores.{sets-append, sets-sets}
-use Rattle.hex.specs.Text.{hexText, hexText-append, length-hexText}
+use Rattle.hex.specs.Number.{bigEndian}
+use Rattle.hex.proofs.Number.{length-bigEndian}
+use Rattle.hex.proofs.Stores.{sets-append, sets-sets}
+use Rattle.hex.specs.Text.{hexText}
+use Rattle.hex.proofs.Text.{hexText-append, length-hexText}
 use Rattle.hex.proofs.put_number.Statement.{statement}
 use Rattle.hex.proofs.put_number.Tie as tie
 

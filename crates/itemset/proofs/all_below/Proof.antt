@@ -1,10 +1,10 @@
--- `itemset::all_below` meets its contract: nothing is left above the n lowest digits, and from 64 on nothing is above. Assumes nothing.
+-- `itemset::all_below` meets its contract: nothing is left above the n lowest digits, and from 64 on nothing is above.
 use borrow.Author.Needs.{needs}
 use borrow.Author.Tests.{lt-ltb}
 use mathlib.Core.Path.{sym}
 use Prim.Native.Nat.{_^_}
-use Rattle.itemset.specs.Laws.{below-le}
-use Rattle.itemset.specs.Bits.{all-below-shift}
+use Rattle.itemset.proofs.Laws.{below-le}
+use Rattle.itemset.proofs.Bits.{all-below-shift}
 use Rattle.itemset.proofs.all_below.Statement.{statement}
 use Rattle.itemset.proofs.all_below.Tie as tie
 

@@ -1,7 +1,7 @@
--- `itemset::count` meets its contract: a 64-bit set has at most 64 members, so their number fits. Assumes nothing.
+-- `itemset::count` meets its contract: a 64-bit set has at most 64 members, so their number fits.
 use borrow.Author.Needs.{needs}
 use native.Mathlib.Omega.{arith}
-use Rattle.itemset.specs.Counts.{count-le}
+use Rattle.itemset.proofs.Counts.{count-le}
 use Rattle.itemset.proofs.count.Statement.{statement}
 use Rattle.itemset.proofs.count.Tie as tie
 

@@ -1,7 +1,7 @@
--- `itemset::has` meets its contract: the digit worth 2 ^ item decides, and a 64-bit set has none from 64 on. Assumes nothing.
+-- `itemset::has` meets its contract: the digit worth 2 ^ item decides, and a 64-bit set has none from 64 on.
 use borrow.Author.Needs.{needs}
 use mathlib.Core.Path.{sym}
-use Rattle.itemset.specs.Laws.{has-power, has-above}
+use Rattle.itemset.proofs.Laws.{has-power, has-above}
 use Rattle.itemset.proofs.has.Statement.{statement}
 use Rattle.itemset.proofs.has.Tie as tie
 

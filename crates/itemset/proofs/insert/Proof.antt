@@ -1,9 +1,9 @@
--- `itemset::insert` meets its contract: `|` with the digit worth 2 ^ item. Assumes nothing.
+-- `itemset::insert` meets its contract: `|` with the digit worth 2 ^ item.
 use borrow.Author.Needs.{needs}
 use lib.Bits.{bitOr}
 use mathlib.Core.Path.{sym, ap, _∙_}
-use Rattle.itemset.specs.Laws.{insert64-lt, insert64-ge}
-use Rattle.itemset.specs.Bits.{one-shifted, insert-or}
+use Rattle.itemset.proofs.Laws.{insert64-lt, insert64-ge}
+use Rattle.itemset.proofs.Bits.{one-shifted, insert-or}
 use Rattle.itemset.proofs.insert.Statement.{statement}
 use Rattle.itemset.proofs.insert.Tie as tie
 

@@ -1,11 +1,10 @@
 -- `itemset::least_from` meets its contract: past `item`, the zeros below the lowest digit that is set are the items that are no members.
--- Assumes nothing.
 use borrow.Author.Needs.{needs}
 use native.Mathlib.Omega.{arith}
 use Prim.Native.Nat.{_-_, _/_, _^_}
 use lib.Count.{trailing-le}
-use Rattle.itemset.specs.Least.{least-ge, least-le}
-use Rattle.itemset.specs.Bits.{least-trailing}
+use Rattle.itemset.proofs.Least.{least-ge, least-le}
+use Rattle.itemset.proofs.Bits.{least-trailing}
 use Rattle.itemset.proofs.least_from.Statement.{statement}
 use Rattle.itemset.proofs.least_from.Tie as tie
 

@@ -1,13 +1,13 @@
--- `itemset::rank` meets its contract: the mask keeps the digits below `item`, and from 64 on those are all. Assumes nothing.
+-- `itemset::rank` meets its contract: the mask keeps the digits below `item`, and from 64 on those are all.
 use borrow.Author.Needs.{needs}
 use mathlib.Core.Path.{sym, ap, _∙_}
 use Prim.Native.Nat.{ℕ, _-_}
 use lib.Bits.{bitAnd}
 use lib.Pow.{pow-pos}
 use Rattle.itemset.specs.Set.{count}
-use Rattle.itemset.specs.Laws.{below-le}
-use Rattle.itemset.specs.Counts.{rank-all}
-use Rattle.itemset.specs.Bits.{one-shifted, rank-and}
+use Rattle.itemset.proofs.Laws.{below-le}
+use Rattle.itemset.proofs.Counts.{rank-all}
+use Rattle.itemset.proofs.Bits.{one-shifted, rank-and}
 use Rattle.itemset.proofs.rank.Statement.{statement}
 use Rattle.itemset.proofs.rank.Tie as tie
 

@@ -1,11 +1,10 @@
 -- `itemset::remove` meets its contract: what `&` finds of the digit worth 2 ^ item is taken off, and a 64-bit set has no item from 64 on.
--- Assumes nothing.
 use borrow.Author.Needs.{needs}
 use lib.Bits.{bitAnd, and-le-l}
 use mathlib.Core.Path.{sym, ap, _∙_}
 use Prim.Native.Nat.{ℕ, _-_}
-use Rattle.itemset.specs.Laws.{has-above, remove-hasnt}
-use Rattle.itemset.specs.Bits.{one-shifted, remove-and}
+use Rattle.itemset.proofs.Laws.{has-above, remove-hasnt}
+use Rattle.itemset.proofs.Bits.{one-shifted, remove-and}
 use Rattle.itemset.proofs.remove.Statement.{statement}
 use Rattle.itemset.proofs.remove.Tie as tie
 

@@ -1,10 +1,10 @@
--- `judge::judge` meets its contract: the answer is the verdict, of which the theorem holds. Assumes nothing.
+-- `judge::judge` meets its contract: the answer is the verdict, of which the theorem holds.
 use mathlib.Core.Path.{_≡_, sym, _∙_, subst}
 use mathlib.Core.List.{List}
 use Prim.Native.Nat.{ℕ}
 use Rattle.judge.specs.Findings.{verdict}
 use Rattle.judge.specs.Published.{Says}
-use Rattle.judge.specs.Theorem.{says}
+use Rattle.judge.proofs.Theorem.{says}
 use Rattle.judge.specs.declared.Verdict.{Verdict}
 use mathlib.Core.Path.{_≡_, sym, _∙_}
 use borrow.Author.Needs.{needs}

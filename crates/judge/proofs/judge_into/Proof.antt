@@ -1,8 +1,8 @@
--- `judge::judge_into` meets its contract. Assumes nothing.
+-- `judge::judge_into` meets its contract.
 use mathlib.Core.List.{[]}
 use mathlib.Core.Path.{subst, _∙_}
 use native.Mathlib.Omega.{arith}
-use Rattle.judge.specs.Answer.{checked-lines, checked-bad}
+use Rattle.judge.proofs.Answer.{checked-lines, checked-bad}
 use Rattle.judge_log.specs.Scan.{ScannedOf}
 use Rattle.judge_log.specs.declared.scan.Scanned.{Scanned}
 use Rattle.judge_log.specs.declared.scan.Scanned.the-variants.{Lines, Bad}

@@ -1,5 +1,5 @@
--- `judge::judge_marked` meets its contract. Assumes nothing.
-use Rattle.judge.specs.Answer.{judged-fault, judged-clean}
+-- `judge::judge_marked` meets its contract.
+use Rattle.judge.proofs.Answer.{judged-fault, judged-clean}
 use borrow.Author.Needs.{needs}
 use Rattle.judge.proofs.judge_marked.Statement.{statement}
 use Rattle.judge.proofs.judge_marked.Tie as tie

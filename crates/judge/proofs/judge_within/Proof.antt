@@ -1,6 +1,6 @@
--- `judge::judge_within` meets its contract: the two arrays are long enough. Assumes nothing.
+-- `judge::judge_within` meets its contract: the two arrays are long enough.
 use mathlib.Core.Path.{refl}
-use Rattle.judge.specs.Answer.{within-start}
+use Rattle.judge.proofs.Answer.{within-start}
 use borrow.Author.Needs.{needs}
 use Rattle.judge.proofs.judge_within.Statement.{statement}
 use Rattle.judge.proofs.judge_within.Tie as tie

@@ -1,4 +1,4 @@
--- `judge::koolvent_judge` meets its contract. Assumes nothing.
+-- `judge::koolvent_judge` meets its contract.
 use mathlib.Core.Path.{ap, _∙_}
 use Rattle.judge.specs.Findings.{numberOf}
 use borrow.Author.Needs.{needs}

@@ -1,4 +1,4 @@
--- `judge::packed` meets its contract, case by case. Assumes nothing.
+-- `judge::packed` meets its contract, case by case.
 use mathlib.Core.Path.{sym, ap}
 use Rattle.judge.specs.Findings.{numberOf}
 use borrow.Author.Needs.{needs}

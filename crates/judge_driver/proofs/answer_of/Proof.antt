@@ -1,9 +1,9 @@
--- `judge_driver::answer_of` meets its contract, case by case. Assumes nothing.
+-- `judge_driver::answer_of` meets its contract, case by case.
 use mathlib.Core.Path.{sym, ap, _∙_}
 use native.Mathlib.Omega.{arith}
 use Rattle.hex.specs.Number.{bigEndian}
 use Rattle.judge.specs.Findings.{bytesOf}
-use Rattle.judge_driver.specs.Lines.{malformed-number, judged-number}
+use Rattle.judge_driver.proofs.Lines.{malformed-number, judged-number}
 use borrow.Author.Needs.{needs}
 use Rattle.judge_driver.proofs.answer_of.Statement.{statement}
 use Rattle.judge_driver.proofs.answer_of.Tie as tie

@@ -1,4 +1,4 @@
--- `judge_driver::fill` meets its contract. The invariant: what was read lies within the buffer. The measure is what is left of it. Assumes nothing.
+-- `judge_driver::fill` meets its contract. The invariant: what was read lies within the buffer. The measure is what is left of it.
 use mathlib.Core.Path.{_≡_, subst}
 use Prim.Native.Nat.{_+_, _-_, _≤_}
 use native.Mathlib.Omega.{arith}

@@ -1,4 +1,4 @@
--- `judge_driver::judge_input` meets its contract: the bytes read lie within the buffer. Assumes nothing.
+-- `judge_driver::judge_input` meets its contract: the bytes read lie within the buffer.
 use mathlib.Core.Path.{sym, subst}
 use Prim.Native.Nat.{_≤_}
 use native.Mathlib.Omega.{arith}

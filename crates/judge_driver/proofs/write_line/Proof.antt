@@ -1,12 +1,14 @@
--- `judge_driver::write_line` meets its contract. Assumes nothing.
+-- `judge_driver::write_line` meets its contract.
 use mathlib.Core.Path.{_≡_, ap, _∙_}
 use mathlib.Core.List.{List, _∷_, [], _++_}
 use Prim.Native.Nat.{ℕ, _+_, _*_}
 use native.Mathlib.Omega.{arith}
 use lib.ListN.{length, take, set}
-use Rattle.hex.specs.Number.{bigEndian, length-bigEndian}
-use Rattle.hex.specs.Text.{hexText, length-hexText}
-use Rattle.judge_driver.specs.Lines.{line-stored}
+use Rattle.hex.specs.Number.{bigEndian}
+use Rattle.hex.proofs.Number.{length-bigEndian}
+use Rattle.hex.specs.Text.{hexText}
+use Rattle.hex.proofs.Text.{length-hexText}
+use Rattle.judge_driver.proofs.Lines.{line-stored}
 use borrow.Author.Needs.{needs}
 use Rattle.judge_driver.proofs.write_line.Statement.{statement}
 use Rattle.judge_driver.proofs.write_line.Tie as tie

@@ -1,5 +1,5 @@
 -- `layout::clear` meets its contract. The invariant: the first `i` words are 0, the others as they were. The measure is what is left
--- of n. Assumes nothing.
+-- of n.
 use mathlib.Core.List.{List}
 use mathlib.Core.Path.{_≡_, ap, _∙_}
 use Prim.Native.Nat.{ℕ, _-_, _≤_}

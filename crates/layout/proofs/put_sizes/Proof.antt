@@ -1,4 +1,4 @@
--- `layout::put_sizes` meets its contract: its three stores are those of `storeSizes`. Assumes nothing.
+-- `layout::put_sizes` meets its contract: its three stores are those of `storeSizes`.
 use borrow.Author.Needs.{needs}
 use Rattle.layout.proofs.put_sizes.Statement.{statement}
 use Rattle.layout.proofs.put_sizes.Tie as tie

@@ -1,4 +1,4 @@
--- `layout::put_word` meets its contract: a store past the end of a list leaves it as it is. Assumes nothing.
+-- `layout::put_word` meets its contract: a store past the end of a list leaves it as it is.
 use mathlib.Core.Path.{sym}
 use borrow.Author.Needs.{needs}
 use lib.Seq.{set-out}

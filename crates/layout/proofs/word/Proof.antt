@@ -1,4 +1,4 @@
--- `layout::word` meets its contract: past the end a list is read as 0. Assumes nothing.
+-- `layout::word` meets its contract: past the end a list is read as 0.
 use mathlib.Core.Path.{sym}
 use borrow.Author.Needs.{needs}
 use lib.ListN.{List·getD-eq-default}

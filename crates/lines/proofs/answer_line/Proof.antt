@@ -1,4 +1,4 @@
--- `lines::answer_line` meets its contract: what the line's call answers is written as its reply. Assumes nothing.
+-- `lines::answer_line` meets its contract: what the line's call answers is written as its reply.
 use borrow.Author.Needs.{needs}
 use mathlib.Core.List.{List}
 use mathlib.Core.Path.{ap, _∙_}

@@ -1,4 +1,4 @@
--- `lines::blank_output` meets its contract. Assumes nothing.
+-- `lines::blank_output` meets its contract.
 use mathlib.Core.Path.{refl}
 use Rattle.lines.specs.Lines.{blank}
 use Rattle.lines.proofs.blank_output.Statement.{statement}

@@ -1,4 +1,4 @@
--- `lines::call` meets its contract, frame by frame; the values of a write are the rest of its bytes. Assumes nothing.
+-- `lines::call` meets its contract, frame by frame; the values of a write are the rest of its bytes.
 use borrow.Author.Needs.{needs}
 use mathlib.Core.Path.{sym, ap, _∙_}
 use mathlib.Core.List.{List}

@@ -1,4 +1,4 @@
--- `lines::carry_out` meets its contract: of a line with a frame the bytes read are the frame's, so that its call is the line's. Assumes nothing.
+-- `lines::carry_out` meets its contract: of a line with a frame the bytes read are the frame's, so that its call is the line's.
 use borrow.Author.Needs.{needs}
 use mathlib.Core.List.{List}
 use mathlib.Core.Path.{_≡_, sym, ap, _∙_}

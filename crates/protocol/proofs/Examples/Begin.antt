@@ -1,4 +1,4 @@
--- The tables that rows of the examples begin on, all of them in range. Assumes nothing.
+-- The tables that rows of the examples begin on, all of them in range.
 use mathlib.Core.List.{List, [], _∷_, _++_, map}
 use Prim.Native.Nat.{ℕ, zero, suc}
 use lib.ListN.{replicate}

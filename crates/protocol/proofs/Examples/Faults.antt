@@ -1,5 +1,4 @@
 -- Tables with one fault each (document 01, 'Tables'): a field out of range, in the order of that sentence, or too much in all.
--- Assumes nothing.
 use mathlib.Core.List.{List, [], _∷_}
 use Rattle.protocol.specs.declared.Version.{Version}
 use Rattle.protocol.specs.declared.Entry.{Entry}

@@ -1,5 +1,5 @@
 -- The words of condition 3 on document 01's whole session, computed: both of its reads, each with its requests, replies and end, and the
--- write stored before the partitions answered the second. So the premises of the condition are met. Assumes nothing.
+-- write stored before the partitions answered the second. So the premises of the condition are met.
 use mathlib.Core.Bool.{Bool, true, not, _&&_, _||_}
 use mathlib.Core.List.{List, [], _∷_, _++_}
 use mathlib.Core.Path.{_≡_, refl}

@@ -1,5 +1,5 @@
 -- A row of the table of examples: where it begins, calls with the answers that document 01 gives them, and a test of the tables after the
--- last one. Answers are texts, as the paper prints them, and owe nothing to the definitions that they are held against. Assumes nothing.
+-- last one. Answers are texts, as the paper prints them, and owe nothing to the definitions that they are held against.
 use mathlib.Core.Bool.{Bool, true, false, _&&_}
 use mathlib.Core.List.{List, [], _∷_}
 use Prim.Native.Nat.{ℕ, suc, _/_, _%_}

@@ -1,5 +1,5 @@
 -- The delivery of a reply: its client no longer awaits the item, and no other message was for it. Shared by the prepared reply and
--- the got. Assumes nothing.
+-- the got.
 use mathlib.Core.Bool.{true, false, cond, _&&_}
 use mathlib.Core.List.{List, _++_}
 use mathlib.Core.Path.{_≡_, refl, sym, _∙_, subst}
@@ -7,10 +7,11 @@ use Prim.Native.Nat.{ℕ, _+_}
 use native.Mathlib.Omega.{arith}
 use lib.Dec.{eqb}
 use borrow.Author.Tests.{eqb-true, eqb-false, ne-eqb}
-use Rattle.basics.specs.Cases.{by-test, not-both, eqb-same}
-use Rattle.basics.specs.Lists.{In, in-without, counted, counted-append, without}
+use Rattle.basics.proofs.Cases.{by-test, not-both, eqb-same}
+use Rattle.basics.specs.Lists.{In, counted, without}
+use Rattle.basics.proofs.Lists.{in-without, counted-append}
 use Rattle.itemset.specs.Set.{has, remove}
-use Rattle.itemset.specs.Laws.{has-empty, has-remove-same, has-remove-other}
+use Rattle.itemset.proofs.Laws.{has-empty, has-remove-same, has-remove-other}
 use Rattle.protocol.specs.declared.Message.{Message}
 use Rattle.protocol.specs.Tables.{Client, put}
 use Rattle.protocol.specs.Range.{Capacities}

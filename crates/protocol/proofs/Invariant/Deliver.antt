@@ -1,12 +1,13 @@
--- Each delivery keeps the invariant: what the five kinds share, then kind by kind. Assumes nothing.
+-- Each delivery keeps the invariant: what the five kinds share, then kind by kind.
 use mathlib.Core.Bool.{true, false, cond}
 use mathlib.Core.List.{List, [], _∷_, _++_, map, append-nil}
 use mathlib.Core.Logic.{inl, ⊎-elim}
 use mathlib.Core.Path.{_≡_, sym, ap, ap₂, _∙_, subst}
 use Prim.Native.Nat.{ℕ, suc, _<_}
 use native.Mathlib.Omega.{arith}
-use Rattle.basics.specs.Cases.{by-test}
-use Rattle.basics.specs.Lists.{In, in-append, counted, without, in-without, in-map, map-without, map-append}
+use Rattle.basics.proofs.Cases.{by-test}
+use Rattle.basics.specs.Lists.{In, counted, without}
+use Rattle.basics.proofs.Lists.{in-append, in-without, in-map, map-without, map-append}
 use Rattle.itemset.specs.Set.{has, upto}
 use Rattle.protocol.specs.declared.Version.{Version}
 use Rattle.protocol.specs.declared.Message.{Message}

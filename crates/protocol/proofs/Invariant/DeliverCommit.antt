@@ -1,4 +1,4 @@
--- The delivery of a commit keeps the invariant: the latest that an item takes is of a whole write. Assumes nothing.
+-- The delivery of a commit keeps the invariant: the latest that an item takes is of a whole write.
 use mathlib.Core.Bool.{true, cond, _&&_}
 use mathlib.Core.List.{[], _++_}
 use mathlib.Core.Path.{_≡_, refl, sym, ap, _∙_, subst}
@@ -6,8 +6,9 @@ use Prim.Native.Nat.{ℕ, suc}
 use native.Mathlib.Nat.{le-suc}
 use native.Mathlib.Omega.{arith}
 use lib.Dec.{eqb}
-use Rattle.basics.specs.Cases.{by-test, and-right, or-right}
-use Rattle.basics.specs.Lists.{counted, counted-append, without}
+use Rattle.basics.proofs.Cases.{by-test, and-right, or-right}
+use Rattle.basics.specs.Lists.{counted, without}
+use Rattle.basics.proofs.Lists.{counted-append}
 use Rattle.itemset.specs.Set.{has}
 use Rattle.protocol.specs.declared.Version.{Version}
 use Rattle.protocol.specs.declared.Message.the-variants.{Commit}

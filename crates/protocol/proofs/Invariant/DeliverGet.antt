@@ -1,5 +1,5 @@
 -- The delivery of a get keeps the invariant: the reply holds the value of the very write that was asked for, which was stored in all its
--- partitions before. Assumes nothing.
+-- partitions before.
 use mathlib.Core.Bool.{true, false, cond}
 use mathlib.Core.List.{[], _∷_, _++_}
 use mathlib.Core.Logic.{inl, ⊎-elim}
@@ -9,10 +9,11 @@ use native.Mathlib.Nat.{le-refl, le-suc}
 use native.Mathlib.Omega.{arith}
 use lib.Dec.{eqb}
 use borrow.Author.Tests.{eqb-true}
-use Rattle.basics.specs.Cases.{by-test, not-both, or-cases, eqb-same}
-use Rattle.basics.specs.Lists.{In, counted, counted-append, without}
+use Rattle.basics.proofs.Cases.{by-test, not-both, or-cases, eqb-same}
+use Rattle.basics.specs.Lists.{In, counted, without}
+use Rattle.basics.proofs.Lists.{counted-append}
 use Rattle.itemset.specs.Set.{has}
-use Rattle.itemset.specs.Laws.{has-empty}
+use Rattle.itemset.proofs.Laws.{has-empty}
 use Rattle.protocol.specs.declared.Version.{Version}
 use Rattle.protocol.specs.declared.Message.{Message}
 use Rattle.protocol.specs.declared.Message.the-variants.{Get, Got}

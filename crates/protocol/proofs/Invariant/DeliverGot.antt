@@ -1,15 +1,14 @@
 -- The delivery of a got keeps the invariant: the answer kept is the value of the write that was asked for, and the view takes a sound entry.
--- Assumes nothing.
 use mathlib.Core.Bool.{true, false, not}
 use mathlib.Core.List.{[]}
 use mathlib.Core.Path.{_≡_, refl, sym, _∙_, subst}
 use Prim.Native.Nat.{ℕ, suc}
 use native.Mathlib.Nat.{le-suc}
 use lib.Dec.{eqb}
-use Rattle.basics.specs.Cases.{by-test, and-right}
+use Rattle.basics.proofs.Cases.{by-test, and-right}
 use Rattle.basics.specs.Lists.{counted}
 use Rattle.itemset.specs.Set.{has, remove}
-use Rattle.itemset.specs.Laws.{has-empty, has-remove}
+use Rattle.itemset.proofs.Laws.{has-empty, has-remove}
 use Rattle.protocol.specs.declared.Version.{Version}
 use Rattle.protocol.specs.declared.Entry.{Entry}
 use Rattle.protocol.specs.declared.Message.the-variants.{Got}

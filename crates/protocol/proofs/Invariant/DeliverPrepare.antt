@@ -1,5 +1,4 @@
 -- The delivery of a prepare keeps the invariant: the version is stored, as its write put it, and the prepared reply stands for the prepare.
--- Assumes nothing.
 use mathlib.Core.Bool.{true, false, cond}
 use mathlib.Core.List.{[], _∷_, _++_}
 use mathlib.Core.Logic.{inl, ⊎-elim}
@@ -9,8 +8,9 @@ use native.Mathlib.Nat.{le-suc}
 use native.Mathlib.Omega.{arith}
 use lib.Dec.{eqb}
 use borrow.Author.Tests.{eqb-true}
-use Rattle.basics.specs.Cases.{by-test, not-both, and-left, and-right, eqb-same}
-use Rattle.basics.specs.Lists.{In, in-right, in-append, counted, counted-append, without}
+use Rattle.basics.proofs.Cases.{by-test, not-both, and-left, and-right, eqb-same}
+use Rattle.basics.specs.Lists.{In, counted, without}
+use Rattle.basics.proofs.Lists.{in-right, in-append, counted-append}
 use Rattle.itemset.specs.Set.{has}
 use Rattle.protocol.specs.declared.Version.{Version}
 use Rattle.protocol.specs.declared.Message.{Message}

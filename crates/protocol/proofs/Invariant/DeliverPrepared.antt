@@ -1,5 +1,5 @@
 -- The delivery of a prepared reply keeps the invariant: with the last one every item of the write is stored, so that the write is whole
--- where the view takes it and in its commits. Assumes nothing.
+-- where the view takes it and in its commits.
 use mathlib.Core.Bool.{true, false, cond, not}
 use mathlib.Core.List.{List, []}
 use mathlib.Core.Path.{_≡_, refl, sym, ap, _∙_, subst}
@@ -7,10 +7,11 @@ use Prim.Native.Nat.{ℕ, suc}
 use native.Mathlib.Nat.{le-suc}
 use lib.Dec.{eqb}
 use borrow.Author.Tests.{eqb-true, eqb-false}
-use Rattle.basics.specs.Cases.{by-test, and-right, or-right}
-use Rattle.basics.specs.Lists.{In, counted, none-counted, in-map}
+use Rattle.basics.proofs.Cases.{by-test, and-right, or-right}
+use Rattle.basics.specs.Lists.{In, counted}
+use Rattle.basics.proofs.Lists.{none-counted, in-map}
 use Rattle.itemset.specs.Set.{has, remove, upto}
-use Rattle.itemset.specs.Laws.{has-empty, has-remove, has-remove-other}
+use Rattle.itemset.proofs.Laws.{has-empty, has-remove, has-remove-other}
 use Rattle.protocol.specs.declared.Entry.{Entry}
 use Rattle.protocol.specs.declared.Message.{Message}
 use Rattle.protocol.specs.declared.Message.the-variants.{Prepared, Commit}

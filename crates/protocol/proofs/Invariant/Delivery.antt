@@ -1,12 +1,13 @@
--- What every delivery shares: the message that is taken out, those that stay, and what each of them fits. Assumes nothing.
+-- What every delivery shares: the message that is taken out, those that stay, and what each of them fits.
 use mathlib.Core.Bool.{Bool, true, false, cond}
 use mathlib.Core.List.{List, [], _∷_, _++_, map}
 use mathlib.Core.Path.{_≡_, refl, sym, ap, _∙_, subst}
 use Prim.Native.Nat.{ℕ, suc, _+_, _≤_}
 use native.Mathlib.Omega.{arith}
 use lib.ListN.{length, getD, length-map, List·getD-map}
-use Rattle.basics.specs.Cases.{by-test}
-use Rattle.basics.specs.Lists.{In, counted, counted-in, counted-none, without, in-without, map-in, map-without}
+use Rattle.basics.proofs.Cases.{by-test}
+use Rattle.basics.specs.Lists.{In, counted, without}
+use Rattle.basics.proofs.Lists.{counted-in, counted-none, in-without, map-in, map-without}
 use Rattle.itemset.specs.Set.{has}
 use Rattle.protocol.specs.declared.Message.{Message}
 use Rattle.protocol.specs.declared.Message.the-variants.{Commit}

@@ -1,12 +1,13 @@
--- What is said against the history stays true as it grows. Assumes nothing.
+-- What is said against the history stays true as it grows.
 use mathlib.Core.Bool.{true, false}
 use mathlib.Core.List.{List, _++_}
 use mathlib.Core.Path.{_≡_, refl, _∙_}
 use Prim.Native.Nat.{ℕ, _≤_}
 use native.Mathlib.Nat.{le-refl, lt-of-lt-of-le}
 use lib.Dec.{ltb}
-use Rattle.basics.specs.Cases.{by-test, eqb-same}
-use Rattle.basics.specs.Lists.{In, in-left}
+use Rattle.basics.proofs.Cases.{by-test, eqb-same}
+use Rattle.basics.specs.Lists.{In}
+use Rattle.basics.proofs.Lists.{in-left}
 use Rattle.protocol.specs.declared.Version.{Version}
 use Rattle.protocol.specs.declared.Entry.{Entry}
 use Rattle.protocol.specs.declared.Message.{Message}

@@ -1,4 +1,4 @@
--- What both starts share: an idle client takes a transaction, with one message for each item of its set. Assumes nothing.
+-- What both starts share: an idle client takes a transaction, with one message for each item of its set.
 use mathlib.Core.Bool.{Bool, true, false, cond, _&&_}
 use mathlib.Core.List.{List, [], _++_, map}
 use mathlib.Core.Logic.{⊎-elim}
@@ -8,10 +8,11 @@ use native.Mathlib.Nat.{le-suc, not-suc-le-zero}
 use native.Mathlib.Omega.{arith}
 use lib.Dec.{eqb, ltb}
 use borrow.Author.Tests.{eqb-true, eqb-false, eq-eqb, ne-eqb, ltb-true, ltb-false}
-use Rattle.basics.specs.Cases.{by-test, not-both, eqb-same}
-use Rattle.basics.specs.Lists.{In, in-append, counted, counted-append, counted-map, counted-ext, none-counted, in-map, map-append}
+use Rattle.basics.proofs.Cases.{by-test, not-both, eqb-same}
+use Rattle.basics.specs.Lists.{In, counted}
+use Rattle.basics.proofs.Lists.{in-append, counted-append, counted-map, counted-ext, none-counted, in-map, map-append}
 use Rattle.itemset.specs.Set.{has, upto, only, members}
-use Rattle.itemset.specs.Laws.{has-above}
+use Rattle.itemset.proofs.Laws.{has-above}
 use Rattle.protocol.specs.declared.Message.{Message}
 use Rattle.protocol.specs.Tables.{Client, Mode, idle, numberOf, writerOf, withClient, withMessages}
 use Rattle.protocol.specs.Range.{Capacities, valid}

@@ -1,5 +1,5 @@
 -- The start of a read keeps the invariant: the stamps it asks for are those of sound entries of the view, and where one is a write's, no
--- other item of that write is asked older. Assumes nothing.
+-- other item of that write is asked older.
 use mathlib.Core.Bool.{true, _||_}
 use mathlib.Core.List.{[]}
 use mathlib.Core.Logic.{⊎-elim}
@@ -7,9 +7,9 @@ use mathlib.Core.Path.{_≡_, refl, sym, _∙_, subst}
 use Prim.Native.Nat.{ℕ, _^_, _≤_, _<_}
 use native.Mathlib.Nat.{le-trans, le-of-eq}
 use lib.Dec.{eqb}
-use Rattle.basics.specs.Cases.{or-right}
+use Rattle.basics.proofs.Cases.{or-right}
 use Rattle.itemset.specs.Set.{has}
-use Rattle.itemset.specs.Laws.{has-below}
+use Rattle.itemset.proofs.Laws.{has-below}
 use Rattle.protocol.specs.declared.Entry.{Entry}
 use Rattle.protocol.specs.declared.Message.the-variants.{Get}
 use Rattle.protocol.specs.Tables.{Client, idle, writerOf}

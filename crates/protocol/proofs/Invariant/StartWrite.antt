@@ -1,5 +1,5 @@
 -- The start of a write keeps the invariant: its stamp is newer than any of its client's, so no write has it, and nothing is stored
--- under it. Assumes nothing.
+-- under it.
 use mathlib.Core.Bool.{true, false}
 use mathlib.Core.List.{List, [], _∷_}
 use mathlib.Core.Logic.{_⊎_, inl, inr, ⊎-elim}
@@ -7,8 +7,9 @@ use mathlib.Core.Path.{_≡_, refl, sym, ap, _∙_, subst}
 use Prim.Native.Nat.{ℕ, suc, _^_, _≤_, _<_}
 use native.Mathlib.Nat.{le-refl, le-suc, le-trans}
 use native.Mathlib.Omega.{arith}
-use Rattle.basics.specs.Cases.{by-test, not-both}
-use Rattle.basics.specs.Lists.{In, in-right, in-append}
+use Rattle.basics.proofs.Cases.{by-test, not-both}
+use Rattle.basics.specs.Lists.{In}
+use Rattle.basics.proofs.Lists.{in-right, in-append}
 use Rattle.protocol.specs.declared.Message.{Message}
 use Rattle.protocol.specs.declared.Message.the-variants.{Prepare}
 use Rattle.protocol.specs.Tables.{Client, idle, numberOf, writerOf, put}

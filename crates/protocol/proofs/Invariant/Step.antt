@@ -1,4 +1,4 @@
--- Every call keeps the invariant, accepted or refused, and freshly made tables have it. Assumes nothing.
+-- Every call keeps the invariant, accepted or refused, and freshly made tables have it.
 use mathlib.Core.Bool.{true, false, cond}
 use mathlib.Core.List.{List, [], _++_, append-nil}
 use mathlib.Core.Logic.{inl, ⊎-elim}
@@ -7,9 +7,10 @@ use Prim.Native.Nat.{ℕ, suc, _+_, _≤_, _<_, zero-le}
 use native.Mathlib.Nat.{le-suc}
 use native.Mathlib.Omega.{arith}
 use borrow.Author.Tests.{eqb-true}
-use Rattle.basics.specs.Cases.{by-test, not-both}
-use Rattle.basics.specs.Lists.{In, in-getD, counted, counted-without, without}
-use Rattle.itemset.specs.Laws.{has-empty}
+use Rattle.basics.proofs.Cases.{by-test, not-both}
+use Rattle.basics.specs.Lists.{In, counted, without}
+use Rattle.basics.proofs.Lists.{in-getD, counted-without}
+use Rattle.itemset.proofs.Laws.{has-empty}
 use Rattle.protocol.specs.declared.Message.{Message}
 use Rattle.protocol.specs.declared.Message.the-variants.{Prepare, Prepared, Commit, Get, Got}
 use Rattle.protocol.specs.Tables.{Sizes, initial, numberOf, withMessages}

@@ -1,4 +1,4 @@
--- Tables in range stay so when a field changes to values in range. Assumes nothing.
+-- Tables in range stay so when a field changes to values in range.
 use mathlib.Core.List.{List}
 use Prim.Native.Nat.{ℕ}
 use Rattle.protocol.specs.declared.Version.{Version}

@@ -1,5 +1,4 @@
 -- A delivery keeps the tables in range: whatever it stores, shows or sends was in the message, the client, a latest or a stored version.
--- Assumes nothing.
 use mathlib.Core.List.{[], _∷_, _++_}
 use mathlib.Core.Path.{sym, subst}
 use Prim.Native.Nat.{ℕ}

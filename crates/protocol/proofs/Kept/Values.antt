@@ -1,4 +1,4 @@
--- The stamps, entries and clients that a step makes are in range, where those that it makes them from are. Assumes nothing.
+-- The stamps, entries and clients that a step makes are in range, where those that it makes them from are.
 use mathlib.Core.Bool.{true, false, not, _&&_}
 use mathlib.Core.List.{List, [], _∷_}
 use mathlib.Core.Logic.{inl, inr}
@@ -9,9 +9,9 @@ use native.Mathlib.Omega.{arith}
 use lib.Dec.{eqb, leb, ltb}
 use lib.Pow.{pow-pos}
 use borrow.Author.Tests.{leb-true, leb-false}
-use Rattle.basics.specs.Cases.{by-test, and-right}
+use Rattle.basics.proofs.Cases.{by-test, and-right}
 use Rattle.itemset.specs.Set.{has}
-use Rattle.itemset.specs.Laws.{has-remove, remove-le}
+use Rattle.itemset.proofs.Laws.{has-remove, remove-le}
 use Rattle.protocol.specs.declared.Version.{Version}
 use Rattle.protocol.specs.declared.Entry.{Entry}
 use Rattle.protocol.specs.Tables.{Sizes, Tables, Client, Ended, read, write, reading, writing, laterOf, partitionOf, resting, put}

@@ -1,12 +1,12 @@
--- What the tests of a client, its mode and its last ended transaction tell, as records of plain facts, both ways. Assumes nothing.
+-- What the tests of a client, its mode and its last ended transaction tell, as records of plain facts, both ways.
 use mathlib.Core.Bool.{true}
 use mathlib.Core.Logic.{_↔_}
 use mathlib.Core.Path.{_≡_, refl, ap}
 use Prim.Native.Nat.{ℕ, _^_, _<_}
 use lib.Dec.{eqb}
-use Rattle.basics.specs.Cases.{not-both}
+use Rattle.basics.proofs.Cases.{not-both}
 use Rattle.itemset.specs.Set.{has}
-use Rattle.itemset.specs.Laws.{has-below}
+use Rattle.itemset.proofs.Laws.{has-below}
 use Rattle.protocol.specs.Tables.{Sizes, Client, Mode, idle, reading, writing, Ended, nothing, read, write}
 use Rattle.protocol.specs.Range.{clientInRange, endedInRange, isIdle, isReading, isWriting}
 use Rattle.protocol.proofs.Ranges.Values.{StampInRange, parts}

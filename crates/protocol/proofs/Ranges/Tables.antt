@@ -1,4 +1,4 @@
--- What the tests of the whole tables tell, as records of plain facts, both ways: what is in range, and what is valid. Assumes nothing.
+-- What the tests of the whole tables tell, as records of plain facts, both ways: what is in range, and what is valid.
 use mathlib.Core.Bool.{true}
 use mathlib.Core.Logic.{_↔_}
 use mathlib.Core.Path.{_≡_}

@@ -1,5 +1,5 @@
 -- What the tests of sizes, stamps, entries, versions and messages tell, as records of plain facts, both ways: a law `tells-x` reads
--- the facts off the test (`.0`) and proves the test from the facts (`.1`). Assumes nothing.
+-- the facts off the test (`.0`) and proves the test from the facts (`.1`).
 use mathlib.Core.Bool.{true}
 use mathlib.Core.Logic.{_↔_, _≢_}
 use mathlib.Core.Path.{_≡_}

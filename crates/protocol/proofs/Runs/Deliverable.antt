@@ -1,4 +1,4 @@
--- A delivery at any place within the messages in flight is accepted: what fits its client's transaction is expected. Assumes nothing.
+-- A delivery at any place within the messages in flight is accepted: what fits its client's transaction is expected.
 use mathlib.Core.Bool.{true}
 use mathlib.Core.Logic.{⊎-elim}
 use mathlib.Core.Path.{_≡_, sym, subst}
@@ -6,8 +6,9 @@ use Prim.Native.Nat.{ℕ, _<_}
 use lib.Dec.{eqb}
 use lib.ListN.{length}
 use borrow.Author.Tests.{eqb-true}
-use Rattle.basics.specs.Cases.{eqb-same, or-cases}
-use Rattle.basics.specs.Lists.{In, in-getD}
+use Rattle.basics.proofs.Cases.{eqb-same, or-cases}
+use Rattle.basics.specs.Lists.{In}
+use Rattle.basics.proofs.Lists.{in-getD}
 use Rattle.itemset.specs.Set.{has}
 use Rattle.protocol.specs.declared.Message.{Message}
 use Rattle.protocol.specs.declared.Message.the-variants.{Prepare, Prepared, Commit, Get, Got}

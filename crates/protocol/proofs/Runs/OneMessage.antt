@@ -1,11 +1,12 @@
--- While a read is under way each item it awaits has exactly one message in flight, its get or its got. Assumes nothing.
+-- While a read is under way each item it awaits has exactly one message in flight, its get or its got.
 use mathlib.Core.Bool.{true, and-false}
 use mathlib.Core.Path.{_≡_, refl, sym, ap, _∙_, subst}
 use Prim.Native.Nat.{ℕ}
 use lib.Dec.{eqb}
 use borrow.Author.Tests.{eqb-true}
-use Rattle.basics.specs.Cases.{by-test}
-use Rattle.basics.specs.Lists.{In, counted, counted-map, counted-ext}
+use Rattle.basics.proofs.Cases.{by-test}
+use Rattle.basics.specs.Lists.{In, counted}
+use Rattle.basics.proofs.Lists.{counted-map, counted-ext}
 use Rattle.itemset.specs.Set.{has}
 use Rattle.protocol.specs.declared.Message.{Message}
 use Rattle.protocol.specs.declared.Message.the-variants.{Prepare, Prepared, Commit, Get, Got}

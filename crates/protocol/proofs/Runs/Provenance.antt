@@ -1,9 +1,9 @@
 -- Where the history comes from: each write that a run adds is an accepted start of the list, and each store the delivery of a prepare.
--- Assumes nothing.
 use mathlib.Core.List.{List, [], _∷_}
 use mathlib.Core.Logic.{_⊎_, _↔_, inl, inr, ⊎-elim}
 use mathlib.Core.Path.{_≡_, refl, sym, ap, _∙_, subst}
-use Rattle.basics.specs.Lists.{In, in-right, in-append}
+use Rattle.basics.specs.Lists.{In}
+use Rattle.basics.proofs.Lists.{in-right, in-append}
 use Rattle.protocol.specs.Range.{Capacities}
 use Rattle.protocol.specs.Calls.{Call, refusal}
 use Rattle.protocol.specs.Condition3.{AddedBy}

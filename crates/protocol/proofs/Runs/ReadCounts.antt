@@ -1,4 +1,4 @@
--- A read in a list of calls: its requests, its replies and its end, counted. Assumes nothing.
+-- A read in a list of calls: its requests, its replies and its end, counted.
 use mathlib.Core.Bool.{true, cond}
 use mathlib.Core.List.{List, [], _∷_, _++_, append-nil}
 use mathlib.Core.Logic.{_↔_}
@@ -6,10 +6,11 @@ use mathlib.Core.Path.{_≡_, refl, sym, ap, _∙_, subst}
 use Prim.Native.Nat.{ℕ, _<_}
 use native.Mathlib.Omega.{arith}
 use borrow.Author.Tests.{eq-eqb, eqb-false}
-use Rattle.basics.specs.Cases.{by-test}
-use Rattle.basics.specs.Lists.{counted, counted-append}
+use Rattle.basics.proofs.Cases.{by-test}
+use Rattle.basics.specs.Lists.{counted}
+use Rattle.basics.proofs.Lists.{counted-append}
 use Rattle.itemset.specs.Set.{has, count}
-use Rattle.itemset.specs.Counts.{count-zero}
+use Rattle.itemset.proofs.Counts.{count-zero}
 use Rattle.protocol.specs.Range.{Capacities}
 use Rattle.protocol.specs.Steps.{reader}
 use Rattle.protocol.specs.Calls.{Call, startRead, refusal, step}

@@ -1,4 +1,4 @@
--- What a read shows once it has ended: the stamps it asked for and the values of their writes, read off the output bytes. Assumes nothing.
+-- What a read shows once it has ended: the stamps it asked for and the values of their writes, read off the output bytes.
 use mathlib.Core.Bool.{true}
 use mathlib.Core.List.{List, [], _∷_, _++_}
 use mathlib.Core.Logic.{_⊎_, inl, inr, ⊎-elim}
@@ -9,10 +9,11 @@ use native.Mathlib.Omega.{arith}
 use lib.Dec.{eqb}
 use lib.ListN.{length}
 use borrow.Author.Tests.{eqb-true}
-use Rattle.basics.specs.Cases.{not-both, or-cases}
-use Rattle.basics.specs.Lists.{In, in-left}
+use Rattle.basics.proofs.Cases.{not-both, or-cases}
+use Rattle.basics.specs.Lists.{In}
+use Rattle.basics.proofs.Lists.{in-left}
 use Rattle.itemset.specs.Set.{has, count}
-use Rattle.itemset.specs.Laws.{has-empty}
+use Rattle.itemset.proofs.Laws.{has-empty}
 use Rattle.protocol.specs.Tables.{Client, read, idle, resting, numberOf, writerOf}
 use Rattle.protocol.specs.Range.{Capacities}
 use Rattle.protocol.specs.Steps.{reader, nextStamp}

@@ -1,5 +1,5 @@
 -- A read under way: what it asked for stays, each reply strikes one item from those awaited and brings the value of the write asked for,
--- and the reply that strikes the last one ends it. Assumes nothing.
+-- and the reply that strikes the last one ends it.
 use mathlib.Core.Bool.{Bool, true, false, cond}
 use mathlib.Core.List.{List, [], _∷_, _++_}
 use mathlib.Core.Logic.{inl}
@@ -8,11 +8,12 @@ use Prim.Native.Nat.{ℕ, zero, suc, _+_}
 use native.Mathlib.Omega.{arith}
 use lib.Dec.{eqb}
 use borrow.Author.Tests.{eqb-true, eqb-false}
-use Rattle.basics.specs.Cases.{by-test, eqb-same}
-use Rattle.basics.specs.Lists.{In, in-left, in-right, counted, counted-append, none-counted}
+use Rattle.basics.proofs.Cases.{by-test, eqb-same}
+use Rattle.basics.specs.Lists.{In, counted}
+use Rattle.basics.proofs.Lists.{in-left, in-right, counted-append, none-counted}
 use Rattle.itemset.specs.Set.{has, count, remove}
-use Rattle.itemset.specs.Laws.{has-empty, has-remove-same, has-remove-other}
-use Rattle.itemset.specs.Counts.{count-empty, count-remove}
+use Rattle.itemset.proofs.Laws.{has-empty, has-remove-same, has-remove-other}
+use Rattle.itemset.proofs.Counts.{count-empty, count-remove}
 use Rattle.protocol.specs.declared.Version.{Version}
 use Rattle.protocol.specs.declared.Entry.{Entry}
 use Rattle.protocol.specs.declared.Message.{Message}

@@ -1,11 +1,11 @@
--- A call while a read is under way: the read goes on, or the delivery of its last reply ends it. Assumes nothing.
+-- A call while a read is under way: the read goes on, or the delivery of its last reply ends it.
 use mathlib.Core.Bool.{true, false, cond, and-false}
 use mathlib.Core.List.{List, [], _++_}
 use mathlib.Core.Logic.{_⊎_, inl, inr, ⊎-elim}
 use mathlib.Core.Path.{_≡_, refl, sym, ap, _∙_, subst}
 use Prim.Native.Nat.{ℕ}
 use borrow.Author.Tests.{eqb-true, eq-eqb}
-use Rattle.basics.specs.Cases.{by-test, not-both}
+use Rattle.basics.proofs.Cases.{by-test, not-both}
 use Rattle.basics.specs.Lists.{In, counted}
 use Rattle.itemset.specs.Set.{has, count}
 use Rattle.protocol.specs.declared.Version.{Version}

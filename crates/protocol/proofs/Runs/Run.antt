@@ -1,5 +1,5 @@
 -- Lists of calls: a run of two lists is a run of the second after the first, the invariant holds throughout, and sizes, views and the
--- history only stay or grow. Assumes nothing.
+-- history only stay or grow.
 use mathlib.Core.Bool.{true, false, cond}
 use mathlib.Core.List.{List, [], _∷_, _++_, append-assoc}
 use mathlib.Core.Logic.{inl, inr}
@@ -8,8 +8,9 @@ use Prim.Native.Nat.{ℕ, _≤_}
 use native.Mathlib.Nat.{le-refl, le-trans, le-of-lt}
 use lib.Dec.{ltb}
 use borrow.Author.Tests.{eqb-true, eq-eqb, ltb-true}
-use Rattle.basics.specs.Cases.{by-test}
-use Rattle.basics.specs.Lists.{In, in-left}
+use Rattle.basics.proofs.Cases.{by-test}
+use Rattle.basics.specs.Lists.{In}
+use Rattle.basics.proofs.Lists.{in-left}
 use Rattle.itemset.specs.Set.{has}
 use Rattle.protocol.specs.declared.Entry.{Entry}
 use Rattle.protocol.specs.declared.Message.{Message}

@@ -1,5 +1,5 @@
 -- A showing of a read that is its client's last transaction: accepted with room enough, and its output bytes say the read's stamps and
--- values. Assumes nothing.
+-- values.
 use mathlib.Core.Bool.{true}
 use mathlib.Core.List.{List, _∷_, _++_}
 use mathlib.Core.Path.{_≡_, ap, _∙_, subst}
@@ -8,10 +8,10 @@ use native.Mathlib.Omega.{arith}
 use lib.Dec.{eqb}
 use lib.ListN.{length, take, drop}
 use borrow.Author.Tests.{eqb-true, eqb-false}
-use Rattle.basics.specs.Cases.{by-test}
+use Rattle.basics.proofs.Cases.{by-test}
 use Rattle.hex.specs.Number.{numberAt, bigEndian}
 use Rattle.itemset.specs.Set.{has, count, rank}
-use Rattle.itemset.specs.Laws.{below-le}
+use Rattle.itemset.proofs.Laws.{below-le}
 use Rattle.protocol.specs.declared.Answer.the-variants.{Shown}
 use Rattle.protocol.specs.Tables.{Client, read, idle, resting, numberOf, writerOf}
 use Rattle.protocol.specs.Range.{Capacities}

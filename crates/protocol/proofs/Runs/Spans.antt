@@ -1,4 +1,4 @@
--- From a transaction's start over a list of calls: a read under way, and a client at rest. Assumes nothing.
+-- From a transaction's start over a list of calls: a read under way, and a client at rest.
 use mathlib.Core.Bool.{true, false, cond, not, _&&_, and-false}
 use mathlib.Core.List.{List, [], _∷_, _++_, append-assoc, append-nil}
 use mathlib.Core.Path.{_≡_, refl, sym, ap, _∙_, subst}
@@ -7,10 +7,11 @@ use native.Mathlib.Nat.{zero-add}
 use native.Mathlib.Omega.{arith}
 use lib.Dec.{eqb}
 use borrow.Author.Tests.{eqb-true, eq-eqb, ne-eqb}
-use Rattle.basics.specs.Cases.{by-test, not-both, and-left, and-right, and-both, not-true, eqb-same}
-use Rattle.basics.specs.Lists.{counted, counted-append, counted-map, counted-all}
+use Rattle.basics.proofs.Cases.{by-test, not-both, and-left, and-right, and-both, not-true, eqb-same}
+use Rattle.basics.specs.Lists.{counted}
+use Rattle.basics.proofs.Lists.{counted-append, counted-map, counted-all}
 use Rattle.itemset.specs.Set.{has, count, members}
-use Rattle.itemset.specs.Members.{length-members}
+use Rattle.itemset.proofs.Members.{length-members}
 use Rattle.protocol.specs.declared.Message.the-variants.{Get}
 use Rattle.protocol.specs.Tables.{Client, idle}
 use Rattle.protocol.specs.Range.{Capacities}

@@ -1,5 +1,5 @@
 -- Which calls touch a client's record: its own starts, and the deliveries of its prepared replies and gots; any other leaves it as it
--- was, sends it no request and brings it no reply. Assumes nothing.
+-- was, sends it no request and brings it no reply.
 use mathlib.Core.Bool.{Bool, true, false, and-false}
 use mathlib.Core.List.{List, [], map}
 use mathlib.Core.Logic.{inl, ⊎-elim}
@@ -7,8 +7,9 @@ use mathlib.Core.Path.{_≡_, refl, sym, ap, _∙_, subst}
 use Prim.Native.Nat.{ℕ, zero, suc}
 use lib.Dec.{eqb}
 use borrow.Author.Tests.{eqb-true, eqb-false, eq-eqb}
-use Rattle.basics.specs.Cases.{by-test, not-both, and-left, and-right, eqb-same}
-use Rattle.basics.specs.Lists.{In, counted, none-counted, in-map}
+use Rattle.basics.proofs.Cases.{by-test, not-both, and-left, and-right, eqb-same}
+use Rattle.basics.specs.Lists.{In, counted}
+use Rattle.basics.proofs.Lists.{none-counted, in-map}
 use Rattle.itemset.specs.Set.{upto}
 use Rattle.protocol.specs.declared.Version.{Version}
 use Rattle.protocol.specs.declared.Entry.{Entry}

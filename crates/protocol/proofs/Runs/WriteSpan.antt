@@ -1,5 +1,4 @@
 -- A write under way, up to its end: its stamp and set stay, and with its end its client's view is nowhere older on the items written.
--- Assumes nothing.
 use mathlib.Core.Bool.{true, false, cond, not, and-false}
 use mathlib.Core.List.{List, [], _∷_}
 use mathlib.Core.Logic.{_⊎_, inl, inr, ⊎-elim}
@@ -8,7 +7,7 @@ use Prim.Native.Nat.{ℕ, _≤_}
 use native.Mathlib.Nat.{le-refl}
 use lib.Dec.{ltb}
 use borrow.Author.Tests.{eqb-true, eq-eqb, ltb-false}
-use Rattle.basics.specs.Cases.{by-test, not-both, and-left, and-right, not-true}
+use Rattle.basics.proofs.Cases.{by-test, not-both, and-left, and-right, not-true}
 use Rattle.itemset.specs.Set.{has}
 use Rattle.protocol.specs.declared.Entry.{Entry}
 use Rattle.protocol.specs.declared.Message.{Message}

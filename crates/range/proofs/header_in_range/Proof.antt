@@ -1,4 +1,4 @@
--- `range::header_in_range` meets its contract: it is the definition, test by test. Assumes nothing.
+-- `range::header_in_range` meets its contract: it is the definition, test by test.
 use mathlib.Core.Path.{refl}
 use Rattle.protocol.specs.Range.{sizesInRange}
 use Rattle.range.proofs.header_in_range.Statement.{statement}

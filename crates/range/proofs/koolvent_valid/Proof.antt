@@ -1,4 +1,4 @@
--- `range::koolvent_valid` meets its contract. Assumes nothing.
+-- `range::koolvent_valid` meets its contract.
 use borrow.Author.Needs.{needs}
 use mathlib.Core.Bool.{Bool, cond}
 use mathlib.Core.Path.{sym, ap, _∙_}

@@ -1,4 +1,4 @@
--- `range::long_block` meets its contract: the header's words first, then all that they lead to. Assumes nothing.
+-- `range::long_block` meets its contract: the header's words first, then all that they lead to.
 use borrow.Author.Needs.{needs}
 use Rattle.range.proofs.BlockTests.{header-bounds, long-tests, long-header}
 use Rattle.range.proofs.long_block.Statement.{statement}

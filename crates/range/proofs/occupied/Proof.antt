@@ -1,4 +1,4 @@
--- `range::occupied` meets its contract: the counts of a valid block are within those that the function takes. Assumes nothing.
+-- `range::occupied` meets its contract: the counts of a valid block are within those that the function takes.
 use mathlib.Core.Path.{_∙_}
 use native.Mathlib.Omega.{arith}
 use borrow.Author.Needs.{needs}

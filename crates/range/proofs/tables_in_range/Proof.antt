@@ -1,4 +1,4 @@
--- `range::tables_in_range` meets its contract: its parts in their order. Assumes nothing.
+-- `range::tables_in_range` meets its contract: its parts in their order.
 use borrow.Author.Needs.{needs}
 use Rattle.range.proofs.BlockTests.{tables-tests}
 use Rattle.range.proofs.tables_in_range.Statement.{statement}

@@ -1,4 +1,4 @@
--- `range::valid_block` meets its contract: a short block is not valid. Assumes nothing.
+-- `range::valid_block` meets its contract: a short block is not valid.
 use borrow.Author.Needs.{needs}
 use Rattle.range.proofs.BlockTests.{valid-short}
 use Rattle.range.proofs.valid_block.Statement.{statement}

@@ -1,12 +1,11 @@
 -- `show::frame_length` meets its contract: the frame's length by the kind of the last ended transaction and the members of its set.
--- Assumes nothing.
 use mathlib.Core.List.{List}
 use mathlib.Core.Path.{sym, ap, _∙_}
 use Prim.Native.Nat.{ℕ, _+_, _*_, _^_, _≤_, _<_}
 use native.Mathlib.Omega.{arith}
 use borrow.Author.Needs.{needs}
 use Rattle.itemset.specs.Set.{count}
-use Rattle.itemset.specs.Counts.{count-le}
+use Rattle.itemset.proofs.Counts.{count-le}
 use Rattle.layout.specs.Layout.{scalars, at, lastSetAt}
 use Rattle.show.proofs.Frames.{length-frameIn-nothing, length-frameIn-read, length-frameIn-write}
 use Rattle.show.proofs.frame_length.Statement.{statement}

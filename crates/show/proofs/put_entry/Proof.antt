@@ -1,4 +1,4 @@
--- `show::put_entry` meets its contract: number, writing client and value are stored one right behind the other. Assumes nothing.
+-- `show::put_entry` meets its contract: number, writing client and value are stored one right behind the other.
 use mathlib.Core.List.{List, _++_}
 use mathlib.Core.Path.{_≡_, ap, _∙_}
 use Prim.Native.Nat.{ℕ, _+_, _/_, _%_}
@@ -6,8 +6,9 @@ use native.Mathlib.Omega.{arith}
 use borrow.Author.Needs.{needs}
 use lib.ListN.{length-append}
 use lib.Seq.{sets}
-use Rattle.hex.specs.Number.{bigEndian, length-bigEndian}
-use Rattle.hex.specs.Stores.{sets-join}
+use Rattle.hex.specs.Number.{bigEndian}
+use Rattle.hex.proofs.Number.{length-bigEndian}
+use Rattle.hex.proofs.Stores.{sets-join}
 use Rattle.protocol.specs.Frame.{shownEntry}
 use Rattle.show.proofs.put_entry.Statement.{statement}
 use Rattle.show.proofs.put_entry.Tie as tie

@@ -1,4 +1,4 @@
--- `show::put_head` meets its contract: the set's bytes are stored right behind the client's. Assumes nothing.
+-- `show::put_head` meets its contract: the set's bytes are stored right behind the client's.
 use mathlib.Core.List.{List}
 use mathlib.Core.Path.{_≡_, ap, _∙_}
 use Prim.Native.Nat.{ℕ}
@@ -6,8 +6,9 @@ use native.Mathlib.Omega.{arith}
 use borrow.Author.Needs.{needs}
 use lib.ListN.{set, length-set}
 use lib.Seq.{sets}
-use Rattle.hex.specs.Number.{bigEndian, length-bigEndian}
-use Rattle.hex.specs.Stores.{sets-join}
+use Rattle.hex.specs.Number.{bigEndian}
+use Rattle.hex.proofs.Number.{length-bigEndian}
+use Rattle.hex.proofs.Stores.{sets-join}
 use Rattle.show.specs.Show.{head}
 use Rattle.show.proofs.put_head.Statement.{statement}
 use Rattle.show.proofs.put_head.Tie as tie

@@ -1,10 +1,10 @@
--- `show::put_read_item` meets its contract. A member's rank is below the set's count, so its entry lies within the output. Assumes nothing.
+-- `show::put_read_item` meets its contract. A member's rank is below the set's count, so its entry lies within the output.
 use mathlib.Core.Path.{sym, _∙_}
 use Prim.Native.Nat.{_<_}
 use native.Mathlib.Omega.{arith}
 use borrow.Author.Needs.{needs}
 use Rattle.itemset.specs.Set.{count}
-use Rattle.itemset.specs.Counts.{rank-lt}
+use Rattle.itemset.proofs.Counts.{rank-lt}
 use Rattle.show.proofs.put_read_item.Statement.{statement}
 use Rattle.show.proofs.put_read_item.Tie as tie
 

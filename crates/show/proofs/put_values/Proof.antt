@@ -1,5 +1,4 @@
 -- `show::put_values` meets its contract. The invariant: the values of the items below k are stored. The measure is the items that are left.
--- Assumes nothing.
 use mathlib.Core.Path.{_≡_, refl, ap, _∙_}
 use Prim.Native.Nat.{ℕ, _-_, _≤_}
 use native.Mathlib.Omega.{arith}

@@ -1,4 +1,4 @@
--- `show::write_frame` meets its contract: what is stored from the front on is the frame of the last ended transaction's kind. Assumes nothing.
+-- `show::write_frame` meets its contract: what is stored from the front on is the frame of the last ended transaction's kind.
 use mathlib.Core.List.{List, [], _++_}
 use mathlib.Core.Path.{_≡_, sym, ap, _∙_}
 use Prim.Native.Nat.{ℕ, _+_, _*_, _^_, _≤_, _<_}
@@ -6,7 +6,7 @@ use native.Mathlib.Omega.{arith}
 use borrow.Author.Needs.{needs}
 use lib.ListN.{length, drop}
 use lib.Seq.{sets}
-use Rattle.hex.specs.Stores.{sets-front}
+use Rattle.hex.proofs.Stores.{sets-front}
 use Rattle.itemset.specs.Set.{count}
 use Rattle.protocol.specs.Tables.{numberOf}
 use Rattle.layout.specs.Layout.{scalars, at, lastKindAt, lastSetAt, lastStampAt}

@@ -1,11 +1,11 @@
--- `show::write_read` meets its contract: the entries are stored right behind the head. Assumes nothing.
+-- `show::write_read` meets its contract: the entries are stored right behind the head.
 use mathlib.Core.List.{List, _++_}
 use mathlib.Core.Path.{_≡_, ap, _∙_}
 use Prim.Native.Nat.{ℕ}
 use native.Mathlib.Omega.{arith}
 use borrow.Author.Needs.{needs}
 use lib.Seq.{sets}
-use Rattle.hex.specs.Stores.{sets-join}
+use Rattle.hex.proofs.Stores.{sets-join}
 use Rattle.show.specs.Show.{head}
 use Rattle.show.proofs.Frames.{length-head}
 use Rattle.show.proofs.write_read.Statement.{statement}

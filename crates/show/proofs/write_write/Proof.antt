@@ -1,4 +1,4 @@
--- `show::write_write` meets its contract: the number is stored right behind the head, and the values right behind the number. Assumes nothing.
+-- `show::write_write` meets its contract: the number is stored right behind the head, and the values right behind the number.
 use mathlib.Core.List.{List, _++_}
 use mathlib.Core.Path.{_≡_, ap, _∙_}
 use Prim.Native.Nat.{ℕ}
@@ -6,8 +6,9 @@ use native.Mathlib.Omega.{arith}
 use borrow.Author.Needs.{needs}
 use lib.ListN.{length-append}
 use lib.Seq.{sets}
-use Rattle.hex.specs.Number.{bigEndian, length-bigEndian}
-use Rattle.hex.specs.Stores.{sets-join}
+use Rattle.hex.specs.Number.{bigEndian}
+use Rattle.hex.proofs.Number.{length-bigEndian}
+use Rattle.hex.proofs.Stores.{sets-join}
 use Rattle.show.specs.Show.{head}
 use Rattle.show.proofs.Frames.{length-head}
 use Rattle.show.proofs.write_write.Statement.{statement}

@@ -1,4 +1,4 @@
--- `slots::put_four` meets its contract: its four stores are those of the run, in order. Assumes nothing.
+-- `slots::put_four` meets its contract: its four stores are those of the run, in order.
 use native.Mathlib.Numerals.{add-one, add-two, add-three}
 use borrow.Author.Needs.{needs}
 use Rattle.slots.proofs.put_four.Statement.{statement}

@@ -1,4 +1,4 @@
--- `start::put_busy` meets its contract: its three stores are those of `busy`. Assumes nothing.
+-- `start::put_busy` meets its contract: its three stores are those of `busy`.
 use borrow.Author.Needs.{needs}
 use Rattle.start.proofs.put_busy.Statement.{statement}
 use Rattle.start.proofs.put_busy.Tie as tie

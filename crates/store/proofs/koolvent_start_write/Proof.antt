@@ -1,4 +1,4 @@
--- `store::koolvent_start_write` meets its contract: the number of the call's answer. Assumes nothing.
+-- `store::koolvent_start_write` meets its contract: the number of the call's answer.
 use mathlib.Core.Path.{sym, ap, subst, _∙_}
 use borrow.Author.Needs.{needs}
 use Rattle.protocol.specs.Calls.{numberOfAnswer}

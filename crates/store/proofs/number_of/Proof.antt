@@ -1,4 +1,4 @@
--- `store::number_of` meets its contract: case by case, the number is the definition's, and each part fits its bits. Assumes nothing.
+-- `store::number_of` meets its contract: case by case, the number is the definition's, and each part fits its bits.
 use mathlib.Core.Path.{refl}
 use Prim.Native.Nat.{_<_, _^_}
 use native.Mathlib.Omega.{arith}

@@ -1,4 +1,4 @@
--- `store_driver::serve` meets its contract: it is safe, and each turn leaves one read fewer. Assumes nothing.
+-- `store_driver::serve` meets its contract: it is safe, and each turn leaves one read fewer.
 use borrow.Author.Needs.{needs}
 use mathlib.Core.Path.{_≡_}
 use lib.ListN.{length}

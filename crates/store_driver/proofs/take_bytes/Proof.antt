@@ -1,4 +1,4 @@
--- `store_driver::take_bytes` meets its contract: it is safe, and each turn takes one byte more. Assumes nothing.
+-- `store_driver::take_bytes` meets its contract: it is safe, and each turn takes one byte more.
 use borrow.Author.Needs.{needs}
 use mathlib.Core.Path.{_≡_}
 use Prim.Native.Nat.{_-_, _≤_}

@@ -1,9 +1,9 @@
--- `deliver::commit::commit_item` meets its contract: by the test. Assumes nothing.
+-- `deliver::commit::commit_item` meets its contract: by the test.
 use mathlib.Core.Path.{refl}
 use Prim.Native.Nat.{_%_}
 use lib.Dec.{eqb}
 use borrow.Author.Tests.{ltb-true}
-use Rattle.basics.specs.Cases.{and-right}
+use Rattle.basics.proofs.Cases.{and-right}
 use Rattle.ends.proofs.Chosen.{when, unless, later-put}
 use Rattle.layout.specs.Store.{storeLatest}
 use borrow.Author.Needs.{needs}

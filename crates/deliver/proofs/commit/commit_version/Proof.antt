@@ -1,4 +1,4 @@
--- `deliver::commit::commit_version` meets its contract: by the test. Assumes nothing.
+-- `deliver::commit::commit_version` meets its contract: by the test.
 use mathlib.Core.Path.{refl, sym, ap, _∙_}
 use borrow.Author.Tests.{eq-eqb, ne-eqb}
 use Rattle.ends.proofs.Chosen.{when, unless}

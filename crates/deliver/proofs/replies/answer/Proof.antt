@@ -1,4 +1,4 @@
--- `deliver::replies::answer` meets its contract: store by store. Assumes nothing.
+-- `deliver::replies::answer` meets its contract: store by store.
 use mathlib.Core.Path.{ap, _∙_}
 use mathlib.Core.List.{List}
 use Prim.Native.Nat.{ℕ}

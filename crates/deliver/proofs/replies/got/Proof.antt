@@ -1,4 +1,4 @@
--- `deliver::replies::got` meets its contract: by the test. Assumes nothing.
+-- `deliver::replies::got` meets its contract: by the test.
 use borrow.Author.Needs.{needs}
 use Rattle.deliver.proofs.Rows.{got-last, got-more}
 use Rattle.deliver.proofs.replies.got.Statement.{statement}

@@ -1,4 +1,4 @@
--- `deliver::replies::prepared` meets its contract: by the test. Assumes nothing.
+-- `deliver::replies::prepared` meets its contract: by the test.
 use borrow.Author.Needs.{needs}
 use Rattle.deliver.proofs.Rows.{prepared-last, prepared-more}
 use Rattle.deliver.proofs.replies.prepared.Statement.{statement}

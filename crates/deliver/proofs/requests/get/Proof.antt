@@ -1,4 +1,4 @@
--- `deliver::requests::get` meets its contract: the reply joins. Assumes nothing.
+-- `deliver::requests::get` meets its contract: the reply joins.
 use borrow.Author.Needs.{needs}
 use Rattle.deliver.specs.Deliver.{getDelivered}
 use Rattle.deliver.proofs.requests.get.Statement.{statement}

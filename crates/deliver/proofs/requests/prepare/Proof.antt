@@ -1,4 +1,4 @@
--- `deliver::requests::prepare` meets its contract: call by call. Assumes nothing.
+-- `deliver::requests::prepare` meets its contract: call by call.
 use borrow.Author.Needs.{needs}
 use Rattle.deliver.specs.Deliver.{prepareDelivered}
 use Rattle.deliver.proofs.requests.prepare.Statement.{statement}

@@ -1,8 +1,8 @@
--- `deliver::tests::get` meets its contract: one search tells both. Assumes nothing.
+-- `deliver::tests::get` meets its contract: one search tells both.
 use mathlib.Core.Path.{_≡_, sym, ap, _∙_}
 use mathlib.Core.Bool.{true, false, or-false}
 use Prim.Native.Nat.{ℕ}
-use Rattle.basics.specs.Cases.{or-right}
+use Rattle.basics.proofs.Cases.{or-right}
 use Rattle.basics.specs.Lists.{table}
 use Rattle.protocol.specs.declared.Version.{Version}
 use Rattle.protocol.specs.Steps.{version, alike, stored, found}

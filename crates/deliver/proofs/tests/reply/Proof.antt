@@ -1,4 +1,4 @@
--- `deliver::tests::reply` meets its contract. Assumes nothing.
+-- `deliver::tests::reply` meets its contract.
 use borrow.Author.Needs.{needs}
 use Rattle.deliver.proofs.tests.reply.Statement.{statement}
 use Rattle.deliver.proofs.tests.reply.Tie as tie

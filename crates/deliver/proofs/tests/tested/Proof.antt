@@ -1,4 +1,4 @@
--- `deliver::tests::tested` meets its contract: arm by arm. Assumes nothing.
+-- `deliver::tests::tested` meets its contract: arm by arm.
 use mathlib.Core.Path.{refl, subst}
 use Rattle.deliver.specs.Tests.{Bounded, testedIn}
 use borrow.Author.Needs.{needs}

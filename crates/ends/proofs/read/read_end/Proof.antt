@@ -1,4 +1,4 @@
--- `ends::read::read_end` meets its contract: call by call. Assumes nothing.
+-- `ends::read::read_end` meets its contract: call by call.
 use borrow.Author.Needs.{needs}
 use Rattle.ends.proofs.Rows.{read-row}
 use Rattle.ends.proofs.read.read_end.Statement.{statement}

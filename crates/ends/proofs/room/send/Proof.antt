@@ -1,4 +1,4 @@
--- `ends::room::send` meets its contract: by the test. Assumes nothing.
+-- `ends::room::send` meets its contract: by the test.
 use mathlib.Core.Path.{refl, ap, _∙_}
 use Prim.Native.Nat.{ℕ}
 use borrow.Author.Tests.{lt-ltb, le-ltb}

@@ -1,4 +1,4 @@
--- `ends::write::keep_value` meets its contract: by the test. Assumes nothing.
+-- `ends::write::keep_value` meets its contract: by the test.
 use mathlib.Core.Path.{refl, sym, _∙_}
 use Rattle.ends.proofs.Chosen.{when, unless}
 use borrow.Author.Needs.{needs}

@@ -1,4 +1,4 @@
--- `ends::write::see_item` meets its contract: by the test. Assumes nothing.
+-- `ends::write::see_item` meets its contract: by the test.
 use mathlib.Core.Path.{refl, sym, _∙_}
 use Rattle.ends.proofs.Chosen.{when, unless, later-put}
 use Rattle.layout.specs.Store.{storeView}

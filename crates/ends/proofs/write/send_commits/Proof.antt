@@ -1,11 +1,11 @@
 -- `ends::write::send_commits` meets its contract. The invariant: the block is the fold over the partitions passed. The measure is what is left.
--- Assumes nothing.
 use mathlib.Core.Path.{_≡_, refl, _∙_}
 use Prim.Native.Nat.{_-_, _≤_}
 use native.Mathlib.Omega.{arith}
 use borrow.Author.Needs.{needs}
 use lib.ListN.{length}
-use Rattle.basics.specs.Fold.{upTo, turn-first, turn-next, turn-last}
+use Rattle.basics.specs.Fold.{upTo}
+use Rattle.basics.proofs.Fold.{turn-first, turn-next, turn-last}
 use Rattle.ends.specs.Ends.{sendCommit}
 use Rattle.ends.proofs.write.send_commits.Statement.{statement}
 use Rattle.ends.proofs.write.send_commits.Tie as tie

@@ -1,10 +1,10 @@
 -- `ends::write::touched` meets its contract. The invariant: the set is the fold over the items passed. The measure is what is left.
--- Assumes nothing.
 use mathlib.Core.Path.{_≡_}
 use Prim.Native.Nat.{_-_, _≤_}
 use native.Mathlib.Omega.{arith}
 use borrow.Author.Needs.{needs}
-use Rattle.basics.specs.Fold.{upTo, turn-first, turn-next, turn-last}
+use Rattle.basics.specs.Fold.{upTo}
+use Rattle.basics.proofs.Fold.{turn-first, turn-next, turn-last}
 use Rattle.ends.specs.Ends.{touchItem, touched}
 use Rattle.ends.proofs.write.touched.Statement.{statement}
 use Rattle.ends.proofs.write.touched.Tie as tie

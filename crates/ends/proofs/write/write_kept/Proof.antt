@@ -1,4 +1,4 @@
--- `ends::write::write_kept` meets its contract: call by call. Assumes nothing.
+-- `ends::write::write_kept` meets its contract: call by call.
 use borrow.Author.Needs.{needs}
 use Rattle.ends.proofs.Rows.{kept-row}
 use Rattle.ends.proofs.write.write_kept.Statement.{statement}

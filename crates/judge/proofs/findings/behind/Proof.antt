@@ -1,10 +1,12 @@
--- `judge::findings::behind` meets its contract. The invariant: what is left from item k on decides as the whole does. The measure is what is left. Assumes nothing.
+-- `judge::findings::behind` meets its contract. The invariant: what is left from item k on decides as the whole does. The measure is what is left.
 use mathlib.Core.Path.{_≡_, refl, sym, _∙_}
 use Prim.Native.Nat.{_-_}
 use Rattle.judge.specs.Findings.{behind}
-use Rattle.judge.specs.Search.{behindAt, behind-search}
+use Rattle.judge.specs.Search.{behindAt}
+use Rattle.judge.proofs.Searching.{behind-search}
 use Rattle.judge_log.specs.Log.{shown, written}
-use Rattle.judge_log.specs.Some.{someFrom, someFrom-here, someFrom-next, someFrom-end}
+use Rattle.judge_log.specs.Some.{someFrom}
+use Rattle.judge_log.proofs.Some.{someFrom-here, someFrom-next, someFrom-end}
 use borrow.Author.Needs.{needs}
 use Rattle.judge.proofs.findings.behind.Statement.{statement}
 use Rattle.judge.proofs.findings.behind.Tie as tie

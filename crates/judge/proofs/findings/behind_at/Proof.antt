@@ -1,9 +1,9 @@
--- `judge::findings::behind_at` meets its contract. Assumes nothing.
+-- `judge::findings::behind_at` meets its contract.
 use mathlib.Core.Path.{sym, ap, ap₂, _∙_}
 use mathlib.Core.Bool.{_&&_}
 use lib.Dec.{ltb}
 use Prim.Native.Nat.{ℕ}
-use Rattle.judge.specs.Search.{behindAt-shown, behindAt-not}
+use Rattle.judge.proofs.Searching.{behindAt-shown, behindAt-not}
 use borrow.Author.Needs.{needs}
 use Rattle.judge.proofs.findings.behind_at.Statement.{statement}
 use Rattle.judge.proofs.findings.behind_at.Tie as tie

@@ -1,9 +1,9 @@
--- `judge::findings::faults_at` meets its contract: the mark tells which of the two tests is left. Assumes nothing.
+-- `judge::findings::faults_at` meets its contract: the mark tells which of the two tests is left.
 use mathlib.Core.Path.{sym, ap, _∙_}
 use lib.Dec.{ltb}
-use Rattle.basics.specs.Cases.{and-right}
+use Rattle.basics.proofs.Cases.{and-right}
 use Rattle.judge.specs.Findings.{fractures, outdates}
-use Rattle.judge.specs.Marks.{faults-equal, faults-later, faults-none}
+use Rattle.judge.proofs.Marking.{faults-equal, faults-later, faults-none}
 use borrow.Author.Needs.{needs}
 use Rattle.judge.proofs.findings.faults_at.Statement.{statement}
 use Rattle.judge.proofs.findings.faults_at.Tie as tie

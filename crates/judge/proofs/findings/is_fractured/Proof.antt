@@ -1,8 +1,9 @@
--- `judge::findings::is_fractured` meets its contract. The invariant: what is left from frame j on decides as the whole does. The measure is what is left. Assumes nothing.
+-- `judge::findings::is_fractured` meets its contract. The invariant: what is left from frame j on decides as the whole does. The measure is what is left.
 use mathlib.Core.Path.{_≡_, refl, sym, ap, _∙_}
 use Prim.Native.Nat.{_-_}
 use lib.ListN.{drop}
-use Rattle.judge_log.specs.Cut.{frameIn, framesIn, cut-here, cut-next, cut-end}
+use Rattle.judge_log.specs.Cut.{frameIn, framesIn}
+use Rattle.judge_log.proofs.Cuts.{cut-here, cut-next, cut-end}
 use Rattle.judge.specs.Findings.{fractures}
 use Rattle.judge_log.specs.Some.{some}
 use borrow.Author.Needs.{needs}

@@ -1,4 +1,4 @@
--- `judge::findings::is_unwritten` meets its contract. Assumes nothing.
+-- `judge::findings::is_unwritten` meets its contract.
 use mathlib.Core.Path.{sym, ap, _∙_}
 use borrow.Author.Tests.{eq-eqb, ne-eqb}
 use mathlib.Core.Bool.{not}

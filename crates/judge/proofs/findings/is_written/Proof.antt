@@ -1,9 +1,10 @@
--- `judge::findings::is_written` meets its contract. The invariant: what is left from frame j on decides as the whole does. The measure is what is left. Assumes nothing.
+-- `judge::findings::is_written` meets its contract. The invariant: what is left from frame j on decides as the whole does. The measure is what is left.
 use mathlib.Core.Path.{_≡_, refl, sym, _∙_}
 use Prim.Native.Nat.{_-_}
 use native.Mathlib.Omega.{arith}
 use lib.ListN.{drop}
-use Rattle.judge_log.specs.Cut.{framesIn, cut-here, cut-next, cut-end}
+use Rattle.judge_log.specs.Cut.{framesIn}
+use Rattle.judge_log.proofs.Cuts.{cut-here, cut-next, cut-end}
 use Rattle.judge.specs.Findings.{wrote}
 use Rattle.judge_log.specs.Some.{some}
 use borrow.Author.Needs.{needs}

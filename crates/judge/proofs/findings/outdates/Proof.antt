@@ -1,4 +1,4 @@
--- `judge::findings::outdates` meets its contract. Assumes nothing.
+-- `judge::findings::outdates` meets its contract.
 use mathlib.Core.Path.{sym, _∙_}
 use borrow.Author.Tests.{eq-eqb, ne-eqb}
 use Rattle.judge_log.specs.Log.{clientOf}

@@ -1,7 +1,7 @@
--- `judge::findings::wrote_at` meets its contract: another mark rules the line out. Assumes nothing.
+-- `judge::findings::wrote_at` meets its contract: another mark rules the line out.
 use mathlib.Core.Path.{sym, ap, _∙_}
 use Rattle.judge.specs.Findings.{wrote}
-use Rattle.judge.specs.Marks.{mark-wrote}
+use Rattle.judge.proofs.Marking.{mark-wrote}
 use borrow.Author.Needs.{needs}
 use Rattle.judge.proofs.findings.wrote_at.Statement.{statement}
 use Rattle.judge.proofs.findings.wrote_at.Tie as tie

@@ -1,4 +1,4 @@
--- `judge::marks::mark` meets its contract. Assumes nothing.
+-- `judge::marks::mark` meets its contract.
 use mathlib.Core.Path.{sym, _∙_}
 use lib.ListN.{getD}
 use borrow.Author.Tests.{eq-eqb, ne-eqb}

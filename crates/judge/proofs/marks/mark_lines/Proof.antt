@@ -1,11 +1,12 @@
--- `judge::marks::mark_lines` meets its contract. The invariant: the lines passed are marked. The measure is what is left. Assumes nothing.
+-- `judge::marks::mark_lines` meets its contract. The invariant: the lines passed are marked. The measure is what is left.
 use mathlib.Core.Path.{_≡_, refl, ap, _∙_, subst}
 use mathlib.Core.Path.{_≡_, refl, ap, _∙_}
 use Prim.Native.Nat.{ℕ, _-_, _≤_}
 use native.Mathlib.Nat.{not-suc-le-zero, le-antisymm}
 use native.Mathlib.Omega.{arith}
 use lib.ListN.{length, length-set}
-use Rattle.judge.specs.Marks.{Marked, markOf, marked-next}
+use Rattle.judge.specs.Marks.{Marked, markOf}
+use Rattle.judge.proofs.Marking.{marked-next}
 use borrow.Author.Needs.{needs}
 use Rattle.judge.proofs.marks.mark_lines.Statement.{statement}
 use Rattle.judge.proofs.marks.mark_lines.Tie as tie

@@ -1,5 +1,5 @@
 -- `judge::search::first_fault` meets its contract. Each loop's invariant: what is left decides as the whole does, and nothing is found yet.
--- The measures are what is left of the lines, the items and the writes. Assumes nothing.
+-- The measures are what is left of the lines, the items and the writes.
 use borrow.Author.Needs.{needs}
 use mathlib.Core.Bool.{true, false}
 use mathlib.Core.List.{List}
@@ -9,8 +9,10 @@ use native.Mathlib.Nat.{sub-zero, le-antisymm}
 use native.Mathlib.Omega.{arith}
 use Rattle.judge_log.specs.Cut.{framesIn}
 use Rattle.judge.specs.Findings.{faultAt}
-use Rattle.judge.specs.Search.{itemFault, writeFault, fault-search, item-not, item-unwritten, item-writes, write-fault}
-use Rattle.judge_log.specs.Some.{someFrom, someFrom-here, someFrom-next, someFrom-end, firstFrom, firstFrom-here, firstFrom-next, firstFrom-end}
+use Rattle.judge.specs.Search.{itemFault, writeFault}
+use Rattle.judge.proofs.Searching.{fault-search, item-not, item-unwritten, item-writes, write-fault}
+use Rattle.judge_log.specs.Some.{someFrom, firstFrom}
+use Rattle.judge_log.proofs.Some.{someFrom-here, someFrom-next, someFrom-end, firstFrom-here, firstFrom-next, firstFrom-end}
 use Rattle.judge.proofs.search.first_fault.Statement.{statement}
 use Rattle.judge.proofs.search.first_fault.Tie as tie
 

@@ -1,6 +1,6 @@
--- `judge::search::holds` meets its contract. Assumes nothing.
+-- `judge::search::holds` meets its contract.
 use mathlib.Core.Path.{_∙_}
-use Rattle.judge.specs.Search.{finding-one, finding-two, finding-three}
+use Rattle.judge.proofs.Searching.{finding-one, finding-two, finding-three}
 use borrow.Author.Needs.{needs}
 use Rattle.judge.proofs.search.holds.Statement.{statement}
 use Rattle.judge.proofs.search.holds.Tie as tie

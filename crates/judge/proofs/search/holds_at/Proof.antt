@@ -1,12 +1,14 @@
--- `judge::search::holds_at` meets its contract. The invariant: what is left from item k on decides as the whole does. The measure is what is left. Assumes nothing.
+-- `judge::search::holds_at` meets its contract. The invariant: what is left from item k on decides as the whole does. The measure is what is left.
 use mathlib.Core.Path.{_≡_, refl, sym, ap, ap₂, _∙_}
 use mathlib.Core.Bool.{_&&_}
 use Prim.Native.Nat.{_-_}
 use Rattle.itemset.specs.Set.{has}
 use Rattle.judge_log.specs.Cut.{framesIn}
 use Rattle.judge_log.specs.Log.{shown}
-use Rattle.judge.specs.Search.{findingOf, holds-search}
-use Rattle.judge_log.specs.Some.{someFrom, someFrom-here, someFrom-next, someFrom-end}
+use Rattle.judge.specs.Search.{findingOf}
+use Rattle.judge.proofs.Searching.{holds-search}
+use Rattle.judge_log.specs.Some.{someFrom}
+use Rattle.judge_log.proofs.Some.{someFrom-here, someFrom-next, someFrom-end}
 use borrow.Author.Needs.{needs}
 use Rattle.judge.proofs.search.holds_at.Statement.{statement}
 use Rattle.judge.proofs.search.holds_at.Tie as tie

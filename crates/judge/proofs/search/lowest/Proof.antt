@@ -1,4 +1,4 @@
--- `judge::search::lowest` meets its contract: each test rewrites the definition by one finding. Assumes nothing.
+-- `judge::search::lowest` meets its contract: each test rewrites the definition by one finding.
 use mathlib.Core.Path.{sym, _∙_}
 use Rattle.judge.specs.Findings.{lowest}
 use borrow.Author.Needs.{needs}

@@ -1,4 +1,4 @@
--- `judge_log::cut::frame` meets its contract. Assumes nothing.
+-- `judge_log::cut::frame` meets its contract.
 use borrow.Author.Needs.{needs}
 use Rattle.judge_log.proofs.cut.frame.Statement.{statement}
 use Rattle.judge_log.proofs.cut.frame.Tie as tie

@@ -1,4 +1,4 @@
--- `judge_log::cut::part` meets its contract. Assumes nothing.
+-- `judge_log::cut::part` meets its contract.
 use borrow.Author.Tests.{le-leb, lt-leb}
 use Rattle.judge_log.specs.Cut.{part}
 use borrow.Author.Needs.{needs}

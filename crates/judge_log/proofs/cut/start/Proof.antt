@@ -1,4 +1,4 @@
--- `judge_log::cut::start` meets its contract: past the end of a list `getD` gives 0. Assumes nothing.
+-- `judge_log::cut::start` meets its contract: past the end of a list `getD` gives 0.
 use mathlib.Core.Path.{sym}
 use lib.ListN.{List·getD-eq-default}
 use borrow.Author.Needs.{needs}

@@ -1,4 +1,4 @@
--- `judge_log::fields::byte` meets its contract: past the end of a list `getD` gives 0. Assumes nothing.
+-- `judge_log::fields::byte` meets its contract: past the end of a list `getD` gives 0.
 use borrow.Author.Needs.{needs}
 use mathlib.Core.Path.{sym}
 use native.Mathlib.Omega.{arith}

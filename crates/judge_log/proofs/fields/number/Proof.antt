@@ -1,5 +1,5 @@
 -- `judge_log::fields::number` meets its contract. The invariant: `number` is the number of the k bytes read, so that it is below 256 ^ k.
--- The measure is what is left of n. Assumes nothing.
+-- The measure is what is left of n.
 use borrow.Author.Needs.{needs}
 use mathlib.Core.List.{List}
 use mathlib.Core.Path.{_≡_, refl, sym, ap₂, _∙_}
@@ -7,7 +7,8 @@ use Prim.Native.Nat.{ℕ, _+_, _-_, _*_, _^_, _≤_, _<_}
 use native.Mathlib.Nat.{le-antisymm, pow-le-pow-right}
 use native.Mathlib.Omega.{arith}
 use lib.Dec.{lit<}
-use Rattle.hex.specs.Number.{numberAt, numberAt-lt, numberAt-next}
+use Rattle.hex.specs.Number.{numberAt}
+use Rattle.hex.proofs.Number.{numberAt-lt, numberAt-next}
 use Rattle.judge_log.proofs.fields.number.Statement.{statement}
 use Rattle.judge_log.proofs.fields.number.Tie as tie
 

@@ -1,4 +1,4 @@
--- `judge_log::fields::shown` meets its contract: the set where the kind is the one asked for, else none. Assumes nothing.
+-- `judge_log::fields::shown` meets its contract: the set where the kind is the one asked for, else none.
 use mathlib.Core.Path.{sym, _∙_}
 use lib.ListN.{getD}
 use borrow.Author.Tests.{eq-eqb, ne-eqb}

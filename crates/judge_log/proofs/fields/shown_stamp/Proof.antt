@@ -1,4 +1,4 @@
--- `judge_log::fields::shown_stamp` meets its contract. Assumes nothing.
+-- `judge_log::fields::shown_stamp` meets its contract.
 use mathlib.Core.Path.{ap, ap₂, _∙_}
 use Prim.Native.Nat.{ℕ, _+_, _*_}
 use lib.ListN.{getD}

@@ -1,4 +1,4 @@
--- `judge_log::fields::shown_value` meets its contract. Assumes nothing.
+-- `judge_log::fields::shown_value` meets its contract.
 use mathlib.Core.Path.{ap, _∙_}
 use Prim.Native.Nat.{ℕ, _+_, _*_}
 use Rattle.hex.specs.Number.{numberAt}

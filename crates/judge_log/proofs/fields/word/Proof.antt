@@ -1,6 +1,6 @@
--- `judge_log::fields::word` meets its contract: four bytes are a number below 256 ^ 4. Assumes nothing.
+-- `judge_log::fields::word` meets its contract: four bytes are a number below 256 ^ 4.
 use native.Mathlib.Omega.{arith}
-use Rattle.hex.specs.Number.{numberAt-lt}
+use Rattle.hex.proofs.Number.{numberAt-lt}
 use borrow.Author.Needs.{needs}
 use Rattle.judge_log.proofs.fields.word.Statement.{statement}
 use Rattle.judge_log.proofs.fields.word.Tie as tie

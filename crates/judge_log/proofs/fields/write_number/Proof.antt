@@ -1,4 +1,4 @@
--- `judge_log::fields::write_number` meets its contract. Assumes nothing.
+-- `judge_log::fields::write_number` meets its contract.
 use Rattle.judge_log.specs.Log.{numberOf}
 use borrow.Author.Needs.{needs}
 use Rattle.judge_log.proofs.fields.write_number.Statement.{statement}

@@ -1,4 +1,4 @@
--- `judge_log::fields::written_stamp` meets its contract. Assumes nothing.
+-- `judge_log::fields::written_stamp` meets its contract.
 use Rattle.judge_log.specs.Log.{writtenStamp}
 use borrow.Author.Needs.{needs}
 use Rattle.judge_log.proofs.fields.written_stamp.Statement.{statement}

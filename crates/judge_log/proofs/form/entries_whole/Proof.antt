@@ -1,12 +1,13 @@
--- `judge_log::form::entries_whole` meets its contract. The invariant: the entries passed are whole. The measure is what is left. Assumes nothing.
+-- `judge_log::form::entries_whole` meets its contract. The invariant: the entries passed are whole. The measure is what is left.
 use mathlib.Core.Bool.{true}
 use mathlib.Core.Path.{_≡_, refl, sym, ap, _∙_}
 use Prim.Native.Nat.{ℕ, _-_, _≤_}
 use native.Mathlib.Nat.{le-antisymm}
 use native.Mathlib.Numerals.{add-one}
 use native.Mathlib.Omega.{arith}
-use Rattle.basics.specs.Cases.{by-test, not-both, and-both}
-use Rattle.basics.specs.Lists.{every, every-at}
+use Rattle.basics.proofs.Cases.{by-test, not-both, and-both}
+use Rattle.basics.specs.Lists.{every}
+use Rattle.basics.proofs.Lists.{every-at}
 use Rattle.judge_log.specs.Log.{isWhole, entryNumber, entryWriter, entriesWhole}
 use borrow.Author.Needs.{needs}
 use Rattle.judge_log.proofs.form.entries_whole.Statement.{statement}

@@ -1,4 +1,4 @@
--- `judge_log::form::entry_whole` meets its contract. Assumes nothing.
+-- `judge_log::form::entry_whole` meets its contract.
 use borrow.Author.Needs.{needs}
 use Rattle.judge_log.proofs.form.entry_whole.Statement.{statement}
 use Rattle.judge_log.proofs.form.entry_whole.Tie as tie

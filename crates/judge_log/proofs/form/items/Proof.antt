@@ -1,9 +1,10 @@
--- `judge_log::form::items` meets its contract: a set of 64 bits has at most 64 members. Assumes nothing.
+-- `judge_log::form::items` meets its contract: a set of 64 bits has at most 64 members.
 use mathlib.Core.Path.{ap, _∙_}
 use native.Mathlib.Omega.{arith}
-use Rattle.hex.specs.Number.{numberAt, numberAt-lt}
+use Rattle.hex.specs.Number.{numberAt}
+use Rattle.hex.proofs.Number.{numberAt-lt}
 use Rattle.itemset.specs.Set.{count}
-use Rattle.itemset.specs.Counts.{count-le}
+use Rattle.itemset.proofs.Counts.{count-le}
 use Prim.Native.Nat.{ℕ}
 use borrow.Author.Needs.{needs}
 use Rattle.judge_log.proofs.form.items.Statement.{statement}

@@ -1,4 +1,4 @@
--- `judge_log::form::parse` meets its contract. Assumes nothing.
+-- `judge_log::form::parse` meets its contract.
 use mathlib.Core.Path.{sym, _∙_}
 use Rattle.judge_log.specs.Parsed.{parsed}
 use borrow.Author.Needs.{needs}

@@ -1,4 +1,4 @@
--- `judge_log::form::reaches` meets its contract. Assumes nothing.
+-- `judge_log::form::reaches` meets its contract.
 use Rattle.judge_log.specs.Log.{reaches}
 use borrow.Author.Needs.{needs}
 use Rattle.judge_log.proofs.form.reaches.Statement.{statement}

@@ -1,4 +1,4 @@
--- `judge_log::form::write_shaped` meets its contract. Assumes nothing.
+-- `judge_log::form::write_shaped` meets its contract.
 use Rattle.judge_log.specs.Log.{writeShaped}
 use borrow.Author.Needs.{needs}
 use Rattle.judge_log.proofs.form.write_shaped.Statement.{statement}

@@ -1,4 +1,4 @@
--- `judge_log::limits::ends` meets its contract. The invariant: the ends counted and those left are all of them. The measure is what is left. Assumes nothing.
+-- `judge_log::limits::ends` meets its contract. The invariant: the ends counted and those left are all of them. The measure is what is left.
 use mathlib.Core.Bool.{cond}
 use mathlib.Core.Path.{_≡_}
 use mathlib.Core.List.{List}

@@ -1,4 +1,4 @@
--- `judge_log::limits::is_end` meets its contract. Assumes nothing.
+-- `judge_log::limits::is_end` meets its contract.
 use borrow.Author.Tests.{eq-eqb, ne-eqb}
 use borrow.Author.Needs.{needs}
 use Rattle.judge_log.proofs.limits.is_end.Statement.{statement}

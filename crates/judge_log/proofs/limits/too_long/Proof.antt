@@ -1,4 +1,4 @@
--- `judge_log::limits::too_long` meets its contract. Assumes nothing.
+-- `judge_log::limits::too_long` meets its contract.
 use Rattle.judge_log.specs.Log.{tooLong}
 use borrow.Author.Needs.{needs}
 use Rattle.judge_log.proofs.limits.too_long.Statement.{statement}

@@ -1,11 +1,12 @@
--- `judge_log::scan::scan` meets its contract. The invariant: the lines taken lie in the bytes, and the rest of the log is what is left of its lines. The measure is what is left of the log. Assumes nothing.
+-- `judge_log::scan::scan` meets its contract. The invariant: the lines taken lie in the bytes, and the rest of the log is what is left of its lines. The measure is what is left of the log.
 use mathlib.Core.List.{List}
 use mathlib.Core.Path.{subst}
 use Prim.Native.Nat.{ℕ, _-_}
 use native.Mathlib.Omega.{arith}
 use lib.ListN.{length}
-use Rattle.hex.specs.Line.{lineEnd-ge}
-use Rattle.judge_log.specs.Scan.{Scanning, Step, TakenOf, scan-end, scan-malformed, scan-step}
+use Rattle.hex.proofs.Line.{lineEnd-ge}
+use Rattle.judge_log.specs.Scan.{Scanning, Step, TakenOf}
+use Rattle.judge_log.proofs.Scanning.{scan-end, scan-malformed, scan-step}
 use Rattle.judge_log.specs.declared.scan.Taken.{Taken}
 use borrow.Author.Needs.{needs}
 use Prim.Native.Nat.{_-_}

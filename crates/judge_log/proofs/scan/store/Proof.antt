@@ -1,11 +1,12 @@
--- `judge_log::scan::store` meets its contract: what decoding stores in the part that it was lent, it stores in the whole. Assumes nothing.
+-- `judge_log::scan::store` meets its contract: what decoding stores in the part that it was lent, it stores in the whole.
 use mathlib.Core.List.{List, _++_}
 use mathlib.Core.Path.{ap, _∙_}
 use Prim.Native.Nat.{ℕ, _-_}
 use native.Mathlib.Omega.{arith}
 use lib.ListN.{length, take, drop}
-use Rattle.hex.specs.Text.{bytesOf, length-bytesOf-le}
-use Rattle.judge_log.specs.Cut.{put-part}
+use Rattle.hex.specs.Text.{bytesOf}
+use Rattle.hex.proofs.Text.{length-bytesOf-le}
+use Rattle.judge_log.proofs.Cuts.{put-part}
 use borrow.Author.Needs.{needs}
 use Rattle.judge_log.proofs.scan.store.Statement.{statement}
 use Rattle.judge_log.proofs.scan.store.Tie as tie

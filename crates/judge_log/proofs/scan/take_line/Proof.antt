@@ -1,5 +1,5 @@
 -- `judge_log::scan::take_line` meets its contract: a line that isn't text is malformed, and one that is has its bytes behind the frames before,
--- where parsing finds them. Assumes nothing.
+-- where parsing finds them.
 use borrow.Author.Needs.{needs}
 use mathlib.Core.Bool.{true}
 use mathlib.Core.List.{List}
@@ -8,13 +8,18 @@ use Prim.Native.Nat.{ℕ, _+_, _-_, _/_, _≤_, _<_}
 use native.Mathlib.Omega.{arith}
 use lib.ListN.{length, getD, take, drop, set}
 use lib.Seq.{sets}
-use Rattle.hex.specs.Decode.{decoded, decoded-bytes, decoded-malformed}
-use Rattle.hex.specs.Line.{lineEnd, lineEnd-ge}
-use Rattle.hex.specs.Text.{isHex, bytesOf, length-bytesOf}
+use Rattle.hex.specs.Decode.{decoded}
+use Rattle.hex.proofs.Decoding.{decoded-bytes, decoded-malformed}
+use Rattle.hex.specs.Line.{lineEnd}
+use Rattle.hex.proofs.Line.{lineEnd-ge}
+use Rattle.hex.specs.Text.{isHex, bytesOf}
+use Rattle.hex.proofs.Text.{length-bytesOf}
 use Rattle.judge_log.specs.Cut.{part, framesIn}
 use Rattle.judge_log.specs.Log.{frameOf, malformed}
-use Rattle.judge_log.specs.Parsed.{parsed, refused, malformed-parsed}
-use Rattle.judge_log.specs.Scan.{Room, Step, lineAt, textAt, frame-hex, frame-not, frame-unended, malformed-empty, kept, fits, new, step}
+use Rattle.judge_log.specs.Parsed.{parsed, refused}
+use Rattle.judge_log.proofs.Parsed.{malformed-parsed}
+use Rattle.judge_log.specs.Scan.{Room, Step, lineAt}
+use Rattle.judge_log.proofs.Scanning.{textAt, frame-hex, frame-not, frame-unended, malformed-empty, kept, fits, new, step}
 use Rattle.judge_log.proofs.scan.take_line.Statement.{statement}
 use Rattle.judge_log.proofs.scan.take_line.Tie as tie
 

@@ -1,4 +1,4 @@
--- `layout::entry::entry_at` meets its contract: each word is the one that `word` returns. Assumes nothing.
+-- `layout::entry::entry_at` meets its contract: each word is the one that `word` returns.
 use borrow.Author.Needs.{needs}
 use Rattle.layout.proofs.entry.entry_at.Statement.{statement}
 use Rattle.layout.proofs.entry.entry_at.Tie as tie

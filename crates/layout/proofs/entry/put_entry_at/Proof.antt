@@ -1,4 +1,4 @@
--- `layout::entry::put_entry_at` meets its contract: its two stores are those that `put_word` makes. Assumes nothing.
+-- `layout::entry::put_entry_at` meets its contract: its two stores are those that `put_word` makes.
 use borrow.Author.Needs.{needs}
 use Rattle.layout.proofs.entry.put_entry_at.Statement.{statement}
 use Rattle.layout.proofs.entry.put_entry_at.Tie as tie

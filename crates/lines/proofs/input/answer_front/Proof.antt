@@ -1,4 +1,4 @@
--- `lines::input::answer_front` meets its contract: a part longer than the whole is the whole. Assumes nothing.
+-- `lines::input::answer_front` meets its contract: a part longer than the whole is the whole.
 use borrow.Author.Needs.{needs}
 use mathlib.Core.Path.{sym, ap}
 use Prim.Native.Nat.{ℕ}

@@ -1,4 +1,4 @@
--- `lines::input::end` meets its contract: where no byte is kept there is no line. Assumes nothing.
+-- `lines::input::end` meets its contract: where no byte is kept there is no line.
 use borrow.Author.Needs.{needs}
 use native.Mathlib.Omega.{arith}
 use lib.ListN.{take}

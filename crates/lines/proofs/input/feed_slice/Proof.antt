@@ -1,4 +1,4 @@
--- `lines::input::feed_slice` meets its contract: a 0a ends the line that is kept with it, any other byte is only kept. Assumes nothing.
+-- `lines::input::feed_slice` meets its contract: a 0a ends the line that is kept with it, any other byte is only kept.
 use borrow.Author.Needs.{needs}
 use lib.ListN.{take}
 use borrow.Author.Tests.{eq-eqb, ne-eqb}

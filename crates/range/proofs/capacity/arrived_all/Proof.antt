@@ -1,4 +1,4 @@
--- `range::capacity::arrived_all` meets its contract: a sum over the clients, from client 1 on, each of at most 64. Assumes nothing.
+-- `range::capacity::arrived_all` meets its contract: a sum over the clients, from client 1 on, each of at most 64.
 use borrow.Author.Needs.{needs}
 use mathlib.Core.Path.{_≡_, sym}
 use Prim.Native.Nat.{_-_, _*_, _≤_}

@@ -1,9 +1,9 @@
--- `range::capacity::arrived_at` meets its contract: of a writing client, the items of its set no longer awaited. Assumes nothing.
+-- `range::capacity::arrived_at` meets its contract: of a writing client, the items of its set no longer awaited.
 use borrow.Author.Needs.{needs}
 use mathlib.Core.Path.{_≡_, ap₂, _∙_}
 use Prim.Native.Nat.{_-_}
 use native.Mathlib.Omega.{arith}
-use Rattle.itemset.specs.Counts.{count-le}
+use Rattle.itemset.proofs.Counts.{count-le}
 use Rattle.protocol.specs.Range.{arrived}
 use Rattle.layout.specs.Decode.{clientIn}
 use Rattle.range.proofs.CapacityTests.{arrived-other, arrived-write}

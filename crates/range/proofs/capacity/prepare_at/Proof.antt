@@ -1,4 +1,4 @@
--- `range::capacity::prepare_at` meets its contract: a prepare is of kind 1. Assumes nothing.
+-- `range::capacity::prepare_at` meets its contract: a prepare is of kind 1.
 use borrow.Author.Needs.{needs}
 use mathlib.Core.Path.{sym, _∙_}
 use Rattle.range.proofs.CapacityTests.{prepare-one, prepare-other}

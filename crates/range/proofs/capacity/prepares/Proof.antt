@@ -1,4 +1,4 @@
--- `range::capacity::prepares` meets its contract: one message after another. Assumes nothing.
+-- `range::capacity::prepares` meets its contract: one message after another.
 use borrow.Author.Needs.{needs}
 use mathlib.Core.Path.{_≡_, sym}
 use Prim.Native.Nat.{_-_, _≤_}

@@ -1,4 +1,4 @@
--- `range::client::last_in_range` meets its contract, by the number of its kind. Assumes nothing.
+-- `range::client::last_in_range` meets its contract, by the number of its kind.
 use borrow.Author.Needs.{needs}
 use mathlib.Core.Path.{sym, _∙_}
 use native.Mathlib.Omega.{arith}

@@ -1,4 +1,4 @@
--- `range::client::running_in_range` meets its contract: the values of the items of the set under way. Assumes nothing.
+-- `range::client::running_in_range` meets its contract: the values of the items of the set under way.
 use borrow.Author.Needs.{needs}
 use Rattle.range.proofs.ClientTests.{values-tests}
 use Rattle.range.proofs.client.running_in_range.Statement.{statement}

@@ -1,4 +1,4 @@
--- `range::client::some_stamps_in_range` meets its contract: item after item, a stamp of the set's. Assumes nothing.
+-- `range::client::some_stamps_in_range` meets its contract: item after item, a stamp of the set's.
 use borrow.Author.Needs.{needs}
 use mathlib.Core.Bool.{not, _||_}
 use mathlib.Core.Path.{ap, ap₂, _∙_}

@@ -1,4 +1,4 @@
--- `range::client::some_values_in_range` meets its contract: item after item, a value of the set's, and the sizes of all at the end. Assumes nothing.
+-- `range::client::some_values_in_range` meets its contract: item after item, a value of the set's, and the sizes of all at the end.
 use borrow.Author.Needs.{needs}
 use mathlib.Core.Bool.{not, _||_}
 use Prim.Native.Nat.{_+_, _-_, _^_}

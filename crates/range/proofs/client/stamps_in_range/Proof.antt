@@ -1,4 +1,4 @@
--- `range::client::stamps_in_range` meets its contract: an empty set has no stamp to test. Assumes nothing.
+-- `range::client::stamps_in_range` meets its contract: an empty set has no stamp to test.
 use borrow.Author.Needs.{needs}
 use Rattle.range.specs.Sized.{sized}
 use Rattle.range.proofs.ClientTests.{each-empty}

@@ -1,4 +1,4 @@
--- `range::entry::entries_in_range` meets its contract: entry after entry, and the sizes of all at the end. Assumes nothing.
+-- `range::entry::entries_in_range` meets its contract: entry after entry, and the sizes of all at the end.
 use borrow.Author.Needs.{needs}
 use mathlib.Core.Bool.{Bool, _&&_}
 use mathlib.Core.Path.{ap, _∙_}

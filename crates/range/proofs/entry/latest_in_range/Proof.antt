@@ -1,4 +1,4 @@
--- `range::entry::latest_in_range` meets its contract: the entries from the section's first place on. Assumes nothing.
+-- `range::entry::latest_in_range` meets its contract: the entries from the section's first place on.
 use borrow.Author.Needs.{needs}
 use mathlib.Core.Path.{_∙_}
 use Prim.Native.Nat.{_*_}

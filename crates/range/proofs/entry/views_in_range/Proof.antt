@@ -1,4 +1,4 @@
--- `range::entry::views_in_range` meets its contract: one view after another, from client 1 on. Assumes nothing.
+-- `range::entry::views_in_range` meets its contract: one view after another, from client 1 on.
 use borrow.Author.Needs.{needs}
 use Prim.Native.Nat.{suc, _-_}
 use native.Mathlib.Numerals.{add-one}

@@ -1,4 +1,4 @@
--- `range::field::entry_in_range` meets its contract: it is the definition, test by test. Assumes nothing.
+-- `range::field::entry_in_range` meets its contract: it is the definition, test by test.
 use borrow.Author.Needs.{needs}
 use Rattle.protocol.specs.Range.{stampInRange, entryInRange}
 use Rattle.range.proofs.field.entry_in_range.Statement.{statement}

@@ -1,7 +1,7 @@
--- `range::field::kept` meets its contract, by whether the set lacks the item. Assumes nothing.
+-- `range::field::kept` meets its contract, by whether the set lacks the item.
 use borrow.Author.Needs.{needs}
 use mathlib.Core.Path.{sym, _∙_}
-use Rattle.basics.specs.Cases.{not-true, not-false}
+use Rattle.basics.proofs.Cases.{not-true, not-false}
 use Rattle.itemset.specs.Set.{has}
 use Rattle.range.proofs.field.kept.Statement.{statement}
 use Rattle.range.proofs.field.kept.Tie as tie

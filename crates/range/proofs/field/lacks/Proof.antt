@@ -1,4 +1,4 @@
--- `range::field::lacks` meets its contract: the digit worth 2 ^ k is 0 or 1. Assumes nothing.
+-- `range::field::lacks` meets its contract: the digit worth 2 ^ k is 0 or 1.
 use borrow.Author.Needs.{needs}
 use Rattle.range.proofs.Bits.{lacks-power}
 use Rattle.range.proofs.field.lacks.Statement.{statement}

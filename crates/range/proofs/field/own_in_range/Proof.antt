@@ -1,4 +1,4 @@
--- `range::field::own_in_range` meets its contract: it is the definition, test by test. Assumes nothing.
+-- `range::field::own_in_range` meets its contract: it is the definition, test by test.
 use borrow.Author.Needs.{needs}
 use Rattle.range.proofs.field.own_in_range.Statement.{statement}
 use Rattle.range.proofs.field.own_in_range.Tie as tie

@@ -1,4 +1,4 @@
--- `range::field::stamp_in_range` meets its contract: its parts, and the size of its number. Assumes nothing.
+-- `range::field::stamp_in_range` meets its contract: its parts, and the size of its number.
 use borrow.Author.Needs.{needs}
 use mathlib.Core.Bool.{Bool, _&&_}
 use mathlib.Core.Path.{sym, ap, _∙_}

@@ -1,4 +1,4 @@
--- `range::field::version_in_range` meets its contract: it is the definition, test by test. Assumes nothing.
+-- `range::field::version_in_range` meets its contract: it is the definition, test by test.
 use borrow.Author.Needs.{needs}
 use Rattle.protocol.specs.Range.{stampInRange, versionInRange}
 use Rattle.range.proofs.field.version_in_range.Statement.{statement}

@@ -1,4 +1,4 @@
--- `range::message::message_in_range` meets its contract: its eight words in their order. Assumes nothing.
+-- `range::message::message_in_range` meets its contract: its eight words in their order.
 use borrow.Author.Needs.{needs}
 use Rattle.range.proofs.MessageTests.{message-words}
 use Rattle.range.proofs.message.message_in_range.Statement.{statement}

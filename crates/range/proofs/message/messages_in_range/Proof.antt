@@ -1,4 +1,4 @@
--- `range::message::messages_in_range` meets its contract: one message after another. Assumes nothing.
+-- `range::message::messages_in_range` meets its contract: one message after another.
 use borrow.Author.Needs.{needs}
 use Prim.Native.Nat.{_-_}
 use Rattle.range.specs.Messages.{messageTest}

@@ -1,4 +1,4 @@
--- `range::message::versions_in_range` meets its contract: version after version, and the sizes of all at the end. Assumes nothing.
+-- `range::message::versions_in_range` meets its contract: version after version, and the sizes of all at the end.
 use borrow.Author.Needs.{needs}
 use mathlib.Core.Bool.{Bool, _&&_}
 use mathlib.Core.Path.{ap, _∙_}

@@ -1,4 +1,4 @@
--- `range::message::words_in_range` meets its contract, kind by kind. Assumes nothing.
+-- `range::message::words_in_range` meets its contract, kind by kind.
 use borrow.Author.Needs.{needs}
 use native.Mathlib.Omega.{arith}
 use Rattle.range.proofs.MessageTests.{prepare-tests, prepared-tests, commit-tests, get-tests, got-tests}

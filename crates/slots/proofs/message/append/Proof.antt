@@ -1,4 +1,4 @@
--- `slots::message::append` meets its contract: each arm joins the words of its kind. Assumes nothing.
+-- `slots::message::append` meets its contract: each arm joins the words of its kind.
 use borrow.Author.Needs.{needs}
 use Rattle.layout.specs.Store.{appendMessage, storeMessage}
 use Rattle.slots.proofs.message.append.Statement.{statement}

@@ -1,4 +1,4 @@
--- `slots::message::message` meets its contract: its eight words are those of `messageIn`. Assumes nothing.
+-- `slots::message::message` meets its contract: its eight words are those of `messageIn`.
 use borrow.Author.Needs.{needs}
 use Rattle.layout.specs.Decode.{messageIn}
 use Rattle.slots.proofs.message.message.Statement.{statement}

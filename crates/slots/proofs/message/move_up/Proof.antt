@@ -1,5 +1,5 @@
 -- `slots::message::move_up` meets its contract. The invariant: the first `k` words have moved and the others are as they were.
--- The measure is how many are left. Assumes nothing.
+-- The measure is how many are left.
 use mathlib.Core.Path.{_≡_}
 use Prim.Native.Nat.{_+_, _-_, _≤_}
 use native.Mathlib.Omega.{arith}

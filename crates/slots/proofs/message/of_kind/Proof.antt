@@ -1,4 +1,4 @@
--- `slots::message::of_kind` meets its contract: each arm is the clause of `messageOf` for its kind. Assumes nothing.
+-- `slots::message::of_kind` meets its contract: each arm is the clause of `messageOf` for its kind.
 use mathlib.Core.Path.{sym}
 use native.Mathlib.Omega.{arith}
 use Rattle.layout.specs.Decode.{messageOf}

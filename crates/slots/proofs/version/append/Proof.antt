@@ -1,4 +1,4 @@
--- `slots::version::append` meets its contract: the four words are stored as one run, then the count. Assumes nothing.
+-- `slots::version::append` meets its contract: the four words are stored as one run, then the count.
 use borrow.Author.Needs.{needs}
 use Rattle.layout.specs.Store.{appendVersion, storeVersion}
 use Rattle.slots.proofs.version.append.Statement.{statement}

@@ -1,5 +1,4 @@
 -- `slots::version::find` meets its contract. The invariant: none of the versions passed is alike. The measure is how many are left.
--- Assumes nothing.
 use mathlib.Core.Path.{_≡_, sym, _∙_}
 use Prim.Native.Nat.{_≤_, _-_}
 use native.Mathlib.Numerals.{add-one}

@@ -1,4 +1,4 @@
--- `slots::version::found` meets its contract: the version at the place that the search finds, which is one of the `n`. Assumes nothing.
+-- `slots::version::found` meets its contract: the version at the place that the search finds, which is one of the `n`.
 use mathlib.Core.Path.{_≡_, sym, ap, _∙_}
 use native.Mathlib.Omega.{arith}
 use denote.Ref.{now}

@@ -1,4 +1,4 @@
--- `slots::version::is_alike` meets its contract: where the stamps are equal the items decide, elsewhere nothing does. Assumes nothing.
+-- `slots::version::is_alike` meets its contract: where the stamps are equal the items decide, elsewhere nothing does.
 use mathlib.Core.Path.{_≡_, sym, _∙_}
 use denote.Ref.{now}
 use borrow.Author.Needs.{needs}

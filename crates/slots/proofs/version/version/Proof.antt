@@ -1,4 +1,4 @@
--- `slots::version::version` meets its contract: its four words are those of `versionIn`. Assumes nothing.
+-- `slots::version::version` meets its contract: its four words are those of `versionIn`.
 use borrow.Author.Needs.{needs}
 use Rattle.slots.proofs.version.version.Statement.{statement}
 use Rattle.slots.proofs.version.version.Tie as tie

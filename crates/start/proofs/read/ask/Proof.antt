@@ -1,4 +1,4 @@
--- `start::read::ask` meets its contract: its two stores are those that it promises. Assumes nothing.
+-- `start::read::ask` meets its contract: its two stores are those that it promises.
 use borrow.Author.Needs.{needs}
 use Rattle.start.proofs.read.ask.Statement.{statement}
 use Rattle.start.proofs.read.ask.Tie as tie

@@ -1,4 +1,4 @@
--- `start::read::ask_item` meets its contract: one store or none, by the test on the set. Assumes nothing.
+-- `start::read::ask_item` meets its contract: one store or none, by the test on the set.
 use mathlib.Core.Path.{sym, _∙_}
 use borrow.Author.Needs.{needs}
 use Rattle.start.proofs.read.ask_item.Statement.{statement}

@@ -1,5 +1,5 @@
 -- `start::read::choose` meets its contract. The invariant: `stamp` is the choice among the first `i` entries. The measure is what is left
--- of the items. Assumes nothing.
+-- of the items.
 use mathlib.Core.Path.{ap, _≡_, sym, _∙_}
 use Prim.Native.Nat.{_≤_, _-_}
 use native.Mathlib.Nat.{le-antisymm}

@@ -1,11 +1,11 @@
 -- `start::read::get_item` meets its contract: one message or none, by the test on the set. A member's rank is below the count, so there
--- is room for it. Assumes nothing.
+-- is room for it.
 use mathlib.Core.Bool.{true}
 use mathlib.Core.Path.{_≡_, sym, _∙_}
 use native.Mathlib.Omega.{arith}
 use borrow.Author.Needs.{needs}
 use Rattle.itemset.specs.Set.{has}
-use Rattle.itemset.specs.Counts.{rank-lt, rank-count}
+use Rattle.itemset.proofs.Counts.{rank-lt, rank-count}
 use Rattle.start.proofs.read.get_item.Statement.{statement}
 use Rattle.start.proofs.read.get_item.Tie as tie
 

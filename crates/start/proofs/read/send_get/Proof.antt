@@ -1,4 +1,4 @@
--- `start::read::send_get` meets its contract: it appends the message that it promises. Assumes nothing.
+-- `start::read::send_get` meets its contract: it appends the message that it promises.
 use borrow.Author.Needs.{needs}
 use Rattle.start.proofs.read.send_get.Statement.{statement}
 use Rattle.start.proofs.read.send_get.Tie as tie

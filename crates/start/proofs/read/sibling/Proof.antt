@@ -1,4 +1,4 @@
--- `start::read::sibling` meets its contract: the entry counts by its test. Assumes nothing.
+-- `start::read::sibling` meets its contract: the entry counts by its test.
 use mathlib.Core.Bool.{true, false}
 use mathlib.Core.Path.{sym, _∙_}
 use borrow.Author.Needs.{needs}

@@ -1,4 +1,4 @@
--- `start::read::start_read` meets its contract: its three calls are the steps of `readStarted`. Assumes nothing.
+-- `start::read::start_read` meets its contract: its three calls are the steps of `readStarted`.
 use denote.Ref.{now}
 use borrow.Author.Needs.{needs}
 use Rattle.start.proofs.Started.{read-started}

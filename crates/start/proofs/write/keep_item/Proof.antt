@@ -1,11 +1,11 @@
 -- `start::write::keep_item` meets its contract: one store or none, by the test on the set. A member's rank is below the count, so its
--- four bytes are there. Assumes nothing.
+-- four bytes are there.
 use mathlib.Core.Bool.{true}
 use mathlib.Core.Path.{_≡_, sym, _∙_}
 use native.Mathlib.Omega.{arith}
 use borrow.Author.Needs.{needs}
 use Rattle.itemset.specs.Set.{has}
-use Rattle.itemset.specs.Counts.{rank-lt, rank-count}
+use Rattle.itemset.proofs.Counts.{rank-lt, rank-count}
 use Rattle.start.proofs.write.keep_item.Statement.{statement}
 use Rattle.start.proofs.write.keep_item.Tie as tie
 

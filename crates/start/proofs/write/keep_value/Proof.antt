@@ -1,4 +1,4 @@
--- `start::write::keep_value` meets its contract: it stores the number of the four bytes. Assumes nothing.
+-- `start::write::keep_value` meets its contract: it stores the number of the four bytes.
 use borrow.Author.Needs.{needs}
 use Rattle.start.proofs.write.keep_value.Statement.{statement}
 use Rattle.start.proofs.write.keep_value.Tie as tie

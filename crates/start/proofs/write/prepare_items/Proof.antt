@@ -1,10 +1,11 @@
--- `start::write::prepare_items` meets its contract. The invariant: `k` turns of the fold are done. The measure is what is left of the items. Assumes nothing.
+-- `start::write::prepare_items` meets its contract. The invariant: `k` turns of the fold are done. The measure is what is left of the items.
 use mathlib.Core.Path.{_≡_}
 use Prim.Native.Nat.{_≤_, _-_}
 use native.Mathlib.Nat.{le-antisymm}
 use borrow.Author.Needs.{needs}
 use lib.ListN.{length}
-use Rattle.basics.specs.Fold.{upTo, turn-first, turn-next}
+use Rattle.basics.specs.Fold.{upTo}
+use Rattle.basics.proofs.Fold.{turn-first, turn-next}
 use Rattle.start.specs.Start.{sendPrepare}
 use Rattle.start.proofs.write.prepare_items.Statement.{statement}
 use Rattle.start.proofs.write.prepare_items.Tie as tie

@@ -1,4 +1,4 @@
--- `start::write::send_prepare` meets its contract: it appends the message that it promises. Assumes nothing.
+-- `start::write::send_prepare` meets its contract: it appends the message that it promises.
 use borrow.Author.Needs.{needs}
 use Rattle.start.proofs.write.send_prepare.Statement.{statement}
 use Rattle.start.proofs.write.send_prepare.Tie as tie

@@ -1,7 +1,7 @@
 use mathlib.Core.Path.{ap, _∙_}
 use Prim.Native.Nat.{suc, _+_}
 use native.Mathlib.Numerals.{add-one}
--- `start::write::start_write` meets its contract: its calls are the steps of `writeStarted`. Assumes nothing.
+-- `start::write::start_write` meets its contract: its calls are the steps of `writeStarted`.
 use denote.Ref.{now}
 use borrow.Author.Needs.{needs}
 use Rattle.start.proofs.Started.{write-started}

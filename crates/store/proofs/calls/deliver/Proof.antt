@@ -1,4 +1,4 @@
--- `store::calls::deliver` meets its contract: 1 for a block that isn't valid. Assumes nothing.
+-- `store::calls::deliver` meets its contract: 1 for a block that isn't valid.
 use mathlib.Core.Path.{sym, _∙_}
 use native.Mathlib.Omega.{arith}
 use borrow.Author.Needs.{needs}

@@ -1,4 +1,4 @@
--- `store::calls::deliver_at` meets its contract: by what is told of the message: 11, 12 or its delivery. Assumes nothing.
+-- `store::calls::deliver_at` meets its contract: by what is told of the message: 11, 12 or its delivery.
 use mathlib.Core.Path.{sym, ap, subst, _∙_}
 use Prim.Native.Nat.{ℕ}
 use native.Mathlib.Omega.{arith}

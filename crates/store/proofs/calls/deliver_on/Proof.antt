@@ -1,4 +1,4 @@
--- `store::calls::deliver_on` meets its contract: the message at its place is delivered, and the messages then counted. Assumes nothing.
+-- `store::calls::deliver_on` meets its contract: the message at its place is delivered, and the messages then counted.
 use borrow.Author.Needs.{needs}
 use Rattle.store.proofs.Accepted.{accepted-valid}
 use Rattle.store.proofs.Places.{few-places, accepted-place, deliver-ready, deliver-given}

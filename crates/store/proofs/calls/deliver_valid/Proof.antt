@@ -1,4 +1,4 @@
--- `store::calls::deliver_valid` meets its contract: 10 past the end, else the message at its place. Assumes nothing.
+-- `store::calls::deliver_valid` meets its contract: 10 past the end, else the message at its place.
 use mathlib.Core.Path.{sym}
 use native.Mathlib.Omega.{arith}
 use borrow.Author.Needs.{needs}

@@ -1,4 +1,4 @@
--- `store::calls::fresh` meets its contract: by the refusal, a fresh block or the block as it was. Assumes nothing.
+-- `store::calls::fresh` meets its contract: by the refusal, a fresh block or the block as it was.
 use mathlib.Core.Path.{sym, _∙_}
 use borrow.Author.Needs.{needs}
 use Rattle.range.specs.Sized.{sizes}

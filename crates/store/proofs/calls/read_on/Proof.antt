@@ -1,4 +1,4 @@
--- `store::calls::read_on` meets its contract: the start leaves the protocol's tables, whose messages are counted. Assumes nothing.
+-- `store::calls::read_on` meets its contract: the start leaves the protocol's tables, whose messages are counted.
 use borrow.Author.Needs.{needs}
 use Rattle.store.proofs.Given.{read-ready, read-given}
 use Rattle.store.proofs.calls.read_on.Statement.{statement}

@@ -1,4 +1,4 @@
--- `store::calls::show` meets its contract: by the refusal. Assumes nothing.
+-- `store::calls::show` meets its contract: by the refusal.
 use borrow.Author.Needs.{needs}
 use Rattle.protocol.specs.Calls.{show, lent}
 use Rattle.store.proofs.Given.{refused-shown, show-keeps}

@@ -1,4 +1,4 @@
--- `store::calls::start_read` meets its contract: by the refusal. Assumes nothing.
+-- `store::calls::start_read` meets its contract: by the refusal.
 use borrow.Author.Needs.{needs}
 use Rattle.protocol.specs.Calls.{startRead}
 use Rattle.store.proofs.Given.{refused-given, tables-given}

@@ -1,4 +1,4 @@
--- `store::calls::start_write` meets its contract: by the refusal. Assumes nothing.
+-- `store::calls::start_write` meets its contract: by the refusal.
 use borrow.Author.Needs.{needs}
 use Rattle.protocol.specs.Calls.{startWrite}
 use Rattle.store.proofs.Given.{refused-given, tables-given}

@@ -1,4 +1,4 @@
--- `store::refusals::bad_set` meets its contract: as defined. Assumes nothing.
+-- `store::refusals::bad_set` meets its contract: as defined.
 use borrow.Author.Needs.{needs}
 use Rattle.store.proofs.refusals.bad_set.Statement.{statement}
 use Rattle.store.proofs.refusals.bad_set.Tie as tie

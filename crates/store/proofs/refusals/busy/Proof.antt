@@ -1,4 +1,4 @@
--- `store::refusals::busy` meets its contract: as defined. Assumes nothing.
+-- `store::refusals::busy` meets its contract: as defined.
 use borrow.Author.Needs.{needs}
 use Rattle.store.proofs.refusals.busy.Statement.{statement}
 use Rattle.store.proofs.refusals.busy.Tie as tie

@@ -1,4 +1,4 @@
--- `store::refusals::is_client` meets its contract: as defined. Assumes nothing.
+-- `store::refusals::is_client` meets its contract: as defined.
 use borrow.Author.Needs.{needs}
 use Rattle.store.proofs.refusals.is_client.Statement.{statement}
 use Rattle.store.proofs.refusals.is_client.Tie as tie

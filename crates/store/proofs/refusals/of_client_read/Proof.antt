@@ -1,10 +1,10 @@
--- `store::refusals::of_client_read` meets its contract: test by test, from the words that the tables are. Assumes nothing.
+-- `store::refusals::of_client_read` meets its contract: test by test, from the words that the tables are.
 use mathlib.Core.Path.{refl, sym, ap₂, _∙_}
 use Prim.Native.Nat.{ℕ, _+_}
 use native.Mathlib.Omega.{arith}
 use lib.Dec.{ltb}
 use borrow.Author.Needs.{needs}
-use Rattle.itemset.specs.Counts.{count-le}
+use Rattle.itemset.proofs.Counts.{count-le}
 use Rattle.store.proofs.Given.{chain, has-words, load-few}
 use Rattle.store.proofs.Tested.{read-tests}
 use Rattle.store.proofs.refusals.of_client_read.Statement.{statement}

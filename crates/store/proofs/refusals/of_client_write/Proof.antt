@@ -1,4 +1,4 @@
--- `store::refusals::of_client_write` meets its contract: test by test, from the words that the tables are. Assumes nothing.
+-- `store::refusals::of_client_write` meets its contract: test by test, from the words that the tables are.
 use mathlib.Core.Bool.{not}
 use mathlib.Core.Path.{refl, sym, ap, ap₂, _∙_}
 use Prim.Native.Nat.{ℕ, _+_, _*_}
@@ -6,7 +6,7 @@ use native.Mathlib.Omega.{arith}
 use lib.Dec.{eqb, ltb}
 use lib.ListN.{length}
 use borrow.Author.Needs.{needs}
-use Rattle.itemset.specs.Counts.{count-le}
+use Rattle.itemset.proofs.Counts.{count-le}
 use Rattle.store.proofs.Given.{chain, has-words, load-few, occupied-few}
 use Rattle.store.proofs.Tested.{write-tests}
 use Rattle.store.proofs.refusals.of_client_write.Statement.{statement}

@@ -1,4 +1,4 @@
--- The definitions at some lines, by computing: lines of document 01's session, and lines beside them that are malformed. Assumes nothing.
+-- The definitions at some lines, by computing: lines of document 01's session, and lines beside them that are malformed.
 use mathlib.Core.List.{List, [], _∷_, _++_}
 use mathlib.Core.Path.{_≡_, refl}
 use Prim.Native.Nat.{ℕ}

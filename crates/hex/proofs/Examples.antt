@@ -1,4 +1,4 @@
--- The definitions at some frames of document 01, by computing. Assumes nothing.
+-- The definitions at some frames of document 01, by computing.
 use mathlib.Core.Bool.{true, false}
 use mathlib.Core.List.{List, [], _∷_}
 use mathlib.Core.Path.{_≡_, refl}

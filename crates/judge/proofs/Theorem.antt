@@ -1,4 +1,4 @@
--- What the verdict says of a log, in the words of the published definitions: each case of the verdict, field by field. Assumes nothing.
+-- What the verdict says of a log, in the words of the published definitions: each case of the verdict, field by field.
 use mathlib.Core.Bool.{true, false}
 use mathlib.Core.List.{List}
 use mathlib.Core.Logic.{inl, inr}
@@ -8,14 +8,15 @@ use native.Mathlib.Omega.{arith}
 use lib.Dec.{eqb, ltb}
 use lib.ListN.{length}
 use borrow.Author.Tests.{ltb-true, ltb-false, le-ltb}
-use Rattle.basics.specs.Cases.{by-test, not-both, or-left, or-right, or-neither}
+use Rattle.basics.proofs.Cases.{by-test, not-both, or-left, or-right, or-neither}
 use Rattle.basics.specs.Lists.{counted}
 use Rattle.judge_log.specs.Log.{tooLong, firstLine, framesOf, malformedAt}
-use Rattle.judge_log.specs.Some.{some, firstFrom-holds, firstFrom-none}
-use Rattle.judge.specs.Faults.{unwritten-says, says-unwritten, fractured-says, says-fractured, missed-says, says-missed}
+use Rattle.judge_log.specs.Some.{some}
+use Rattle.judge_log.proofs.Some.{firstFrom-holds, firstFrom-none}
+use Rattle.judge.proofs.Faults.{unwritten-says, says-unwritten, fractured-says, says-fractured, missed-says, says-missed}
 use Rattle.judge.specs.Findings.{unwritten, fractured, ownWriteMissed, findings, holdsAt, lowest, faultAt, judged, checked, verdict}
 use Rattle.judge.specs.Published.{Within, AllWellFormed, FirstMalformed, Unwritten, Fractured, Fault, Lowest, FirstFault, Says}
-use Rattle.judge.specs.WellFormed.{length-frames, well-formed, not-malformed}
+use Rattle.judge.proofs.WellFormed.{length-frames, well-formed, not-malformed}
 use Rattle.judge.specs.declared.Verdict.{Verdict}
 use Rattle.judge.specs.declared.Verdict.the-variants.{TooLong, Malformed, Judged}
 

@@ -1,4 +1,4 @@
--- A line is malformed as the judge computes it if and only if it isn't well-formed as the statement says. Assumes nothing.
+-- A line is malformed as the judge computes it if and only if it isn't well-formed as the statement says.
 use mathlib.Core.Bool.{Bool, true, false, not, _&&_, _||_}
 use mathlib.Core.List.{List, [], _∷_, _++_}
 use mathlib.Core.Logic.{_⊎_, inl, inr, ⊎-elim}
@@ -9,16 +9,19 @@ use lib.Dec.{eqb, leb, ltb}
 use lib.ListN.{length, getD, take, drop, length-append, length-take, length-map, List·getD-map, drop-of-length-le}
 use lib.Seq.{split-at, take-at, length-take-le, getD-take}
 use borrow.Author.Tests.{eqb-true, eqb-false, eq-eqb, ne-eqb, leb-true, leb-false, le-leb, lt-ltb, ltb-true}
-use Rattle.basics.specs.Cases.{by-test, not-both, and-left, and-right, and-both, or-cases, or-left, or-right, or-neither, not-false}
-use Rattle.basics.specs.Lists.{every-at, at-every}
+use Rattle.basics.proofs.Cases.{by-test, not-both, and-left, and-right, and-both, or-cases, or-left, or-right, or-neither, not-false}
+use Rattle.basics.proofs.Lists.{every-at, at-every}
 use Rattle.hex.specs.Bytes.{EachByte}
 use Rattle.hex.specs.Digit.{hexDigit}
-use Rattle.hex.specs.Line.{lineLength, lineLength-at}
-use Rattle.hex.specs.Text.{isHex, bytesOf, hexText, isHex-hexText, bytesOf-hexText, hexText-bytesOf, eachByte-bytesOf}
+use Rattle.hex.specs.Line.{lineLength}
+use Rattle.hex.proofs.Line.{lineLength-at}
+use Rattle.hex.specs.Text.{isHex, bytesOf, hexText}
+use Rattle.hex.proofs.Text.{isHex-hexText, bytesOf-hexText, hexText-bytesOf, eachByte-bytesOf}
 use Rattle.itemset.specs.Set.{count}
-use Rattle.judge_log.specs.Some.{some, some-at, at-some}
+use Rattle.judge_log.specs.Some.{some}
+use Rattle.judge_log.proofs.Some.{some-at, at-some}
 use Rattle.judge_log.specs.Log.{joined, linesOf, textOf, frameOf, framesOf, kindOf, clientOf, setOf, numberOf, isWrite, isRead, isClient, isWhole, entryAt, entryNumber, entryWriter, entriesWhole, writeShaped, readShaped, reaches, malformed, malformedAt}
-use Rattle.judge_log.specs.Parsed.{write-isWrite, read-isWrite}
+use Rattle.judge_log.proofs.Parsed.{write-isWrite, read-isWrite}
 use Rattle.judge.specs.Published.{IsClient, WriteFrame, ReadFrame, WholeStamp, Holds, Rises, WellFormed}
 
 -- ---- a line and its frame

@@ -1,4 +1,4 @@
--- Tests: by cases with the equation that the case gives, and what a conjunction tells. Assumes nothing.
+-- Tests: by cases with the equation that the case gives, and what a conjunction tells.
 use mathlib.Core.Bool.{Bool, true, false, cond, not, Bool·beq, _&&_, _||_}
 use mathlib.Core.Logic.{_⊎_, inl, inr}
 use mathlib.Core.Path.{_≡_, refl, sym, subst}

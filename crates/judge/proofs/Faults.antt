@@ -1,4 +1,4 @@
--- A finding holds at a line of a well-formed log as the judge computes it if and only if the published definition does. Assumes nothing.
+-- A finding holds at a line of a well-formed log as the judge computes it if and only if the published definition does.
 use mathlib.Core.Bool.{Bool, true, false, not, _&&_, _||_}
 use mathlib.Core.List.{List, []}
 use mathlib.Core.Logic.{_↔_, _⊎_, inl, inr, ⊎-elim}
@@ -9,19 +9,21 @@ use lib.Dec.{eqb, ltb, lit<}
 use lib.ListN.{length, getD, take, length-take}
 use lib.Seq.{getD-take}
 use borrow.Author.Tests.{eqb-true, eqb-false, eq-eqb, ne-eqb, ltb-true, ltb-false, lt-ltb}
-use Rattle.basics.specs.Cases.{by-test, not-both, and-left, and-right, and-both, or-cases, or-neither, not-true, not-false}
+use Rattle.basics.proofs.Cases.{by-test, not-both, and-left, and-right, and-both, or-cases, or-neither, not-true, not-false}
 use Rattle.hex.specs.Bytes.{EachByte}
-use Rattle.hex.specs.Number.{numberAt-lt}
-use Rattle.hex.specs.Text.{isHex, eachByte-bytesOf}
+use Rattle.hex.proofs.Number.{numberAt-lt}
+use Rattle.hex.specs.Text.{isHex}
+use Rattle.hex.proofs.Text.{eachByte-bytesOf}
 use Rattle.hex.specs.Line.{lineLength}
 use Rattle.itemset.specs.Set.{has}
-use Rattle.itemset.specs.Laws.{has-below, has-empty}
-use Rattle.judge_log.specs.Some.{some, some-at, at-some, someFrom, someFrom-at, at-someFrom}
+use Rattle.itemset.proofs.Laws.{has-below, has-empty}
+use Rattle.judge_log.specs.Some.{some, someFrom}
+use Rattle.judge_log.proofs.Some.{some-at, at-some, someFrom-at, at-someFrom}
 use Rattle.judge_log.specs.Log.{linesOf, textOf, frameOf, framesOf, clientOf, setOf, numberOf, stampOf, isWrite, isRead, written, writtenStamp, writtenValue, shown, shownStamp, shownValue, writeShaped, readShaped, reaches, malformed, malformedAt}
-use Rattle.judge_log.specs.Parsed.{read-isWrite}
+use Rattle.judge_log.proofs.Parsed.{read-isWrite}
 use Rattle.judge.specs.Findings.{wrote, isUnwritten, unwritten, behind, fractures, fractured, outdates, ownWriteMissed, holdsAt}
 use Rattle.judge.specs.Published.{Unwritten, Fractured, OwnWriteMissed}
-use Rattle.judge.specs.WellFormed.{frame-at, write-is}
+use Rattle.judge.proofs.WellFormed.{frame-at, write-is}
 
 -- the stamp order: the greater number is later; with equal numbers, the greater client
 pub stamp-order : (n d m e : ℕ) → d < 16 → e < 16 → (stampOf n d < stampOf m e) ↔ ((n < m) ⊎ ((n ≡ m) × (d < e)))

@@ -1,4 +1,4 @@
--- Document 01's log examples (★) and those of the source papers, from the log's bytes through the whole definition. Assumes nothing.
+-- Document 01's log examples (★) and those of the source papers, from the log's bytes through the whole definition.
 use mathlib.Core.Bool.{Bool, true, _&&_}
 use mathlib.Core.List.{List, [], _∷_, _++_}
 use mathlib.Core.Path.{_≡_, refl}

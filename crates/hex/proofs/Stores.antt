@@ -1,5 +1,4 @@
 -- Laws of `sets`, a run of stores: of two runs that lie side by side the first may be made before or after the second.
--- Assumes nothing.
 use mathlib.Core.List.{List, [], _∷_, _++_}
 use mathlib.Core.Path.{_≡_, refl, sym, ap, _∙_}
 use Prim.Native.Nat.{ℕ, suc, _+_, _≤_}

@@ -1,5 +1,5 @@
 -- The laws of how many members a set has, `count`, and of how many are below an item, `rank`: each digit counts for itself,
--- the lowest first and then those of half the set. Assumes nothing.
+-- the lowest first and then those of half the set.
 use mathlib.Core.Bool.{true, false, cond}
 use mathlib.Core.Path.{_≡_, refl, sym, ap, _∙_}
 use Prim.Native.Nat.{ℕ, zero, suc, _+_, _/_, _%_, _^_, _≤_, _<_}
@@ -12,8 +12,8 @@ use lib.Count.{ones, onesIn, ones-step, ones-le}
 use lib.Dec.{eqb}
 use lib.Pow.{field, mod-mod-pow}
 use Rattle.itemset.specs.Set.{has, count, rank, insert, remove}
-use Rattle.itemset.specs.Laws.{low-set, low-clear, insert-low, insert-half, insert-zero-low, insert-zero-half, insert-remove, has-remove-same}
-use Rattle.basics.specs.Cases.{by-test}
+use Rattle.itemset.proofs.Laws.{low-set, low-clear, insert-low, insert-half, insert-zero-low, insert-zero-half, insert-remove, has-remove-same}
+use Rattle.basics.proofs.Cases.{by-test}
 
 -- ---- count
 

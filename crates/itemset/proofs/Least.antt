@@ -1,5 +1,5 @@
 -- The laws of the least member from an item on, `leastFrom`, by induction on how many items are looked at: it is within them,
--- it is a member unless it is their end, and no item before it is one. Assumes nothing.
+-- it is a member unless it is their end, and no item before it is one.
 use mathlib.Core.Bool.{true, false}
 use mathlib.Core.Path.{_≡_}
 use mathlib.Core.Logic.{⊎-elim}
@@ -7,7 +7,7 @@ use Prim.Native.Nat.{ℕ, zero, suc, _+_, _≤_, _<_}
 use native.Mathlib.Nat.{eq-or-lt-of-le}
 use native.Mathlib.Omega.{arith}
 use Rattle.itemset.specs.Set.{has, leastFrom}
-use Rattle.basics.specs.Cases.{by-test}
+use Rattle.basics.proofs.Cases.{by-test}
 
 pub least-here : (d s k : ℕ) → has s k ≡ true → leastFrom (suc d) s k ≡ k
 unfolding leastFrom

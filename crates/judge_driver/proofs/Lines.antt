@@ -1,4 +1,4 @@
--- A verdict's bytes as one number, and its line in a buffer: the laws that the driver's proofs cite. Assumes nothing.
+-- A verdict's bytes as one number, and its line in a buffer: the laws that the driver's proofs cite.
 use mathlib.Core.List.{List, [], _∷_, _++_}
 use mathlib.Core.Path.{_≡_, ap, _∙_}
 use Prim.Native.Nat.{ℕ, _+_, _*_, _/_, _%_, _≤_, _<_}

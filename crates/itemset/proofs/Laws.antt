@@ -1,5 +1,5 @@
 -- The laws of membership, `insert` and `remove`, by induction on the item: the lowest digit is decided, and the rest is the same law for half the set.
--- Two sets with the same members are the same number. Assumes nothing.
+-- Two sets with the same members are the same number.
 use mathlib.Core.Bool.{Bool, true, false, not, cond, _&&_, _||_, true≢false}
 use mathlib.Core.Path.{_≡_, refl, sym, ap, _∙_}
 use mathlib.Core.Logic.{_↔_, _≢_}
@@ -11,7 +11,7 @@ use lib.Arith.{bin-ind, lt-one}
 use lib.Pow.{pow-mono}
 use borrow.Author.Tests.{eqb-true, eqb-false, eq-eqb, ne-eqb, ltb-true, ltb-false, lt-ltb, le-ltb}
 use Rattle.itemset.specs.Set.{has, insert, insert64, remove, allBelow}
-use Rattle.basics.specs.Cases.{by-test}
+use Rattle.basics.proofs.Cases.{by-test}
 
 -- the lowest digit is 1, or it is 0
 pub low-set : (s : ℕ) → eqb (s % 2) 1 ≡ true → s % 2 ≡ 1

@@ -1,4 +1,4 @@
--- How the verdict follows from what scanning and searching answer. Assumes nothing.
+-- How the verdict follows from what scanning and searching answer.
 use mathlib.Core.Bool.{false}
 use mathlib.Core.List.{List}
 use mathlib.Core.Path.{_≡_, ap}
@@ -7,12 +7,14 @@ use native.Mathlib.Omega.{arith}
 use lib.Dec.{eqb, ltb}
 use lib.ListN.{length, getD}
 use borrow.Author.Tests.{ltb-false, lt-ltb, le-ltb}
-use Rattle.basics.specs.Cases.{or-neither}
+use Rattle.basics.proofs.Cases.{or-neither}
 use Rattle.basics.specs.Lists.{counted}
-use Rattle.judge_log.specs.Cut.{framesIn, length-framesIn}
+use Rattle.judge_log.specs.Cut.{framesIn}
+use Rattle.judge_log.proofs.Cuts.{length-framesIn}
 use Rattle.judge_log.specs.Log.{tooLong, framesOf}
 use Rattle.judge.specs.Findings.{findings, faultAt, lowest, judged, checked}
-use Rattle.judge_log.specs.Scan.{Scanning, ScannedOf, scan-start}
+use Rattle.judge_log.specs.Scan.{Scanning, ScannedOf}
+use Rattle.judge_log.proofs.Scanning.{scan-start}
 use Rattle.judge_log.specs.Some.{firstFrom}
 use Rattle.judge_log.specs.declared.scan.Scanned.the-variants.{Lines, Bad}
 use Rattle.judge.specs.declared.Verdict.the-variants.{Malformed, Judged}

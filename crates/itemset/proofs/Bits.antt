@@ -1,5 +1,5 @@
 -- The operations on sets as operations on bits: union and intersection are `bitOr` and `bitAnd`, one item is a power of 2,
--- and each operation of the crate is a mask, a shift or a count of bits. By the members, or digit by digit. Assumes nothing.
+-- and each operation of the crate is a mask, a shift or a count of bits. By the members, or digit by digit.
 use mathlib.Core.Bool.{Bool, true, false, cond, _&&_, _||_}
 use mathlib.Core.Path.{_≡_, refl, sym, ap, _∙_}
 use Prim.Native.Nat.{ℕ, zero, suc, _+_, _-_, _*_, _/_, _%_, _^_, _≤_, _<_, min, max}
@@ -11,9 +11,9 @@ use lib.Dec.{eqb, ltb, lit<}
 use lib.Pow.{pow-pos, shl-exact}
 use borrow.Author.Tests.{eq-eqb, ne-eqb, ltb-true, ltb-false}
 use Rattle.itemset.specs.Set.{has, count, rank, insert, remove, allBelow, leastFrom}
-use Rattle.itemset.specs.Laws.{low-set, low-clear, has-power, has-empty, has-insert, insert-hasnt, set-ext}
-use Rattle.basics.specs.Cases.{by-test}
-use Rattle.itemset.specs.Counts.{low-digit, rank-mod}
+use Rattle.itemset.proofs.Laws.{low-set, low-clear, has-power, has-empty, has-insert, insert-hasnt, set-ext}
+use Rattle.basics.proofs.Cases.{by-test}
+use Rattle.itemset.proofs.Counts.{low-digit, rank-mod}
 
 -- ---- union and intersection
 

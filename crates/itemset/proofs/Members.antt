@@ -1,5 +1,5 @@
 -- The laws of the ascending list `upto` of the numbers below a bound that pass a test, and of the members of a set as such a list:
--- the list's length is `count`, and the place of a member is `rank`. By induction on the bound, whose last number stands last. Assumes nothing.
+-- the list's length is `count`, and the place of a member is `rank`. By induction on the bound, whose last number stands last.
 use mathlib.Core.Bool.{Bool, true, false, cond}
 use mathlib.Core.List.{List, [], _++_, append-nil}
 use mathlib.Core.Path.{_≡_, refl, sym, ap, ap₂, _∙_}
@@ -11,9 +11,9 @@ use native.Mathlib.Omega.{arith}
 use lib.ListN.{length, getD, length-append, List·getD-append}
 use lib.Seq.{getD-at}
 use Rattle.itemset.specs.Set.{has, count, rank, only, upto, members}
-use Rattle.itemset.specs.Laws.{has-above}
-use Rattle.basics.specs.Cases.{by-test}
-use Rattle.itemset.specs.Counts.{rank-zero, rank-suc, rank-all}
+use Rattle.itemset.proofs.Laws.{has-above}
+use Rattle.basics.proofs.Cases.{by-test}
+use Rattle.itemset.proofs.Counts.{rank-zero, rank-suc, rank-all}
 
 -- ---- upto
 

@@ -1,0 +1,4 @@
+-- Laws of the definitions.
+pub mod Cases
+pub mod Lists
+pub mod Fold

@@ -1,0 +1,6 @@
+-- Laws of the definitions.
+pub mod Laws
+pub mod Counts
+pub mod Members
+pub mod Least
+pub mod Bits

@@ -1,0 +1,8 @@
+-- Laws of the definitions.
+pub mod Answer
+pub mod Examples
+pub mod Faults
+pub mod Marking
+pub mod Searching
+pub mod Theorem
+pub mod WellFormed
