@@ -74,8 +74,11 @@ beq-true false false e = refl
 -- ---- tests on numbers
 
 pub between : (low high n : ℕ) → (leb low n && leb n high) ≡ true → (low ≤ n) × (n ≤ high)
-between low high n e =
-    (leb-true low n (and-left (leb low n) (leb n high) e), leb-true n high (and-right (leb low n) (leb n high) e))
+between low high n e = (
+  leb-true low n (and-left (leb low n) (leb n high) e),
+  leb-true n high
+      (and-right (leb low n) (leb n high) e),
+)
 
 pub both-below : (n a b : ℕ) → (ltb a n && ltb b n) ≡ true → (a < n) × (b < n)
 both-below n a b e =

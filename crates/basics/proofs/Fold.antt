@@ -15,7 +15,8 @@ pub upTo-all : {A : Type 0} (P : ℕ → A → Type 0) (f : A → ℕ → A) (a 
     → P 0 a → ((k : ℕ) (x : A) → k < n → P k x → P (suc k) (f x k)) → P n (upTo f a n)
 unfolding upTo
 upTo-all P f a zero first turn = first
-upTo-all P f a (suc n) first turn = turn n (upTo f a n) (omega arith) (upTo-all P f a n first (λ k x h. turn k x (omega arith)))
+upTo-all P f a (suc n) first turn =
+    turn n (upTo f a n) (omega arith) (upTo-all P f a n first (λ k x h. turn k x (omega arith)))
 
 -- ---- a loop that runs a fold, turn by turn
 

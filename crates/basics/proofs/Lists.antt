@@ -1,5 +1,5 @@
--- Lists with a test: membership, all, how many, the list without a place; numbers below a bound with a test. Each definition is
--- followed by its laws.
+-- Lists with a test: membership, all, how many, the list without a place; numbers below a bound
+-- with a test. Each definition is followed by its laws.
 use mathlib.Core.Bool.{Bool, true, false, cond}
 use mathlib.Core.List.{List, [], _∷_, _++_, map}
 use mathlib.Core.Logic.{_⊎_, inl, inr, ⊎-elim}
@@ -14,9 +14,9 @@ use borrow.Author.Tests.{eqb-true, eqb-false}
 use Rattle.basics.proofs.Cases.{by-test, and-left, and-right, and-both}
 use Rattle.basics.specs.Lists.{In, all, counted, without, table, every}
 
+module _ {A : Type 0} where
   -- ---- In: x is an element of a list
 
-module _ {A : Type 0} where
   pub in-left : (x : A) (xs ys : List A) → In x xs → In x (xs ++ ys)
   in-left x [] ys e = absurd e
   in-left x (z ∷ xs) ys (inl e) = inl e
@@ -41,21 +41,25 @@ module _ {A : Type 0} where
   pub all-in : (p : A → Bool) (xs : List A) → all p xs ≡ true → (x : A) → In x xs → p x ≡ true
   unfolding all
   all-in p [] e x i = absurd i
-  all-in p (y ∷ ys) e x (inl i) = subst (λ (z : A). p z ≡ true) (sym i) (and-left (p y) (all p ys) e)
+  all-in p (y ∷ ys) e x (inl i) = subst (λ (z : A). p z ≡ true) (sym i)
+      (and-left (p y) (all p ys) e)
   all-in p (y ∷ ys) e x (inr i) = all-in p ys (and-right (p y) (all p ys) e) x i
 
   pub in-all : (p : A → Bool) (xs : List A) → ((x : A) → In x xs → p x ≡ true) → all p xs ≡ true
   unfolding all
   in-all p [] h = refl
-  in-all p (y ∷ ys) h = and-both (p y) (all p ys) (h y (inl refl)) (in-all p ys (λ x i. h x (inr i)))
+  in-all p (y ∷ ys) h = and-both (p y) (all p ys) (h y (inl refl))
+      (in-all p ys (λ x i. h x (inr i)))
 
   -- ---- counted: how many elements pass the test
 
-  pub counted-append : (p : A → Bool) (xs ys : List A) → counted p (xs ++ ys) ≡ counted p xs + counted p ys
+  pub counted-append : (p : A → Bool) (xs ys : List A)
+      → counted p (xs ++ ys) ≡ counted p xs + counted p ys
   unfolding counted
   counted-append p [] ys = sym (zero-add (counted p ys))
   counted-append p (x ∷ xs) ys =
-      ap (λ (n : ℕ). cond (p x) 1 0 + n) (counted-append p xs ys) ∙ sym (add-assoc (cond (p x) 1 0) (counted p xs) (counted p ys))
+      ap (λ (n : ℕ). cond (p x) 1 0 + n) (counted-append p xs ys)
+      ∙ sym (add-assoc (cond (p x) 1 0) (counted p xs) (counted p ys))
 
   pub counted-in : (p : A → Bool) (xs : List A) (x : A) → In x xs → p x ≡ true → 1 ≤ counted p xs
   unfolding counted
@@ -63,32 +67,39 @@ module _ {A : Type 0} where
   counted-in p (y ∷ ys) x (inl i) e = rw (subst (λ (z : A). p z ≡ true) i e) (omega arith)
   counted-in p (y ∷ ys) x (inr i) e = omega (arith, counted-in p ys x i e)
 
-  pub counted-none : (p : A → Bool) (xs : List A) → counted p xs ≡ 0 → (x : A) → In x xs → p x ≡ false
+  pub counted-none : (p : A → Bool) (xs : List A) → counted p xs ≡ 0 → (x : A) → In x xs
+      → p x ≡ false
   counted-none p xs e x i = by-test (p x) (λ t. absurd (absent (counted-in p xs x i t))) (λ f. f)
     where
       absent : 1 ≤ counted p xs → ⊥
       absent h = omega arith
 
-  pub none-counted : (p : A → Bool) (xs : List A) → ((x : A) → In x xs → p x ≡ false) → counted p xs ≡ 0
+  pub none-counted : (p : A → Bool) (xs : List A) → ((x : A) → In x xs → p x ≡ false)
+      → counted p xs ≡ 0
   unfolding counted
   none-counted p [] h = refl
   none-counted p (y ∷ ys) h = rw (h y (inl refl)) (rw (none-counted p ys (λ x i. h x (inr i))) refl)
 
-  pub counted-ext : (p q : A → Bool) (xs : List A) → ((x : A) → In x xs → p x ≡ q x) → counted p xs ≡ counted q xs
+  pub counted-ext : (p q : A → Bool) (xs : List A) → ((x : A) → In x xs → p x ≡ q x)
+      → counted p xs ≡ counted q xs
   unfolding counted
   counted-ext p q [] h = refl
-  counted-ext p q (y ∷ ys) h = rw (h y (inl refl)) (rw (counted-ext p q ys (λ x i. h x (inr i))) refl)
+  counted-ext p q (y ∷ ys) h = rw (h y (inl refl))
+      (rw (counted-ext p q ys (λ x i. h x (inr i))) refl)
 
-  pub counted-all : (p : A → Bool) (xs : List A) → ((x : A) → In x xs → p x ≡ true) → counted p xs ≡ length xs
+  pub counted-all : (p : A → Bool) (xs : List A) → ((x : A) → In x xs → p x ≡ true)
+      → counted p xs ≡ length xs
   unfolding counted
   counted-all p [] h = refl
-  counted-all p (y ∷ ys) h = rw (h y (inl refl), counted-all p ys (λ x i. h x (inr i))) (omega arith)
+  counted-all p (y ∷ ys) h = rw (h y (inl refl), counted-all p ys (λ x i. h x (inr i)))
+      (omega arith)
 
   pub counted-le : (p : A → Bool) (xs : List A) → counted p xs ≤ length xs
   unfolding counted
   counted-le p [] = zero-le
   counted-le p (x ∷ xs) =
-      by-test (p x) (λ e. rw e (omega (arith, counted-le p xs))) (λ e. rw e (omega (arith, counted-le p xs)))
+      by-test (p x) (λ e. rw e (omega (arith, counted-le p xs)))
+      (λ e. rw e (omega (arith, counted-le p xs)))
 
   -- ---- without: the list without the element at a place; later ones move up by one
 
@@ -99,7 +110,8 @@ module _ {A : Type 0} where
   in-without x (suc i) (y ∷ ys) (inl e) = inl e
   in-without x (suc i) (y ∷ ys) (inr e) = inr (in-without x i ys e)
 
-  pub length-without : (i : ℕ) (xs : List A) → i < length xs → suc (length (without i xs)) ≡ length xs
+  pub length-without : (i : ℕ) (xs : List A) → i < length xs
+      → suc (length (without i xs)) ≡ length xs
   unfolding without
   length-without i [] h = absurd (not-suc-le-zero h)
   length-without zero (x ∷ xs) h = refl
@@ -110,14 +122,17 @@ module _ {A : Type 0} where
   unfolding without counted
   counted-without p i [] d h = absurd (not-suc-le-zero h)
   counted-without p zero (x ∷ xs) d h = refl
-  counted-without p (suc i) (x ∷ xs) d h = omega (arith, counted-without p i xs d (le-of-suc-le-suc h))
+  counted-without p (suc i) (x ∷ xs) d h =
+      omega (arith, counted-without p i xs d (le-of-suc-le-suc h))
 
-  pub all-without : (p : A → Bool) (i : ℕ) (xs : List A) → all p xs ≡ true → all p (without i xs) ≡ true
+  pub all-without : (p : A → Bool) (i : ℕ) (xs : List A) → all p xs ≡ true
+      → all p (without i xs) ≡ true
   all-without p i xs e = in-all p (without i xs) (λ x h. all-in p xs e x (in-without x i xs h))
 
 -- ---- map
 
-pub in-map : {A B : Type 0} (f : A → B) (y : B) (xs : List A) → In y (map f xs) → (x : A) × In x xs × (y ≡ f x)
+pub in-map : {A B : Type 0} (f : A → B) (y : B) (xs : List A) → In y (map f xs) → (x : A) × In x xs
+    × (y ≡ f x)
 in-map f y [] e = absurd e
 in-map f y (x ∷ xs) (inl e) = (x, inl refl, e)
 in-map f y (x ∷ xs) (inr e) = let r = in-map f y xs e in (r .0, inr (r .1), r .2)
@@ -127,21 +142,25 @@ map-in f x [] e = absurd e
 map-in f x (y ∷ ys) (inl e) = inl (ap f e)
 map-in f x (y ∷ ys) (inr e) = inr (map-in f x ys e)
 
-pub map-append : {A B : Type 0} (f : A → B) (xs ys : List A) → map f (xs ++ ys) ≡ map f xs ++ map f ys
+pub map-append : {A B : Type 0} (f : A → B) (xs ys : List A)
+    → map f (xs ++ ys) ≡ map f xs ++ map f ys
 map-append f [] ys = refl
 map-append f (x ∷ xs) ys = ap (λ (l : List _). f x ∷ l) (map-append f xs ys)
 
-pub map-map : {A B C : Type 0} (f : A → B) (g : B → C) (xs : List A) → map g (map f xs) ≡ map (λ x. g (f x)) xs
+pub map-map : {A B C : Type 0} (f : A → B) (g : B → C) (xs : List A)
+    → map g (map f xs) ≡ map (λ x. g (f x)) xs
 map-map f g [] = refl
 map-map f g (x ∷ xs) = ap (λ (l : List _). g (f x) ∷ l) (map-map f g xs)
 
-pub map-without : {A B : Type 0} (f : A → B) (i : ℕ) (xs : List A) → map f (without i xs) ≡ without i (map f xs)
+pub map-without : {A B : Type 0} (f : A → B) (i : ℕ) (xs : List A)
+    → map f (without i xs) ≡ without i (map f xs)
 unfolding without
 map-without f i [] = refl
 map-without f zero (x ∷ xs) = refl
 map-without f (suc i) (x ∷ xs) = ap (λ (l : List _). f x ∷ l) (map-without f i xs)
 
-pub counted-map : {A B : Type 0} (f : A → B) (p : B → Bool) (xs : List A) → counted p (map f xs) ≡ counted (λ x. p (f x)) xs
+pub counted-map : {A B : Type 0} (f : A → B) (p : B → Bool) (xs : List A)
+    → counted p (map f xs) ≡ counted (λ x. p (f x)) xs
 unfolding counted
 counted-map f p [] = refl
 counted-map f p (x ∷ xs) = ap (λ (n : ℕ). cond (p (f x)) 1 0 + n) (counted-map f p xs)
@@ -158,11 +177,14 @@ unfolding table
 table-at zero f i d h = absurd (not-suc-le-zero h)
 table-at (suc n) f i d h =
     by-test (eqb i n)
-    (λ e. subst (λ (j : ℕ). getD (table n f ++ f n ∷ []) j d ≡ f j) (sym (eqb-true i n e)) (getD-at (table n f) (f n) [] d n (length-table n f)))
+    (λ e. subst (λ (j : ℕ). getD (table n f ++ f n ∷ []) j d ≡ f j) (sym (eqb-true i n e))
+    (getD-at (table n f) (f n) [] d n (length-table n f)))
     (λ e. let below : i < n = omega (arith, eqb-false i n e) in
-    List·getD-append (table n f) (f n ∷ []) d i (subst (λ (m : ℕ). i < m) (sym (length-table n f)) below) ∙ table-at n f i d below)
+    List·getD-append (table n f) (f n ∷ []) d i
+    (subst (λ (m : ℕ). i < m) (sym (length-table n f)) below) ∙ table-at n f i d below)
 
-pub table-ext : {A : Type 0} (n : ℕ) (f g : ℕ → A) → ((i : ℕ) → i < n → f i ≡ g i) → table n f ≡ table n g
+pub table-ext : {A : Type 0} (n : ℕ) (f g : ℕ → A) → ((i : ℕ) → i < n → f i ≡ g i)
+    → table n f ≡ table n g
 unfolding table
 table-ext zero f g h = refl
 table-ext (suc n) f g h = rw (table-ext n f g (λ i l. h i (omega arith)), h n (omega arith)) refl
@@ -180,4 +202,5 @@ every-at (suc n) p e k h =
 pub at-every : (n : ℕ) (p : ℕ → Bool) → ((k : ℕ) → k < n → p k ≡ true) → every n p ≡ true
 unfolding every
 at-every zero p h = refl
-at-every (suc n) p h = and-both (every n p) (p n) (at-every n p (λ k l. h k (omega arith))) (h n (omega arith))
+at-every (suc n) p h = and-both (every n p) (p n) (at-every n p (λ k l. h k (omega arith)))
+    (h n (omega arith))

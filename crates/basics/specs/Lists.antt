@@ -1,14 +1,14 @@
--- Lists with a test: membership, all, how many, the list without a place; numbers below a bound with a test. Each definition is
--- followed by its laws.
+-- Lists with a test: membership, all, how many, the list without a place; numbers below a bound
+-- with a test. Each definition is followed by its laws.
 use mathlib.Core.Bool.{Bool, true, cond, _&&_}
 use mathlib.Core.List.{List, [], _∷_, _++_}
 use mathlib.Core.Logic.{_⊎_}
 use mathlib.Core.Path.{_≡_}
 use Prim.Native.Nat.{ℕ, zero, suc, _+_}
 
+module _ {A : Type 0} where
   -- ---- In: x is an element of a list
 
-module _ {A : Type 0} where
   abbrev pub In : A → List A → Type 0
   In x [] = ⊥
   In x (y ∷ ys) = (x ≡ y) ⊎ In x ys

@@ -7,7 +7,8 @@ use Rattle.protocol.specs.Tables.{Sizes}
 use Rattle.protocol.proofs.Ranges.Values.{MessageInRange}
 use Rattle.deliver.specs.Tests.{Bounded}
 
-pub bounded : (z : Sizes) (m : Message) → z .clients ≤ 8 → z .items ≤ 64 → MessageInRange z m → Bounded m
+pub bounded : (z : Sizes) (m : Message) → z .clients ≤ 8 → z .items ≤ 64 → MessageInRange z m
+    → Bounded m
 bounded z (Prepare v) clients items r = tt
 bounded z (Prepared k stamp) clients items r = omega (arith, r .stamp .writer)
 bounded z (Commit p stamp) clients items r = tt

@@ -1,4 +1,5 @@
--- A delivery on the block is the delivery in the tables: the message is taken out, does its work, and its new messages join at the end.
+-- A delivery on the block is the delivery in the tables: the message is taken out, does its work,
+-- and its new messages join at the end.
 use mathlib.Core.List.{List}
 use mathlib.Core.Path.{_≡_, refl, sym, ap, subst}
 use Prim.Native.Nat.{ℕ}
@@ -31,12 +32,14 @@ use Rattle.deliver.proofs.TestedTables.{tested-tables}
 -- room for what an accepted delivery leaves
 room-after : (t : Tables) (i : ℕ) → AcceptedDeliver capacities t i → HasRoom (deliveredAt t i)
 unfolding effect
-room-after t i a = room-valid (deliveredAt t i) (valid-kept capacities t (deliver i) (accepted-deliver capacities t i .1 a))
+room-after t i a = room-valid (deliveredAt t i)
+    (valid-kept capacities t (deliver i) (accepted-deliver capacities t i .1 a))
 
 counts-held : {b : List ℕ} {t : Tables} → Encodes b t → countsIn b ≡ countsOf t
 counts-held n = rw (n .partitions, n .items, n .versionCount) refl
 
-module _ {b : List ℕ} {t : Tables} (i : ℕ) (n : Encodes b t) (masked : MaskedMessage (messageAt t i)) (a : AcceptedDeliver capacities t i) where
+module _ {b : List ℕ} {t : Tables} (i : ℕ) (n : Encodes b t)
+    (masked : MaskedMessage (messageAt t i)) (a : AcceptedDeliver capacities t i) where
   room : HasRoom t
   room = room-valid t (a .valid)
 
@@ -47,7 +50,8 @@ module _ {b : List ℕ} {t : Tables} (i : ℕ) (n : Encodes b t) (masked : Maske
   -- taken out
   taken : Encodes (takeOut b (at b header messagesAt) i) (withMessages t (without i (t .messages)))
   taken =
-      encodes-take-out (at b header messagesAt) i n room (n .messageCount) (omega (arith, n .messageCount, a .place))
+      encodes-take-out (at b header messagesAt) i n room (n .messageCount)
+      (omega (arith, n .messageCount, a .place))
       (omega (arith, n .messageCount, room .messages))
 
   room-taken : HasRoom (withMessages t (without i (t .messages)))
@@ -60,9 +64,11 @@ module _ {b : List ℕ} {t : Tables} (i : ℕ) (n : Encodes b t) (masked : Maske
         client = room .client;
       }
 
-  value-read : testedIn b (at b header versionsAt) (messageAt t i) .value ≡ answerOf t (messageAt t i)
+  value-read : testedIn b (at b header versionsAt) (messageAt t i) .value ≡ answerOf t
+      (messageAt t i)
   value-read =
-      ap (λ (x : Tested). x .value) (tested-tables (messageAt t i) n (a .valid .inRange) (accepted-message capacities t i a))
+      ap (λ (x : Tested). x .value)
+      (tested-tables (messageAt t i) n (a .valid .inRange) (accepted-message capacities t i a))
 
   pub encodes-deliver : Encodes (deliveredBlock b i) (deliveredAt t i)
   unfolding deliveredBlock
@@ -70,17 +76,24 @@ module _ {b : List ℕ} {t : Tables} (i : ℕ) (n : Encodes b t) (masked : Maske
       let after = room-after t i a in
       subst
       (λ (m : Message).
-      Encodes (messageDelivered (takeOut b (at b header messagesAt) i) (countsIn b) (testedIn b (at b header versionsAt) m .value) m) (deliveredAt t i))
+      Encodes (messageDelivered (takeOut b (at b header messagesAt) i) (countsIn b)
+      (testedIn b (at b header versionsAt) m .value) m) (deliveredAt t i))
       (sym message-read)
       (subst
       (λ (c : Counts).
-      Encodes (messageDelivered (takeOut b (at b header messagesAt) i) c (testedIn b (at b header versionsAt) (messageAt t i) .value) (messageAt t i)) (deliveredAt t i))
+      Encodes (messageDelivered (takeOut b (at b header messagesAt) i) c
+      (testedIn b (at b header versionsAt) (messageAt t i) .value) (messageAt t i))
+      (deliveredAt t i))
       (sym (counts-held n))
-      (encodes-work t (without i (t .messages)) taken room-taken (messageAt t i) (testedIn b (at b header versionsAt) (messageAt t i) .value)
-      (a .valid .inRange) (accepted-message capacities t i a) (a .expected) value-read (after .versions) (after .messages)))
+      (encodes-work t (without i (t .messages)) taken room-taken (messageAt t i)
+      (testedIn b (at b header versionsAt) (messageAt t i) .value)
+      (a .valid .inRange) (accepted-message capacities t i a) (a .expected) value-read
+      (after .versions) (after .messages)))
 
--- what the code does, from its copies of the block's words, is the delivery of the message at place i
-pub delivered-block : (b : List ℕ) (n i : ℕ) (counts : Counts) (value : ℕ) (m : Message) → n ≡ at b header messagesAt → counts ≡ countsIn b
+-- what the code does, from its copies of the block's words, is the delivery of the message at place
+-- i
+pub delivered-block : (b : List ℕ) (n i : ℕ) (counts : Counts) (value : ℕ) (m : Message)
+    → n ≡ at b header messagesAt → counts ≡ countsIn b
     → m ≡ messageIn b i → value ≡ testedIn b (at b header versionsAt) m .value
     → messageDelivered (takeOut b n i) counts value m ≡ deliveredBlock b i
 unfolding deliveredBlock

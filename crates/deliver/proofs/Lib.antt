@@ -1,4 +1,5 @@
--- The laws of the deliveries: each change of the block is the protocol's change of the tables that it holds.
+-- The laws of the deliveries: each change of the block is the protocol's change of the tables that
+-- it holds.
 pub mod Rows
 pub mod Struck
 pub mod Committed

@@ -12,15 +12,20 @@ use Rattle.protocol.specs.declared.Message.{Message}
 use Rattle.protocol.specs.declared.Message.the-variants.{Prepare, Prepared, Commit, Get, Got}
 use Rattle.protocol.specs.Tables.{writerOf}
 use Rattle.protocol.proofs.Put.{by-cond}
-use Rattle.layout.specs.Layout.{scalars, latest, views, values, versions, messages, base, at, messagesAt, awaitedAt, latestAt, viewAt, itemAt, messageAt}
+use Rattle.layout.specs.Layout.{scalars, latest, views, values, versions, messages, base, at}
+use Rattle.layout.specs.Layout.{messagesAt, awaitedAt, latestAt, viewAt, itemAt, messageAt}
 use Rattle.layout.specs.Decode.{versionIn}
 use Rattle.layout.specs.Store.{takeOut}
 use Rattle.slots.proofs.Runs.{run-length, run-behind}
-use Rattle.ends.proofs.Past.{SamePast, past-none, past-trans, past-when, past-each, past-store, past-entry, past-keep, past-send, past-scalar, past-read-ended, past-write-ended}
+use Rattle.ends.proofs.Past.{SamePast, past-none, past-trans, past-when, past-each, past-store}
+use Rattle.ends.proofs.Past.{past-entry, past-keep, past-send, past-scalar, past-read-ended}
+use Rattle.ends.proofs.Past.{past-write-ended}
 use Rattle.deliver.specs.declared.Counts.{Counts}
 use Rattle.deliver.specs.Tests.{Bounded}
 use Rattle.ends.specs.Room.{keep}
-use Rattle.deliver.specs.Deliver.{prepareDelivered, preparedDelivered, commitVersion, commitDelivered, getDelivered, answered, gotDelivered, messageDelivered}
+use Rattle.deliver.specs.Deliver.{prepareDelivered, preparedDelivered, commitVersion}
+use Rattle.deliver.specs.Deliver.{commitDelivered, getDelivered, answered, gotDelivered}
+use Rattle.deliver.specs.Deliver.{messageDelivered}
 
 past-take-out : (b : List ℕ) (n i : ℕ) → i < n → n ≤ 128 → SamePast b (takeOut b n i)
 unfolding takeOut
@@ -34,9 +39,12 @@ past-take-out b n i l h =
 
 -- ---- messages
 
-past-work : (b : List ℕ) (n : Counts) (value : ℕ) (m : Message) → n .items ≤ 64 → Bounded m → SamePast b (messageDelivered b n value m)
-unfolding messageDelivered prepareDelivered preparedDelivered commitDelivered getDelivered gotDelivered
-past-work b n value (Prepare v) h r = past-trans (past-keep b v) (past-send (keep b v) (Prepared (v .item) (v .stamp)))
+past-work : (b : List ℕ) (n : Counts) (value : ℕ) (m : Message) → n .items ≤ 64 → Bounded m
+    → SamePast b (messageDelivered b n value m)
+unfolding messageDelivered prepareDelivered preparedDelivered commitDelivered getDelivered
+    gotDelivered
+past-work b n value (Prepare v) h r =
+    past-trans (past-keep b v) (past-send (keep b v) (Prepared (v .item) (v .stamp)))
 past-work b n value (Prepared k stamp) h r =
     by-cond (SamePast b) (eqb (remove (at b scalars (awaitedAt (writerOf stamp))) k) 0) _ _
     (λ e. past-write-ended (writerOf stamp) (r .0) (r .1) b (n .partitions) (n .items) stamp h)
@@ -44,21 +52,28 @@ past-work b n value (Prepared k stamp) h r =
 past-work b n value (Commit p stamp) h r =
     past-each (commitVersion (n .partitions) p stamp) b (n .versions) (λ i c l.
     past-when c _ (eqb (versionIn c i .stamp) stamp)
-    (by-cond (SamePast c) (eqb (versionIn c i .item % n .partitions) p && ltb (versionIn c i .item) 64) _ c
+    (by-cond (SamePast c) (eqb (versionIn c i .item % n .partitions) p
+    && ltb (versionIn c i .item) 64) _ c
     (λ e.
-    let item : versionIn c i .item < 64 = ltb-true (versionIn c i .item) 64 (and-right (eqb (versionIn c i .item % n .partitions) p) (ltb (versionIn c i .item) 64) e) in
+    let item : versionIn c i .item < 64 =
+    ltb-true (versionIn c i .item) 64
+    (and-right (eqb (versionIn c i .item % n .partitions) p)
+    (ltb (versionIn c i .item) 64) e) in
     past-entry c latest (latestAt (versionIn c i .item)) _ (omega arith))
     (λ e. past-none c)))
 past-work b n value (Get d k stamp) h r = past-send b _
 past-work b n value (Got d v entry) h r =
     past-trans
-    (past-trans (past-entry b views (viewAt d (v .item)) _ (omega arith)) (past-store _ values (itemAt d (v .item)) (v .value) (omega arith)))
-    (by-cond (SamePast (answered b d v entry)) (eqb (remove (at b scalars (awaitedAt d)) (v .item)) 0) _ _
+    (past-trans (past-entry b views (viewAt d (v .item)) _ (omega arith))
+    (past-store _ values (itemAt d (v .item)) (v .value) (omega arith)))
+    (by-cond (SamePast (answered b d v entry))
+    (eqb (remove (at b scalars (awaitedAt d)) (v .item)) 0) _ _
     (λ e. past-read-ended d (r .0) (r .1) (answered b d v entry) (n .items) h)
     (λ e. past-scalar d (r .0) (r .1) (answered b d v entry) 3 _ (lit< tt)))
 
 -- of n messages the one at place i
-pub past-deliver : (b : List ℕ) (n i : ℕ) (counts : Counts) (value : ℕ) (m : Message) → i < n → n ≤ 128 → counts .items ≤ 64 → Bounded m
+pub past-deliver : (b : List ℕ) (n i : ℕ) (counts : Counts) (value : ℕ) (m : Message) → i < n
+    → n ≤ 128 → counts .items ≤ 64 → Bounded m
     → SamePast b (messageDelivered (takeOut b n i) counts value m)
 past-deliver b n i counts value m l h items r =
     past-trans (past-take-out b n i l h) (past-work (takeOut b n i) counts value m items r)

@@ -12,32 +12,40 @@ use Rattle.ends.specs.Ends.{readEnded, writeEnded}
 use Rattle.ends.proofs.Chosen.{when, unless}
 use Rattle.deliver.specs.Deliver.{answered, preparedDelivered, gotDelivered}
 
-module _ (b y : List ℕ) (partitions items k stamp awaited rest : ℕ) (e : awaited ≡ at b scalars (awaitedAt (writerOf stamp)))
+module _ (b y : List ℕ) (partitions items k stamp awaited rest : ℕ)
+    (e : awaited ≡ at b scalars (awaitedAt (writerOf stamp)))
     (r : rest ≡ remove awaited k) where
   struck-prepared : rest ≡ remove (at b scalars (awaitedAt (writerOf stamp))) k
   struck-prepared = r ∙ ap (λ (x : ℕ). remove x k) e
 
-  pub prepared-last : rest ≡ 0 → y ≡ writeEnded b partitions items (writerOf stamp) stamp → y ≡ preparedDelivered b partitions items k stamp
+  pub prepared-last : rest ≡ 0 → y ≡ writeEnded b partitions items (writerOf stamp) stamp
+      → y ≡ preparedDelivered b partitions items k stamp
   unfolding preparedDelivered
   prepared-last z h = when _ _ _ _ (eq-eqb _ _ (sym struck-prepared ∙ z)) h
 
-  pub prepared-more : (rest ≡ 0 → ⊥) → y ≡ store b scalars (awaitedAt (writerOf stamp)) rest → y ≡ preparedDelivered b partitions items k stamp
+  pub prepared-more : (rest ≡ 0 → ⊥) → y ≡ store b scalars (awaitedAt (writerOf stamp)) rest
+      → y ≡ preparedDelivered b partitions items k stamp
   unfolding preparedDelivered
   prepared-more z h =
-      unless _ _ _ _ (ne-eqb _ _ (λ x. z (struck-prepared ∙ x))) (h ∙ ap (store b scalars (awaitedAt (writerOf stamp))) struck-prepared)
+      unless _ _ _ _ (ne-eqb _ _ (λ x. z (struck-prepared ∙ x)))
+      (h ∙ ap (store b scalars (awaitedAt (writerOf stamp))) struck-prepared)
 
-module _ (b x y : List ℕ) (items d : ℕ) (v : Version) (latest : Entry) (awaited rest : ℕ) (e : awaited ≡ at b scalars (awaitedAt d))
+module _ (b x y : List ℕ) (items d : ℕ) (v : Version) (latest : Entry) (awaited rest : ℕ)
+    (e : awaited ≡ at b scalars (awaitedAt d))
     (r : rest ≡ remove awaited (v .item)) (a : x ≡ answered b d v latest) where
   struck-got : rest ≡ remove (at b scalars (awaitedAt d)) (v .item)
   struck-got = r ∙ ap (λ (z : ℕ). remove z (v .item)) e
 
   pub got-last : rest ≡ 0 → y ≡ readEnded x items d → y ≡ gotDelivered b items d v latest
   unfolding gotDelivered
-  got-last z h = when _ _ _ _ (eq-eqb _ _ (sym struck-got ∙ z)) (h ∙ ap (λ (u : List ℕ). readEnded u items d) a)
+  got-last z h = when _ _ _ _ (eq-eqb _ _ (sym struck-got ∙ z))
+      (h ∙ ap (λ (u : List ℕ). readEnded u items d) a)
 
-  pub got-more : (rest ≡ 0 → ⊥) → y ≡ store x scalars (awaitedAt d) rest → y ≡ gotDelivered b items d v latest
+  pub got-more : (rest ≡ 0 → ⊥) → y ≡ store x scalars (awaitedAt d) rest
+      → y ≡ gotDelivered b items d v latest
   unfolding gotDelivered
   got-more z h =
       unless _ _ _ _ (ne-eqb _ _ (λ u. z (struck-got ∙ u)))
       (h
-      ∙ (ap (λ (u : List ℕ). store u scalars (awaitedAt d) rest) a ∙ ap (store (answered b d v latest) scalars (awaitedAt d)) struck-got))
+      ∙ (ap (λ (u : List ℕ). store u scalars (awaitedAt d) rest) a
+      ∙ ap (store (answered b d v latest) scalars (awaitedAt d)) struck-got))

@@ -12,10 +12,18 @@ use Rattle.layout.proofs.ClientHolds.{WordsHold}
 -- w with another awaited set and other values
 abbrev pub struckWords : Words → ℕ → (ℕ → ℕ) → Words
 struckWords w rest vs =
-    record { scalar = put (w .scalar) 3 rest; asked = w .asked; values = vs; lastStamps = w .lastStamps; lastValues = w .lastValues }
+    record {
+      scalar = put (w .scalar) 3 rest;
+      asked = w .asked;
+      values = vs;
+      lastStamps =
+          w .lastStamps;
+      lastValues = w .lastValues;
+    }
 
 pub words-struck : (w : Words) (c : Client) (k : ℕ) (vs values : ℕ → ℕ) → WordsHold w c
-    → ((j : ℕ) → has (c .set) j ≡ true → vs j ≡ values j) → WordsHold (struckWords w (remove (c .awaited) k) vs) (struck c k values)
+    → ((j : ℕ) → has (c .set) j ≡ true → vs j ≡ values j)
+    → WordsHold (struckWords w (remove (c .awaited) k) vs) (struck c k values)
 words-struck w c k vs values h same =
     record {
       mode = h .mode;
@@ -28,5 +36,6 @@ words-struck w c k vs values h same =
       last = h .last;
     }
 
-pub narrow-struck : (c : Client) (k : ℕ) (values : ℕ → ℕ) → NarrowClient c → NarrowClient (struck c k values)
+pub narrow-struck : (c : Client) (k : ℕ) (values : ℕ → ℕ) → NarrowClient c
+    → NarrowClient (struck c k values)
 narrow-struck c k values n = record { set = n .set; last = n .last }

@@ -1,4 +1,5 @@
--- The work of each message on the block is its work in the tables, with its new messages at the end.
+-- The work of each message on the block is its work in the tables, with its new messages at the
+-- end.
 use mathlib.Core.List.{List, [], _∷_, _++_, append-nil}
 use mathlib.Core.Path.{_≡_, sym, subst}
 use Prim.Native.Nat.{ℕ, _≤_, _<_}
@@ -18,7 +19,8 @@ use Rattle.layout.specs.Encodes.{Encodes}
 use Rattle.layout.proofs.Room.{HasRoom}
 use Rattle.deliver.specs.declared.Counts.{Counts}
 use Rattle.ends.specs.Room.{send}
-use Rattle.deliver.specs.Deliver.{prepareDelivered, commitDelivered, getDelivered, gotDelivered, messageDelivered}
+use Rattle.deliver.specs.Deliver.{prepareDelivered, commitDelivered, getDelivered}
+use Rattle.deliver.specs.Deliver.{gotDelivered, messageDelivered}
 use Rattle.ends.proofs.Send.{encodes-keep, encodes-send}
 use Rattle.deliver.proofs.Committed.{latest-held, encodes-committed}
 use Rattle.deliver.proofs.Replied.{encodes-prepared}
@@ -33,53 +35,85 @@ answerOf t (Get d k stamp) = found (t .versions) k stamp .value
 answerOf t (Got d v latest) = 0
 
 abbrev pub countsOf : Tables → Counts
-countsOf t = record { partitions = t .sizes .partitions; items = t .sizes .items; versions = length (t .versions) }
+countsOf t = record {
+  partitions = t .sizes .partitions;
+  items = t .sizes .items;
+  versions =
+      length (t .versions);
+}
 
-module _ {b : List ℕ} (t : Tables) (ms : List Message) (n : Encodes b (withMessages t ms)) (r : HasRoom (withMessages t ms)) where
-  encodes-prepare : (v : Version) → length (t .versions ++ v ∷ []) ≤ 512 → length (ms ++ Prepared (v .item) (v .stamp) ∷ []) ≤ 128
-      → Encodes (prepareDelivered b v) (withMessages (withVersions t (t .versions ++ v ∷ [])) (ms ++ Prepared (v .item) (v .stamp) ∷ []))
+module _ {b : List ℕ} (t : Tables) (ms : List Message) (n : Encodes b (withMessages t ms))
+    (r : HasRoom (withMessages t ms)) where
+  encodes-prepare : (v : Version) → length (t .versions ++ v ∷ []) ≤ 512
+      → length (ms ++ Prepared (v .item) (v .stamp) ∷ []) ≤ 128
+      → Encodes (prepareDelivered b v)
+      (withMessages (withVersions t (t .versions ++ v ∷ []))
+      (ms ++ Prepared (v .item) (v .stamp) ∷ []))
   unfolding prepareDelivered
   encodes-prepare v versions messages =
       encodes-send (Prepared (v .item) (v .stamp))
       (encodes-keep v n r (omega (arith, length-append (t .versions) (v ∷ []))))
-      (record { clients = r .clients; items = r .items; versions = versions; messages = r .messages; client = r .client })
+      (record {
+        clients = r .clients;
+        items = r .items;
+        versions = versions;
+        messages =
+            r .messages;
+        client = r .client;
+      })
       (omega (arith, length-append ms (Prepared (v .item) (v .stamp) ∷ [])))
 
-  encodes-get : (d k stamp value : ℕ) → k < t .sizes .items → value ≡ found (t .versions) k stamp .value
+  encodes-get : (d k stamp value : ℕ) → k < t .sizes .items
+      → value ≡ found (t .versions) k stamp .value
       → length (ms ++ Got d (version k value stamp 0) (t .latest k) ∷ []) ≤ 128
-      → Encodes (getDelivered b value d k stamp) (withMessages t (ms ++ Got d (version k (found (t .versions) k stamp .value) stamp 0) (t .latest k) ∷ []))
+      → Encodes (getDelivered b value d k stamp)
+      (withMessages t (ms ++ Got d (version k (found (t .versions) k stamp .value) stamp 0)
+      (t .latest k) ∷ []))
   unfolding getDelivered
   encodes-get d k stamp value item same room =
       subst
-      (λ (x : ℕ). Encodes (send b (Got d (version k value stamp 0) (latestIn b k))) (withMessages t (ms ++ Got d (version k x stamp 0) (t .latest k) ∷ [])))
+      (λ (x : ℕ). Encodes (send b (Got d (version k value stamp 0) (latestIn b k)))
+      (withMessages t (ms ++ Got d (version k x stamp 0) (t .latest k) ∷ [])))
       same
       (subst
-      (λ (e : Entry). Encodes (send b (Got d (version k value stamp 0) e)) (withMessages t (ms ++ Got d (version k value stamp 0) (t .latest k) ∷ [])))
+      (λ (e : Entry). Encodes (send b (Got d (version k value stamp 0) e))
+      (withMessages t (ms ++ Got d (version k value stamp 0) (t .latest k) ∷ [])))
       (sym (latest-held k (n .latest k item)))
-      (encodes-send (Got d (version k value stamp 0) (t .latest k)) n r (omega (arith, length-append ms (Got d (version k value stamp 0) (t .latest k) ∷ [])))))
+      (encodes-send (Got d (version k value stamp 0) (t .latest k)) n r
+      (omega (arith, length-append ms (Got d (version k value stamp 0) (t .latest k) ∷ [])))))
 
-  pub encodes-work : (m : Message) (value : ℕ) → InRange t → MessageInRange (t .sizes) m → Expected t m → value ≡ answerOf t m
+  pub encodes-work : (m : Message) (value : ℕ) → InRange t → MessageInRange (t .sizes) m
+      → Expected t m → value ≡ answerOf t m
       → length (delivered t m .versions) ≤ 512 → length (ms ++ joined t m) ≤ 128
-      → Encodes (messageDelivered b (countsOf t) value m) (withMessages (delivered t m) (ms ++ joined t m))
+      → Encodes (messageDelivered b (countsOf t) value m)
+      (withMessages (delivered t m) (ms ++ joined t m))
   unfolding messageDelivered delivered joined answerOf
   encodes-work (Prepare v) value z i e same versions messages = encodes-prepare v versions messages
   encodes-work (Prepared k stamp) value z i e same versions messages =
       let w = i .stamp .writer in
-      encodes-prepared t ms k stamp n r (z .sizes .somePartition) (z .sizes .partitions) (w .0) (w .1) (z .client _ w .set) (e .stamp) messages
+      encodes-prepared t ms k stamp n r (z .sizes .somePartition) (z .sizes .partitions) (w .0)
+      (w .1) (z .client _ w .set) (e .stamp) messages
   encodes-work (Commit p stamp) value z i e same versions messages =
-      subst (λ (x : List Message). Encodes (commitDelivered b (t .sizes .partitions) (length (t .versions)) p stamp) (withMessages (delivered t (Commit p stamp)) x))
+      subst (λ (x : List Message). Encodes
+      (commitDelivered b (t .sizes .partitions) (length (t .versions)) p stamp)
+      (withMessages (delivered t (Commit p stamp)) x))
       (sym (append-nil ms))
       (encodes-committed (withMessages t ms) r p stamp n (λ v h. z .versions v h .item))
-  encodes-work (Get d k stamp) value z i e same versions messages = encodes-get d k stamp value (i .item) same (gets messages)
+  encodes-work (Get d k stamp) value z i e same versions messages =
+      encodes-get d k stamp value (i .item) same (gets messages)
     where
-      gets : length (ms ++ Got d (version k (found (t .versions) k stamp .value) stamp 0) (t .latest k) ∷ []) ≤ 128
+      gets : length (ms ++ Got d (version k (found (t .versions) k stamp .value) stamp 0)
+          (t .latest k) ∷ []) ≤ 128
           → length (ms ++ Got d (version k value stamp 0) (t .latest k) ∷ []) ≤ 128
       gets l =
           omega (
             arith,
             length-append ms (Got d (version k value stamp 0) (t .latest k) ∷ []),
-            length-append ms (Got d (version k (found (t .versions) k stamp .value) stamp 0) (t .latest k) ∷ []),
+            length-append ms (Got d (version k (found (t .versions) k stamp .value) stamp 0)
+                (t .latest k) ∷ []),
           )
   encodes-work (Got d v latest) value z i e same versions messages =
-      subst (λ (x : List Message). Encodes (gotDelivered b (t .sizes .items) d v latest) (withMessages (delivered t (Got d v latest)) x)) (sym (append-nil ms))
-      (encodes-got d v latest n r (i .client .0) (i .client .1) (i .item) (e .mode) (z .client d (i .client) .set))
+      subst (λ (x : List Message). Encodes (gotDelivered b (t .sizes .items) d v latest)
+      (withMessages (delivered t (Got d v latest)) x)) (sym (append-nil ms))
+      (encodes-got d v latest n r (i .client .0) (i .client .1) (i .item) (e .mode)
+      (z .client d (i .client) .set))

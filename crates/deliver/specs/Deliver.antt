@@ -11,7 +11,8 @@ use Rattle.protocol.specs.declared.Message.{Message}
 use Rattle.protocol.specs.declared.Message.the-variants.{Prepare, Prepared, Commit, Get, Got}
 use Rattle.protocol.specs.Tables.{writerOf, laterOf}
 use Rattle.protocol.specs.Steps.{version}
-use Rattle.layout.specs.Layout.{header, scalars, values, at, store, partitionsAt, itemsAt, versionsAt, messagesAt, awaitedAt, itemAt}
+use Rattle.layout.specs.Layout.{header, scalars, values, at, store, partitionsAt, itemsAt}
+use Rattle.layout.specs.Layout.{versionsAt, messagesAt, awaitedAt, itemAt}
 use Rattle.layout.specs.Decode.{latestIn, viewIn, versionIn, messageIn}
 use Rattle.layout.specs.Store.{storeLatest, storeView, takeOut}
 use Rattle.deliver.specs.declared.Counts.{Counts}
@@ -37,10 +38,12 @@ preparedDelivered b partitions items k stamp =
 abbrev pub commitItem : ℕ → ℕ → List ℕ → Version → List ℕ
 commitItem partitions p b v =
     cond (eqb (v .item % partitions) p && ltb (v .item) 64)
-    (storeLatest b (v .item) (laterOf (latestIn b (v .item)) (record { stamp = v .stamp; set = v .set }))) b
+    (storeLatest b (v .item) (laterOf (latestIn b (v .item))
+    (record { stamp = v .stamp; set = v .set }))) b
 
 abbrev pub commitVersion : ℕ → ℕ → ℕ → List ℕ → ℕ → List ℕ
-commitVersion partitions p stamp b i = cond (eqb (versionIn b i .stamp) stamp) (commitItem partitions p b (versionIn b i)) b
+commitVersion partitions p stamp b i =
+    cond (eqb (versionIn b i .stamp) stamp) (commitItem partitions p b (versionIn b i)) b
 
 unfoldable pub commitDelivered : List ℕ → ℕ → ℕ → ℕ → ℕ → List ℕ
 commitDelivered b partitions versions p stamp = upTo (commitVersion partitions p stamp) b versions
@@ -54,7 +57,8 @@ getDelivered b value d k stamp = send b (Got d (version k value stamp 0) (latest
 
 abbrev pub answered : List ℕ → ℕ → Version → Entry → List ℕ
 answered b d v latest =
-    store (storeView b d (v .item) (laterOf (viewIn b d (v .item)) latest)) values (itemAt d (v .item)) (v .value)
+    store (storeView b d (v .item) (laterOf (viewIn b d (v .item)) latest)) values
+    (itemAt d (v .item)) (v .value)
 
 unfoldable pub gotDelivered : List ℕ → ℕ → ℕ → Version → Entry → List ℕ
 gotDelivered b items d v latest =
@@ -66,16 +70,24 @@ gotDelivered b items d v latest =
 
 unfoldable pub messageDelivered : List ℕ → Counts → ℕ → Message → List ℕ
 messageDelivered b n value (Prepare v) = prepareDelivered b v
-messageDelivered b n value (Prepared k stamp) = preparedDelivered b (n .partitions) (n .items) k stamp
-messageDelivered b n value (Commit p stamp) = commitDelivered b (n .partitions) (n .versions) p stamp
+messageDelivered b n value (Prepared k stamp) =
+    preparedDelivered b (n .partitions) (n .items) k stamp
+messageDelivered b n value (Commit p stamp) =
+    commitDelivered b (n .partitions) (n .versions) p stamp
 messageDelivered b n value (Get d k stamp) = getDelivered b value d k stamp
 messageDelivered b n value (Got d v latest) = gotDelivered b (n .items) d v latest
 
 abbrev pub countsIn : List ℕ → Counts
 countsIn b =
-    record { partitions = at b header partitionsAt; items = at b header itemsAt; versions = at b header versionsAt }
+    record {
+      partitions = at b header partitionsAt;
+      items = at b header itemsAt;
+      versions =
+          at b header versionsAt;
+    }
 
 unfoldable pub deliveredBlock : List ℕ → ℕ → List ℕ
 deliveredBlock b i =
-    messageDelivered (takeOut b (at b header messagesAt) i) (countsIn b) (testedIn b (at b header versionsAt) (messageIn b i) .value)
+    messageDelivered (takeOut b (at b header messagesAt) i) (countsIn b)
+    (testedIn b (at b header versionsAt) (messageIn b i) .value)
     (messageIn b i)

@@ -14,5 +14,7 @@ module _ {A : Type 0} where
   unless t x y z e h = rw e h
 
 -- r is f of the later of the entry read, y, and e
-pub later-put : (f : Entry → List ℕ) (x y z e : Entry) (r : List ℕ) → r ≡ f z → z ≡ laterOf y e → y ≡ x → r ≡ f (laterOf x e)
-later-put f x y z e r stored later same = stored ∙ ap f (later ∙ ap (λ (u : Entry). laterOf u e) same)
+pub later-put : (f : Entry → List ℕ) (x y z e : Entry) (r : List ℕ) → r ≡ f z → z ≡ laterOf y e
+    → y ≡ x → r ≡ f (laterOf x e)
+later-put f x y z e r stored later same =
+    stored ∙ ap f (later ∙ ap (λ (u : Entry). laterOf u e) same)

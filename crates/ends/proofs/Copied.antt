@@ -1,4 +1,5 @@
--- The last ended transaction takes over words of a client, item by item: after n items, those of the set among the first n.
+-- The last ended transaction takes over words of a client, item by item: after n items, those of
+-- the set among the first n.
 use mathlib.Core.Bool.{true, false}
 use mathlib.Core.List.{List}
 use mathlib.Core.Path.{_≡_}
@@ -24,7 +25,8 @@ Taken s n f g = (k : ℕ) → k < n → has s k ≡ true → g k ≡ f k
 taken-none : (s : ℕ) (f g : ℕ → ℕ) → Taken s 0 f g
 taken-none s f g k l e = absurd (omega arith)
 
-taken-here : (s n : ℕ) (f g : ℕ → ℕ) (v : ℕ) → v ≡ f n → Taken s n f g → Taken s (suc n) f (put g n v)
+taken-here : (s n : ℕ) (f g : ℕ → ℕ) (v : ℕ) → v ≡ f n → Taken s n f g
+    → Taken s (suc n) f (put g n v)
 taken-here s n f g v x h k l e =
     by-cond (λ (y : ℕ). y ≡ f k) (eqb k n) v (g k)
     (λ y. rw (eqb-true k n y) x)
@@ -41,11 +43,20 @@ taken-beside s n f g x h k l e =
 -- w's words but the last values, which are taken over
 pub record ValuesTaken (d s n : ℕ) (a b : List ℕ) (w : Words) : Type 0 where
   pub lastValues : ℕ → ℕ
-  pub changed : Changed d a b (record { scalar = w .scalar; asked = w .asked; values = w .values; lastStamps = w .lastStamps; lastValues = lastValues })
+  pub changed : Changed d a b (record {
+    scalar = w .scalar;
+    asked = w .asked;
+    values =
+        w .values;
+    lastStamps = w .lastStamps;
+    lastValues = lastValues;
+  })
   pub taken : Taken s n (w .values) lastValues
 
-module _ {d : ℕ} {a b : List ℕ} {w : Words} (s : ℕ) (c : Changed d a b w) (items : ℕ) (room : items ≤ 64) where
-  next-value : (n : ℕ) (x : List ℕ) → n < items → ValuesTaken d s n a x w → ValuesTaken d s (suc n) a (keepValue d s x n) w
+module _ {d : ℕ} {a b : List ℕ} {w : Words} (s : ℕ) (c : Changed d a b w) (items : ℕ)
+    (room : items ≤ 64) where
+  next-value : (n : ℕ) (x : List ℕ) → n < items → ValuesTaken d s n a x w
+      → ValuesTaken d s (suc n) a (keepValue d s x n) w
   next-value n x l h =
       by-cond (λ (y : List ℕ). ValuesTaken d s (suc n) a y w) (has s n) _ x
       (λ e.
@@ -53,26 +64,46 @@ module _ {d : ℕ} {a b : List ℕ} {w : Words} (s : ℕ) (c : Changed d a b w) 
       record {
         lastValues = put (h .lastValues) n v;
         changed = changed-last-value (h .changed) n v (omega arith);
-        taken = taken-here s n (w .values) (h .lastValues) v (h .changed .words .values n (omega arith)) (h .taken);
+        taken = taken-here s n (w .values) (h .lastValues) v
+            (h .changed .words .values n (omega arith)) (h .taken);
       })
-      (λ e. record { lastValues = h .lastValues; changed = h .changed; taken = taken-beside s n (w .values) (h .lastValues) e (h .taken) })
+      (λ e. record {
+        lastValues = h .lastValues;
+        changed = h .changed;
+        taken =
+            taken-beside s n (w .values) (h .lastValues) e (h .taken);
+      })
 
   pub values-taken : ValuesTaken d s items a (upTo (keepValue d s) b items) w
   values-taken =
       upTo-all (λ n x. ValuesTaken d s n a x w) (keepValue d s) b items
-      (record { lastValues = w .lastValues; changed = c; taken = taken-none s (w .values) (w .lastValues) }) next-value
+      (record {
+        lastValues = w .lastValues;
+        changed = c;
+        taken =
+            taken-none s (w .values) (w .lastValues);
+      }) next-value
 
 -- ---- stamps and values
 
 pub record AnswersTaken (d s n : ℕ) (a b : List ℕ) (w : Words) : Type 0 where
   pub lastStamps : ℕ → ℕ
   pub lastValues : ℕ → ℕ
-  pub changed : Changed d a b (record { scalar = w .scalar; asked = w .asked; values = w .values; lastStamps = lastStamps; lastValues = lastValues })
+  pub changed : Changed d a b (record {
+    scalar = w .scalar;
+    asked = w .asked;
+    values =
+        w .values;
+    lastStamps = lastStamps;
+    lastValues = lastValues;
+  })
   pub takenStamps : Taken s n (w .asked) lastStamps
   pub takenValues : Taken s n (w .values) lastValues
 
-module _ {d : ℕ} {a b : List ℕ} {w : Words} (s : ℕ) (c : Changed d a b w) (items : ℕ) (room : items ≤ 64) where
-  next-answer : (n : ℕ) (x : List ℕ) → n < items → AnswersTaken d s n a x w → AnswersTaken d s (suc n) a (keepAnswer d s x n) w
+module _ {d : ℕ} {a b : List ℕ} {w : Words} (s : ℕ) (c : Changed d a b w) (items : ℕ)
+    (room : items ≤ 64) where
+  next-answer : (n : ℕ) (x : List ℕ) → n < items → AnswersTaken d s n a x w
+      → AnswersTaken d s (suc n) a (keepAnswer d s x n) w
   next-answer n x l h =
       by-cond (λ (y : List ℕ). AnswersTaken d s (suc n) a y w) (has s n) _ x
       (λ e.
@@ -81,9 +112,12 @@ module _ {d : ℕ} {a b : List ℕ} {w : Words} (s : ℕ) (c : Changed d a b w) 
       record {
         lastStamps = put (h .lastStamps) n u;
         lastValues = put (h .lastValues) n v;
-        changed = changed-last-value (changed-last-stamp (h .changed) n u (omega arith)) n v (omega arith);
-        takenStamps = taken-here s n (w .asked) (h .lastStamps) u (h .changed .words .asked n (omega arith)) (h .takenStamps);
-        takenValues = taken-here s n (w .values) (h .lastValues) v (h .changed .words .values n (omega arith)) (h .takenValues);
+        changed = changed-last-value (changed-last-stamp (h .changed) n u (omega arith)) n v
+            (omega arith);
+        takenStamps = taken-here s n (w .asked) (h .lastStamps) u
+            (h .changed .words .asked n (omega arith)) (h .takenStamps);
+        takenValues = taken-here s n (w .values) (h .lastValues) v
+            (h .changed .words .values n (omega arith)) (h .takenValues);
       })
       (λ e.
       record {

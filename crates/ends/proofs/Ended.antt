@@ -1,4 +1,5 @@
--- A transaction's end on the block is its end in the tables: the client rests, with its last ended transaction.
+-- A transaction's end on the block is its end in the tables: the client rests, with its last ended
+-- transaction.
 use mathlib.Core.Bool.{true}
 use mathlib.Core.List.{List}
 use mathlib.Core.Path.{_≡_, sym, _∙_, subst}
@@ -21,34 +22,44 @@ use Rattle.ends.proofs.Rests.{ended-changed, narrow-resting, rests-read
 
 -- ---- a write: its values go over, and the view takes it
 
-pub encodes-write-kept : {b : List ℕ} {t : Tables} (d stamp : ℕ) → Encodes b t → HasRoom t → 1 ≤ d → d ≤ t .sizes .clients
+pub encodes-write-kept : {b : List ℕ} {t : Tables} (d stamp : ℕ) → Encodes b t → HasRoom t → 1 ≤ d
+    → d ≤ t .sizes .clients
     → t .client d .set < 2 ^ t .sizes .items
     → Encodes (writeKept b (t .sizes .items) d (t .client d .set) stamp)
-    (withView (withClient t d (resting (t .client d .count) (write (t .client d .set) stamp (t .client d .values)))) d (seen (t .view d) (t .client d .set) stamp))
+    (withView (withClient t d (resting (t .client d .count)
+    (write (t .client d .set) stamp (t .client d .values)))) d
+    (seen (t .view d) (t .client d .set) stamp))
 unfolding writeKept
 encodes-write-kept {b} {t} d stamp n r first last set =
     let s = t .client d .set in
     let items = t .sizes .items in
     let b₁ = upTo (seeItem d s stamp) b items in
-    let e : Encodes b₁ (withView t d (seen (t .view d) s stamp)) = encodes-seen d s stamp n r first last in
+    let e : Encodes b₁ (withView t d (seen (t .view d) s stamp)) =
+    encodes-seen d s stamp n r first last in
     let h : HoldsClient b₁ d (t .client d) = e .client d first last in
-    let v = values-taken s (changed-none d b₁ first (omega (arith, r .clients)) (e .long)) items (r .items) in
+    let v = values-taken s (changed-none d b₁ first (omega (arith, r .clients)) (e .long)) items
+    (r .items) in
     encodes-changed e r last (changed-scalar (ended-changed 2 s (v .changed)) 7 stamp (lit< tt))
-    (narrow-resting (t .client d .count) (write s stamp (t .client d .values)) (narrow-below s items set (r .items)))
+    (narrow-resting (t .client d .count) (write s stamp (t .client d .values))
+    (narrow-below s items set (r .items)))
     (rests-write _ (t .client d .count) s stamp (t .client d .values) (h .count)
     (λ k m. v .taken k (has-below s k items set m) m ∙ h .values k m))
 
 -- ---- a read: its stamps and answers go over
 
-pub encodes-read-ended : {a b : List ℕ} {t : Tables} {d : ℕ} {w : Words} (count s : ℕ) (stamps vs : ℕ → ℕ) → Encodes a t → HasRoom t
-    → d ≤ t .sizes .clients → s < 2 ^ t .sizes .items → Changed d a b w → w .scalar 1 ≡ count → w .scalar 2 ≡ s
-    → ((k : ℕ) → has s k ≡ true → w .asked k ≡ stamps k) → ((k : ℕ) → has s k ≡ true → w .values k ≡ vs k)
+pub encodes-read-ended : {a b : List ℕ} {t : Tables} {d : ℕ} {w : Words} (count s : ℕ)
+    (stamps vs : ℕ → ℕ) → Encodes a t → HasRoom t
+    → d ≤ t .sizes .clients → s < 2 ^ t .sizes .items → Changed d a b w → w .scalar 1 ≡ count
+    → w .scalar 2 ≡ s
+    → ((k : ℕ) → has s k ≡ true → w .asked k ≡ stamps k)
+    → ((k : ℕ) → has s k ≡ true → w .values k ≡ vs k)
     → Encodes (readEnded b (t .sizes .items) d) (withClient t d (resting count (read s stamps vs)))
 unfolding readEnded
 encodes-read-ended {a} {b} {t} {d} {w} count s stamps vs n r last set c counted same asked values =
     let items = t .sizes .items in
     let v = answers-taken s c items (r .items) in
-    subst (λ (z : ℕ). Encodes (ended (upTo (keepAnswer d z) b items) d 1 z) (withClient t d (resting count (read s stamps vs))))
+    subst (λ (z : ℕ). Encodes (ended (upTo (keepAnswer d z) b items) d 1 z)
+    (withClient t d (resting count (read s stamps vs))))
     (sym (c .words .scalar 2 (lit< tt) ∙ same))
     (encodes-changed n r last (ended-changed 1 s (v .changed))
     (narrow-resting count (read s stamps vs) (narrow-below s items set (r .items)))

@@ -1,4 +1,5 @@
--- The laws of the ends of transactions: each change of the block is a change of the tables that it holds.
+-- The laws of the ends of transactions: each change of the block is a change of the tables that it
+-- holds.
 pub mod Chosen
 pub mod Rows
 pub mod Same

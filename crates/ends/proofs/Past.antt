@@ -16,12 +16,16 @@ use Rattle.protocol.specs.declared.Entry.{Entry}
 use Rattle.protocol.specs.declared.Message.{Message}
 use Rattle.protocol.specs.declared.Message.the-variants.{Prepare, Prepared, Commit, Get, Got}
 use Rattle.protocol.proofs.Put.{by-cond}
-use Rattle.layout.specs.Layout.{Section, header, scalars, views, lastStamps, lastValues, versions, messages, base, needed, at, store, versionsAt, messagesAt, scalarAt, setAt, viewAt, itemAt, versionAt, messageAt}
-use Rattle.layout.specs.Store.{storeEntry, wordsOfVersion, wordsOfMessage, storeVersion, storeMessage, appendVersion, appendMessage}
+use Rattle.layout.specs.Layout.{Section, header, scalars, views, lastStamps, lastValues, versions}
+use Rattle.layout.specs.Layout.{messages, base, needed, at, store, versionsAt, messagesAt, scalarAt}
+use Rattle.layout.specs.Layout.{setAt, viewAt, itemAt, versionAt, messageAt}
+use Rattle.layout.specs.Store.{storeEntry, wordsOfVersion, wordsOfMessage, storeVersion}
+use Rattle.layout.specs.Store.{storeMessage, appendVersion, appendMessage}
 use Rattle.layout.proofs.At.{length-store}
 use Rattle.slots.proofs.Runs.{run-length, run-behind}
 use Rattle.ends.specs.Room.{keep, send}
-use Rattle.ends.specs.Ends.{ended, keepAnswer, keepValue, seeItem, sendCommit, touched, readEnded, writeKept, writeEnded}
+use Rattle.ends.specs.Ends.{ended, keepAnswer, keepValue, seeItem, sendCommit, touched}
+use Rattle.ends.specs.Ends.{readEnded, writeKept, writeEnded}
 
 pub record SamePast (b c : List ℕ) : Type 0 where
   pub long : length c ≡ length b
@@ -37,17 +41,26 @@ past-trans p q = record { long = q .long ∙ p .long; past = λ j l. q .past j l
 pub past-when : (b c : List ℕ) (t : Bool) → SamePast b c → SamePast b (cond t c b)
 past-when b c t p = by-cond (SamePast b) t c b (λ e. p) (λ e. past-none b)
 
-pub past-each : (f : List ℕ → ℕ → List ℕ) (b : List ℕ) (n : ℕ) → ((k : ℕ) (c : List ℕ) → k < n → SamePast c (f c k)) → SamePast b (upTo f b n)
-past-each f b n turn = upTo-all (λ k c. SamePast b c) f b n (past-none b) (λ k c l p. past-trans p (turn k c l))
+pub past-each : (f : List ℕ → ℕ → List ℕ) (b : List ℕ) (n : ℕ)
+    → ((k : ℕ) (c : List ℕ) → k < n → SamePast c (f c k)) → SamePast b (upTo f b n)
+past-each f b n turn = upTo-all (λ k c. SamePast b c) f b n (past-none b)
+    (λ k c l p. past-trans p (turn k c l))
 
 -- ---- stores
 
-pub past-store : (b : List ℕ) (s : Section) (i v : ℕ) → base s + i < needed → SamePast b (store b s i v)
-past-store b s i v l = record { long = length-store b s i v; past = λ j g. getD-set-other b (base s + i) j v 0 (omega arith) }
+pub past-store : (b : List ℕ) (s : Section) (i v : ℕ) → base s + i < needed
+    → SamePast b (store b s i v)
+past-store b s i v l = record {
+  long = length-store b s i v;
+  past =
+      λ j g. getD-set-other b (base s + i) j v 0 (omega arith);
+}
 
-pub past-entry : (b : List ℕ) (s : Section) (i : ℕ) (e : Entry) → base s + (i + 1) < needed → SamePast b (storeEntry b s i e)
+pub past-entry : (b : List ℕ) (s : Section) (i : ℕ) (e : Entry) → base s + (i + 1) < needed
+    → SamePast b (storeEntry b s i e)
 past-entry b s i e l =
-    past-trans (past-store b s i (e .stamp) (omega arith)) (past-store (store b s i (e .stamp)) s (i + 1) (e .set) l)
+    past-trans (past-store b s i (e .stamp) (omega arith))
+    (past-store (store b s i (e .stamp)) s (i + 1) (e .set) l)
 
 -- ---- versions and messages
 
@@ -96,7 +109,8 @@ module _ (d : ℕ) (first : 1 ≤ d) (last : d ≤ 8) where
   past-ended b kind s =
       past-trans (past-scalar b 5 kind (lit< tt))
       (past-trans (past-scalar _ 6 s (lit< tt))
-      (past-trans (past-scalar _ 0 0 (lit< tt)) (past-trans (past-scalar _ 2 0 (lit< tt)) (past-scalar _ 3 0 (lit< tt)))))
+      (past-trans (past-scalar _ 0 0 (lit< tt))
+      (past-trans (past-scalar _ 2 0 (lit< tt)) (past-scalar _ 3 0 (lit< tt)))))
 
   pub past-read-ended : (b : List ℕ) (items : ℕ) → items ≤ 64 → SamePast b (readEnded b items d)
   unfolding readEnded
@@ -104,21 +118,28 @@ module _ (d : ℕ) (first : 1 ≤ d) (last : d ≤ 8) where
       past-trans
       (past-each (keepAnswer d (at b scalars (setAt d))) b items (λ k c l.
       past-when c _ (has (at b scalars (setAt d)) k)
-      (past-trans (past-store c lastStamps (itemAt d k) _ (omega arith)) (past-store _ lastValues (itemAt d k) _ (omega arith)))))
+      (past-trans (past-store c lastStamps (itemAt d k) _ (omega arith))
+      (past-store _ lastValues (itemAt d k) _ (omega arith)))))
       (past-ended _ 1 (at b scalars (setAt d)))
 
-  past-write-kept : (b : List ℕ) (items s stamp : ℕ) → items ≤ 64 → SamePast b (writeKept b items d s stamp)
+  past-write-kept : (b : List ℕ) (items s stamp : ℕ) → items ≤ 64
+      → SamePast b (writeKept b items d s stamp)
   unfolding writeKept
   past-write-kept b items s stamp h =
       past-trans
-      (past-each (seeItem d s stamp) b items (λ k c l. past-when c _ (has s k) (past-entry c views (viewAt d k) _ (omega arith))))
+      (past-each (seeItem d s stamp) b items
+      (λ k c l. past-when c _ (has s k) (past-entry c views (viewAt d k) _ (omega arith))))
       (past-trans
-      (past-each (keepValue d s) _ items (λ k c l. past-when c _ (has s k) (past-store c lastValues (itemAt d k) _ (omega arith))))
+      (past-each (keepValue d s) _ items
+      (λ k c l. past-when c _ (has s k) (past-store c lastValues (itemAt d k) _ (omega arith))))
       (past-trans (past-ended _ 2 s) (past-scalar _ 7 stamp (lit< tt))))
 
-  pub past-write-ended : (b : List ℕ) (partitions items stamp : ℕ) → items ≤ 64 → SamePast b (writeEnded b partitions items d stamp)
+  pub past-write-ended : (b : List ℕ) (partitions items stamp : ℕ) → items ≤ 64
+      → SamePast b (writeEnded b partitions items d stamp)
   unfolding writeEnded
   past-write-ended b partitions items stamp h =
       past-trans (past-write-kept b items (at b scalars (setAt d)) stamp h)
-      (past-each (sendCommit (touched partitions (at b scalars (setAt d)) items) stamp) _ partitions (λ p c l.
-      past-when c _ (has (touched partitions (at b scalars (setAt d)) items) p) (past-send c (Commit p stamp))))
+      (past-each (sendCommit (touched partitions (at b scalars (setAt d)) items) stamp) _ partitions
+      (λ p c l.
+      past-when c _ (has (touched partitions (at b scalars (setAt d)) items) p)
+      (past-send c (Commit p stamp))))

@@ -4,27 +4,35 @@ use mathlib.Core.Path.{_≡_, ap, _∙_}
 use Prim.Native.Nat.{ℕ}
 use Rattle.basics.specs.Fold.{upTo}
 use Rattle.layout.specs.Layout.{scalars, at, store, setAt, lastStampAt}
-use Rattle.ends.specs.Ends.{ended, keepAnswer, keepValue, seeItem, sendCommit, touched, readEnded, writeKept, writeEnded}
+use Rattle.ends.specs.Ends.{ended, keepAnswer, keepValue, seeItem, sendCommit, touched}
+use Rattle.ends.specs.Ends.{readEnded, writeKept, writeEnded}
 
 module _ (b y : List ℕ) (items d s : ℕ) where
-  pub read-row : {x : List ℕ} → s ≡ at b scalars (setAt d) → x ≡ upTo (keepAnswer d s) b items → y ≡ ended x d 1 s → y ≡ readEnded b items d
+  pub read-row : {x : List ℕ} → s ≡ at b scalars (setAt d) → x ≡ upTo (keepAnswer d s) b items
+      → y ≡ ended x d 1 s → y ≡ readEnded b items d
   unfolding readEnded
   read-row set kept end =
-      end ∙ (ap (λ (z : List ℕ). ended z d 1 s) kept ∙ ap (λ (r : ℕ). ended (upTo (keepAnswer d r) b items) d 1 r) set)
+      end ∙ (ap (λ (z : List ℕ). ended z d 1 s) kept
+      ∙ ap (λ (r : ℕ). ended (upTo (keepAnswer d r) b items) d 1 r) set)
 
-  pub kept-row : {u v w : List ℕ} (stamp : ℕ) → u ≡ upTo (seeItem d s stamp) b items → v ≡ upTo (keepValue d s) u items → w ≡ ended v d 2 s
+  pub kept-row : {u v w : List ℕ} (stamp : ℕ) → u ≡ upTo (seeItem d s stamp) b items
+      → v ≡ upTo (keepValue d s) u items → w ≡ ended v d 2 s
       → y ≡ store w scalars (lastStampAt d) stamp → y ≡ writeKept b items d s stamp
   unfolding writeKept
   kept-row stamp seen kept end last =
       last
       ∙ ap (λ (z : List ℕ). store z scalars (lastStampAt d) stamp)
-      (end ∙ ap (λ (z : List ℕ). ended z d 2 s) (kept ∙ ap (λ (z : List ℕ). upTo (keepValue d s) z items) seen))
+      (end ∙ ap (λ (z : List ℕ). ended z d 2 s)
+      (kept ∙ ap (λ (z : List ℕ). upTo (keepValue d s) z items) seen))
 
-  pub write-row : {x : List ℕ} (partitions : ℕ) {ps : ℕ} (stamp : ℕ) → s ≡ at b scalars (setAt d) → ps ≡ touched partitions s items
-      → x ≡ writeKept b items d s stamp → y ≡ upTo (sendCommit ps stamp) x partitions → y ≡ writeEnded b partitions items d stamp
+  pub write-row : {x : List ℕ} (partitions : ℕ) {ps : ℕ} (stamp : ℕ) → s ≡ at b scalars (setAt d)
+      → ps ≡ touched partitions s items
+      → x ≡ writeKept b items d s stamp → y ≡ upTo (sendCommit ps stamp) x partitions
+      → y ≡ writeEnded b partitions items d stamp
   unfolding writeEnded
   write-row partitions {ps} stamp set found kept sent =
       sent
       ∙ (ap (λ (z : List ℕ). upTo (sendCommit ps stamp) z partitions) kept
       ∙ (ap (λ (q : ℕ). upTo (sendCommit q stamp) (writeKept b items d s stamp) partitions) found
-      ∙ ap (λ (r : ℕ). upTo (sendCommit (touched partitions r items) stamp) (writeKept b items d r stamp) partitions) set))
+      ∙ ap (λ (r : ℕ). upTo (sendCommit (touched partitions r items) stamp)
+      (writeKept b items d r stamp) partitions) set))

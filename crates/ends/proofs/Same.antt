@@ -1,4 +1,5 @@
--- A block holds tables by their entries and clients within the sizes: functions that agree there are as good.
+-- A block holds tables by their entries and clients within the sizes: functions that agree there
+-- are as good.
 use mathlib.Core.List.{List}
 use mathlib.Core.Path.{_≡_, subst}
 use Prim.Native.Nat.{ℕ, _≤_, _<_}
@@ -7,8 +8,17 @@ use Rattle.protocol.specs.Tables.{Tables}
 use Rattle.layout.specs.Layout.{latest, views, latestAt, viewAt}
 use Rattle.layout.specs.Encodes.{Encodes, HoldsEntry}
 
-pub encodes-same-latest : {b : List ℕ} {t : Tables} (entries : ℕ → Entry) → Encodes b t → ((k : ℕ) → k < t .sizes .items → t .latest k ≡ entries k)
-    → Encodes b (record { sizes = t .sizes; latest = entries; view = t .view; client = t .client; versions = t .versions; messages = t .messages })
+pub encodes-same-latest : {b : List ℕ} {t : Tables} (entries : ℕ → Entry) → Encodes b t
+    → ((k : ℕ) → k < t .sizes .items → t .latest k ≡ entries k)
+    → Encodes b (record {
+      sizes = t .sizes;
+      latest = entries;
+      view = t .view;
+      client =
+          t .client;
+      versions = t .versions;
+      messages = t .messages;
+    })
 encodes-same-latest {b} {t} entries n same =
     record {
       long = n .long;
@@ -25,8 +35,17 @@ encodes-same-latest {b} {t} entries n same =
     }
 
 pub encodes-same-view : {b : List ℕ} {t : Tables} (view : ℕ → ℕ → Entry) → Encodes b t
-    → ((d : ℕ) → 1 ≤ d → d ≤ t .sizes .clients → (k : ℕ) → k < t .sizes .items → t .view d k ≡ view d k)
-    → Encodes b (record { sizes = t .sizes; latest = t .latest; view = view; client = t .client; versions = t .versions; messages = t .messages })
+    → ((d : ℕ) → 1 ≤ d → d ≤ t .sizes .clients → (k : ℕ) → k < t .sizes .items
+    → t .view d k ≡ view d k)
+    → Encodes b (record {
+      sizes = t .sizes;
+      latest = t .latest;
+      view = view;
+      client =
+          t .client;
+      versions = t .versions;
+      messages = t .messages;
+    })
 encodes-same-view {b} {t} view n same =
     record {
       long = n .long;

@@ -1,4 +1,5 @@
--- A version is stored, or a message joins: where there is room for it, the block holds the tables with it at the end.
+-- A version is stored, or a message joins: where there is room for it, the block holds the tables
+-- with it at the end.
 use mathlib.Core.List.{List, [], _∷_, _++_}
 use Prim.Native.Nat.{ℕ, _<_}
 use native.Mathlib.Omega.{arith}
@@ -13,16 +14,20 @@ use Rattle.layout.proofs.Room.{HasRoom}
 use Rattle.slots.proofs.EncodesAppend.{encodes-append-version, encodes-append-message}
 use Rattle.ends.specs.Room.{keep, send}
 
-pub encodes-keep : {b : List ℕ} {t : Tables} (v : Version) → Encodes b t → HasRoom t → length (t .versions) < 512
+pub encodes-keep : {b : List ℕ} {t : Tables} (v : Version) → Encodes b t → HasRoom t
+    → length (t .versions) < 512
     → Encodes (keep b v) (withVersions t (t .versions ++ v ∷ []))
 unfolding keep
 encodes-keep {b} {t} v n r l =
     let room : at b header versionsAt < 512 = omega (arith, n .versionCount) in
-    rw (lt-ltb (at b header versionsAt) 512 room) (encodes-append-version (at b header versionsAt) v n r (n .versionCount) room)
+    rw (lt-ltb (at b header versionsAt) 512 room)
+    (encodes-append-version (at b header versionsAt) v n r (n .versionCount) room)
 
-pub encodes-send : {b : List ℕ} {t : Tables} (m : Message) → Encodes b t → HasRoom t → length (t .messages) < 128
+pub encodes-send : {b : List ℕ} {t : Tables} (m : Message) → Encodes b t → HasRoom t
+    → length (t .messages) < 128
     → Encodes (send b m) (withMessages t (t .messages ++ m ∷ []))
 unfolding send
 encodes-send {b} {t} m n r l =
     let room : at b header messagesAt < 128 = omega (arith, n .messageCount) in
-    rw (lt-ltb (at b header messagesAt) 128 room) (encodes-append-message (at b header messagesAt) m n r (n .messageCount) room)
+    rw (lt-ltb (at b header messagesAt) 128 room)
+    (encodes-append-message (at b header messagesAt) m n r (n .messageCount) room)

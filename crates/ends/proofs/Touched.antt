@@ -20,18 +20,27 @@ either-order a x y =
     (λ e. rw (e, eq-eqb y x (sym (eqb-true x y e))) (sym (or-true a)))
     (λ e. rw (e, ne-eqb y x (λ z. eqb-false x y e (sym z))) (sym (or-false a)))
 
-module _ (t : Tables) (some : 1 ≤ t .sizes .partitions) (few : t .sizes .partitions ≤ 8) (s : ℕ) where
+module _ (t : Tables) (some : 1 ≤ t .sizes .partitions) (few : t .sizes .partitions ≤ 8)
+    (s : ℕ) where
   -- one item more
   one : (ps n p : ℕ) (a : Bool) → has ps p ≡ a
-      → has (touchItem (t .sizes .partitions) s ps n) p ≡ (a || (has s n && eqb (n % t .sizes .partitions) p))
+      → has (touchItem (t .sizes .partitions) s ps n) p
+      ≡ (a || (has s n && eqb (n % t .sizes .partitions) p))
   one ps n p a e =
       by-test (has s n)
       (λ h.
-      rw (h, insert64-lt ps (n % t .sizes .partitions) (omega (arith, mod-lt n some)), has-insert ps (n % t .sizes .partitions) p, e)
+      rw (
+        h,
+        insert64-lt ps (n % t .sizes .partitions) (omega (arith, mod-lt n some)),
+        has-insert ps
+            (n % t .sizes .partitions) p,
+        e,
+      )
       (either-order a (n % t .sizes .partitions) p))
       (λ h. rw (h, e) (sym (or-false a)))
 
   pub has-touched : (n p : ℕ) → has (touched (t .sizes .partitions) s n) p ≡ touches t s p n
   unfolding touched upTo touches
   has-touched zero p = has-empty p
-  has-touched (suc n) p = one (upTo (touchItem (t .sizes .partitions) s) 0 n) n p (touches t s p n) (has-touched n p)
+  has-touched (suc n) p = one (upTo (touchItem (t .sizes .partitions) s) 0 n) n p (touches t s p n)
+      (has-touched n p)

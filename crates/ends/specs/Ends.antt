@@ -6,7 +6,8 @@ use Rattle.basics.specs.Fold.{upTo}
 use Rattle.itemset.specs.Set.{has, insert64}
 use Rattle.protocol.specs.declared.Message.the-variants.{Commit}
 use Rattle.protocol.specs.Tables.{laterOf}
-use Rattle.layout.specs.Layout.{scalars, asked, values, lastStamps, lastValues, at, store, modeAt, setAt, awaitedAt, lastKindAt, lastSetAt, lastStampAt, itemAt}
+use Rattle.layout.specs.Layout.{scalars, asked, values, lastStamps, lastValues, at, store, modeAt}
+use Rattle.layout.specs.Layout.{setAt, awaitedAt, lastKindAt, lastSetAt, lastStampAt, itemAt}
 use Rattle.layout.specs.Decode.{viewIn}
 use Rattle.layout.specs.Store.{storeView}
 use Rattle.ends.specs.Room.{send}
@@ -15,14 +16,16 @@ use Rattle.ends.specs.Room.{send}
 
 abbrev pub ended : List ℕ → ℕ → ℕ → ℕ → List ℕ
 ended b d kind s =
-    store (store (store (store (store b scalars (lastKindAt d) kind) scalars (lastSetAt d) s) scalars (modeAt d) 0) scalars (setAt d) 0) scalars (awaitedAt d) 0
+    store (store (store (store (store b scalars (lastKindAt d) kind) scalars (lastSetAt d) s)
+    scalars (modeAt d) 0) scalars (setAt d) 0) scalars (awaitedAt d) 0
 
 -- ---- a read: the last ended transaction takes, item by item, the stamps and the values
 
 abbrev pub keepAnswer : ℕ → ℕ → List ℕ → ℕ → List ℕ
 keepAnswer d s b k =
     cond (has s k)
-    (store (store b lastStamps (itemAt d k) (at b asked (itemAt d k))) lastValues (itemAt d k) (at b values (itemAt d k))) b
+    (store (store b lastStamps (itemAt d k) (at b asked (itemAt d k))) lastValues (itemAt d k)
+    (at b values (itemAt d k))) b
 
 unfoldable pub readEnded : List ℕ → ℕ → ℕ → List ℕ
 readEnded b items d =
@@ -32,7 +35,8 @@ readEnded b items d =
 -- ---- a write: the view takes it, item by item; the last ended transaction takes the values and the stamp; commits join
 
 abbrev pub seeItem : ℕ → ℕ → ℕ → List ℕ → ℕ → List ℕ
-seeItem d s stamp b k = cond (has s k) (storeView b d k (laterOf (viewIn b d k) (record { stamp = stamp; set = s }))) b
+seeItem d s stamp b k = cond (has s k)
+    (storeView b d k (laterOf (viewIn b d k) (record { stamp = stamp; set = s }))) b
 
 abbrev pub keepValue : ℕ → ℕ → List ℕ → ℕ → List ℕ
 keepValue d s b k = cond (has s k) (store b lastValues (itemAt d k) (at b values (itemAt d k))) b
@@ -50,7 +54,8 @@ sendCommit ps stamp b p = cond (has ps p) (send b (Commit p stamp)) b
 -- the client's words, and its view
 unfoldable pub writeKept : List ℕ → ℕ → ℕ → ℕ → ℕ → List ℕ
 writeKept b items d s stamp =
-    store (ended (upTo (keepValue d s) (upTo (seeItem d s stamp) b items) items) d 2 s) scalars (lastStampAt d) stamp
+    store (ended (upTo (keepValue d s) (upTo (seeItem d s stamp) b items) items) d 2 s) scalars
+    (lastStampAt d) stamp
 
 unfoldable pub writeEnded : List ℕ → ℕ → ℕ → ℕ → ℕ → List ℕ
 writeEnded b partitions items d stamp =

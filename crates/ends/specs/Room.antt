@@ -1,4 +1,5 @@
--- A version is stored, or a message joins, at the end: a change of the block where there is room, none where there isn't.
+-- A version is stored, or a message joins, at the end: a change of the block where there is room,
+-- none where there isn't.
 use mathlib.Core.Bool.{cond}
 use mathlib.Core.List.{List}
 use Prim.Native.Nat.{ℕ}

@@ -1,4 +1,5 @@
--- The definitions at some lines, by computing: lines of document 01's session, and lines beside them that are malformed.
+-- The definitions at some lines, by computing: lines of document 01's session, and lines beside
+-- them that are malformed.
 use mathlib.Core.List.{List, [], _∷_, _++_}
 use mathlib.Core.Path.{_≡_, refl}
 use Prim.Native.Nat.{ℕ}
@@ -66,7 +67,8 @@ unfolding parsed frameBytes isHex bytesOf pair digit numberAt
 odd-line = refl
 
 -- a value that isn't whole
-cut-value-line : frameOf (lineOf (3 ∷ 1 ∷ 0 ∷ 0 ∷ 0 ∷ 0 ∷ 0 ∷ 0 ∷ 0 ∷ 1 ∷ 0 ∷ 0 ∷ 7 ∷ [])) ≡ Malformed
+cut-value-line : frameOf (lineOf (3 ∷ 1 ∷ 0 ∷ 0 ∷ 0 ∷ 0 ∷ 0 ∷ 0 ∷ 0 ∷ 1 ∷ 0 ∷ 0 ∷ 7 ∷ []))
+    ≡ Malformed
 unfolding parsed frameBytes isHex bytesOf hexText pair digit hexDigit numberAt
 cut-value-line = refl
 

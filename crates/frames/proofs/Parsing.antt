@@ -17,18 +17,21 @@ use Rattle.frames.specs.Frames.{kindOf, isFrame, valuesIn, isWrite, pars
 -- ---- the tests
 
 pub isFrame-length : (kind n : ℕ) (f : List ℕ) → isFrame kind n f ≡ true → length f ≡ n
-isFrame-length kind n f e = eqb-true (length f) n (and-right (eqb (kindOf f) kind) (eqb (length f) n) e)
+isFrame-length kind n f e = eqb-true (length f) n
+    (and-right (eqb (kindOf f) kind) (eqb (length f) n) e)
 
 pub isWrite-length : (f : List ℕ) → isWrite f ≡ true → (10 ≤ length f) × (length f ≤ 266)
 isWrite-length f e =
     let n = 10 + 4 * valuesIn (length f) in
     let shaped = and-left (isFrame 0x03 n f) (leb (valuesIn (length f)) 64) e in
-    let few = leb-true (valuesIn (length f)) 64 (and-right (isFrame 0x03 n f) (leb (valuesIn (length f)) 64) e) in
+    let few = leb-true (valuesIn (length f)) 64
+    (and-right (isFrame 0x03 n f) (leb (valuesIn (length f)) 64) e) in
     let long = isFrame-length 0x03 n f shaped in
     (omega arith, omega arith)
 
 isFrame-other : (kind n : ℕ) (f : List ℕ) → (length f ≡ n → ⊥) → isFrame kind n f ≡ false
-isFrame-other kind n f h = by-test (isFrame kind n f) (λ e. absurd (h (isFrame-length kind n f e))) (λ e. e)
+isFrame-other kind n f h = by-test (isFrame kind n f) (λ e. absurd (h (isFrame-length kind n f e)))
+    (λ e. e)
 
 isWrite-other : (f : List ℕ) → 266 < length f → isWrite f ≡ false
 isWrite-other f h =
@@ -44,8 +47,15 @@ parsed-none = refl
 pub parsed-long : (f : List ℕ) → 266 < length f → parsed f ≡ Malformed
 unfolding parsed
 parsed-long f h =
-    rw
-    (isFrame-other 0x01 4 f (λ e. omega arith), isFrame-other 0x02 10 f (λ e. omega arith), isWrite-other f h, isFrame-other 0x04 3 f (λ e. omega arith), isFrame-other 0x05 2 f (λ e. omega arith))
+    rw (
+      isFrame-other 0x01 4 f (λ e. omega arith),
+      isFrame-other 0x02 10 f
+          (λ e. omega arith),
+      isWrite-other f h,
+      isFrame-other 0x04 3 f
+          (λ e. omega arith),
+      isFrame-other 0x05 2 f (λ e. omega arith),
+    )
 
 -- ---- a frame: its length is that of the bytes, and a write has kind, client and set before its values
 

@@ -1,4 +1,5 @@
--- What reading a line tells: the bytes that it stores are the frame's, and a line that isn't decoded is malformed.
+-- What reading a line tells: the bytes that it stores are the frame's, and a line that isn't
+-- decoded is malformed.
 use mathlib.Core.Bool.{true, false, _&&_, false≢true}
 use mathlib.Core.List.{List, [], _∷_}
 use mathlib.Core.Path.{_≡_, refl, sym, ap, _∙_, subst}
@@ -18,7 +19,8 @@ use Rattle.hex.specs.Text.{isHex, bytesOf}
 use Rattle.hex.proofs.Text.{length-hexText, hexText-bytesOf, length-bytesOf}
 use Rattle.frames.specs.declared.StoreFrame.{StoreFrame}
 use Rattle.frames.specs.declared.Parsed.the-variants.{Frame, Malformed}
-use Rattle.frames.specs.Frames.{isEnded, textOf, frameBytes, parsed, frameOf, isDecoded, decodedLine, storedBytes}
+use Rattle.frames.specs.Frames.{isEnded, textOf, frameBytes, parsed, frameOf, isDecoded}
+use Rattle.frames.specs.Frames.{decodedLine, storedBytes}
 use Rattle.frames.proofs.Parsing.{parsed-none, parsed-long, parsed-length}
 
 -- ---- a line's text
@@ -31,23 +33,30 @@ ended-length : (line : List ℕ) → isEnded line ≡ true → 1 ≤ length line
 ended-length [] e = absurd (false≢true e)
 ended-length (x ∷ line) e = omega arith
 
-pub isDecoded-length : (line : List ℕ) → isDecoded line ≡ true → (1 ≤ length line) × (length line ≤ 533)
+pub isDecoded-length : (line : List ℕ) → isDecoded line ≡ true → (1 ≤ length line)
+    × (length line ≤ 533)
 unfolding isDecoded
 isDecoded-length line e =
-    let short = leb (length line) 533 in
-    (ended-length line (and-right short (isEnded line) e), leb-true (length line) 533 (and-left short (isEnded line) e))
+    let short = leb (length line) 533 in (
+      ended-length line (and-right short (isEnded line) e),
+      leb-true (length line) 533
+          (and-left short (isEnded line) e),
+    )
 
 pub length-textOf : (line : List ℕ) → length (textOf line) ≡ length line - 1
 length-textOf line = length-take-le (length line - 1) line (omega arith)
 
-hex-even : (line : List ℕ) → isHex (textOf line) ≡ true → 2 * length (bytesOf (textOf line)) ≡ length line - 1
+hex-even : (line : List ℕ) → isHex (textOf line) ≡ true
+    → 2 * length (bytesOf (textOf line)) ≡ length line - 1
 hex-even line e =
-    sym (length-hexText (bytesOf (textOf line))) ∙ ap length (hexText-bytesOf (textOf line) e) ∙ length-textOf line
+    sym (length-hexText (bytesOf (textOf line))) ∙ ap length (hexText-bytesOf (textOf line) e)
+    ∙ length-textOf line
 
 -- ---- decoded
 
 module _ (line : List ℕ) where
-  frameBytes-hex : isEnded line ≡ true → isHex (textOf line) ≡ true → frameBytes line ≡ bytesOf (textOf line)
+  frameBytes-hex : isEnded line ≡ true → isHex (textOf line) ≡ true
+      → frameBytes line ≡ bytesOf (textOf line)
   unfolding frameBytes
   frameBytes-hex e h = rw (e, h)
 
@@ -68,12 +77,15 @@ module _ (line : List ℕ) where
       by-test (isHex (textOf line))
       (λ h.
       ap parsed (frameBytes-hex e h)
-      ∙ parsed-long (bytesOf (textOf line)) (omega (arith, hex-even line h, leb-false (length line) 533 (unended e d))))
+      ∙ parsed-long (bytesOf (textOf line))
+      (omega (arith, hex-even line h, leb-false (length line) 533 (unended e d))))
       (λ h. ap parsed (frameBytes-not h) ∙ parsed-none))
       (λ e. ap parsed (frameBytes-unended e) ∙ parsed-none)
     where
-      unended : isEnded line ≡ true → (leb (length line) 533 && isEnded line) ≡ false → leb (length line) 533 ≡ false
-      unended e f = by-test (leb (length line) 533) (λ t. not-both (and-both (leb (length line) 533) (isEnded line) t e) f) (λ t. t)
+      unended : isEnded line ≡ true → (leb (length line) 533 && isEnded line) ≡ false
+          → leb (length line) 533 ≡ false
+      unended e f = by-test (leb (length line) 533)
+          (λ t. not-both (and-both (leb (length line) 533) (isEnded line) t e) f) (λ t. t)
 
   pub frameOf-long : 533 < length line → frameOf line ≡ Malformed
   unfolding isDecoded
@@ -116,16 +128,24 @@ module _ (line : List ℕ) where
       let h = decoded-bytes (textOf line) n (rw d at m) in
       let e = and-right (leb (length line) 533) (isEnded line) d in
       let l = isDecoded-length line d in
-      let size : n ≡ length (bytesOf (textOf line)) = h .1 ∙ sym (length-bytesOf (textOf line) (h .0)) in
+      let size : n ≡ length (bytesOf (textOf line)) =
+      h .1 ∙ sym (length-bytesOf (textOf line) (h .0)) in
       let stored = storedBytes-text d in
-      record { bytes = frameBytes-hex e (h .0) ∙ sym stored; long = size ∙ sym (ap length stored); fits = omega (arith, hex-even line (h .0)) })
+      record {
+        bytes = frameBytes-hex e (h .0) ∙ sym stored;
+        long =
+            size ∙ sym (ap length stored);
+        fits = omega (arith, hex-even line (h .0));
+      })
       (λ d.
       let f : Bytes n ≡ Undecoded = rw d at m in
       let z : _≡_ {A = ℕ} 0 1 = cc in
       absurd (omega arith))
 
   -- the frame's bytes lie at the front of the bytes stored to
-  pub stored-front : (bytes : List ℕ) {after : List ℕ} (n : ℕ) → Stored n → after ≡ sets bytes 0 (storedBytes line) → 266 ≤ length bytes → take n after ≡ frameBytes line
+  pub stored-front : (bytes : List ℕ) {after : List ℕ} (n : ℕ) → Stored n
+      → after ≡ sets bytes 0 (storedBytes line) → 266 ≤ length bytes
+      → take n after ≡ frameBytes line
   stored-front bytes n s e h =
       let fits : length (storedBytes line) ≤ length bytes = omega (arith, s .long, s .fits) in
       ap (take n) (e ∙ sets-front bytes (storedBytes line) fits)
@@ -139,7 +159,8 @@ module _ (line : List ℕ) where
       by : (d : Decoded) → d ≡ decodedLine line → Stored n
       by (Bytes m) q =
           let s = stored-bytes m q in
-          let same : n ≡ m = parsed-length (frameBytes line) g n e ∙ ap length (s .bytes) ∙ sym (s .long) in
+          let same : n ≡ m = parsed-length (frameBytes line) g n e ∙ ap length (s .bytes)
+          ∙ sym (s .long) in
           subst Stored (sym same) s
       by Undecoded q =
           let m = frameOf-malformed q in

@@ -1,5 +1,6 @@
--- The store's frames (document 01: frames): lines of lowercase hexadecimal, two digits a byte, one frame a line, most significant byte first,
--- each ended by byte 0a. Any other line is malformed, and so is a last line without its 0a. A line is all its bytes, its 0a with them.
+-- The store's frames (document 01: frames): lines of lowercase hexadecimal, two digits a byte, one
+-- frame a line, most significant byte first, each ended by byte 0a. Any other line is malformed,
+-- and so is a last line without its 0a. A line is all its bytes, its 0a with them.
 use mathlib.Core.Bool.{Bool, cond, _&&_}
 use mathlib.Core.List.{List, []}
 use Prim.Native.Nat.{ℕ, _+_, _-_, _*_, _/_}
@@ -46,8 +47,8 @@ valuesIn n = (n - 10) / 4
 abbrev pub isWrite : List ℕ → Bool
 isWrite f = isFrame 0x03 (10 + 4 * valuesIn (length f)) f && leb (valuesIn (length f)) 64
 
--- `01` desks, cabinets, lines (a byte each): fresh. `02` desk, set (8 bytes): read. `03` desk, set, values: write. `04` place (2 bytes): deliver.
--- `05` desk: show. Any other is malformed
+-- `01` desks, cabinets, lines (a byte each): fresh. `02` desk, set (8 bytes): read. `03` desk, set,
+-- values: write. `04` place (2 bytes): deliver. `05` desk: show. Any other is malformed
 unfoldable pub parsed : List ℕ → Parsed
 parsed f =
     let n = length f in
@@ -75,6 +76,7 @@ isDecoded line = leb (length line) 533 && isEnded line
 unfoldable pub decodedLine : List ℕ → Decoded
 decodedLine line = cond (isDecoded line) (decoded (textOf line)) Undecoded
 
--- the bytes that reading stores: of a malformed line, those before the first pair that isn't two digits
+-- the bytes that reading stores: of a malformed line, those before the first pair that isn't two
+-- digits
 unfoldable pub storedBytes : List ℕ → List ℕ
 storedBytes line = cond (isDecoded line) (bytesOf (textOf line)) []

@@ -11,7 +11,8 @@ use Rattle.hex.specs.Text.{isHex}
 use Rattle.hex.specs.Decode.{decoded}
 
 -- what an answer tells of the line
-pub decoded-bytes : (line : List ℕ) (n : ℕ) → Bytes n ≡ decoded line → (isHex line ≡ true) × (n ≡ length line / 2)
+pub decoded-bytes : (line : List ℕ) (n : ℕ) → Bytes n ≡ decoded line → (isHex line ≡ true)
+    × (n ≡ length line / 2)
 decoded-bytes line n e =
     by-test (isHex line)
     (λ t. (t, (let f : Bytes n ≡ Bytes (length line / 2) = rw t at e in cc)))

@@ -1,4 +1,5 @@
--- A lowercase hexadecimal digit's byte and its value, and the two digits of a byte (document 01: frames).
+-- A lowercase hexadecimal digit's byte and its value, and the two digits of a byte (document 01:
+-- frames).
 use mathlib.Core.Bool.{_&&_}
 use mathlib.Core.List.{[], _∷_}
 use mathlib.Core.Path.{_≡_, _∙_}
@@ -31,8 +32,14 @@ digit-hexDigit v h =
     rw (e, le-leb 48 (48 + v) (omega arith), le-leb (48 + v) 57 (omega arith)) (omega arith))
     (λ e.
     let l = ltb-false v 10 e in
-    rw
-    (e, le-leb 48 (87 + v) (omega arith), lt-leb (87 + v) 57 (omega arith), le-leb 97 (87 + v) (omega arith), le-leb (87 + v) 102 (omega arith))
+    rw (
+      e,
+      le-leb 48 (87 + v) (omega arith),
+      lt-leb (87 + v) 57 (omega arith),
+      le-leb 97 (87 + v)
+          (omega arith),
+      le-leb (87 + v) 102 (omega arith),
+    )
     (omega arith))
 
 -- ---- hexDigit

@@ -1,4 +1,5 @@
--- Lines of a text, each ended by byte 0a (document 01: frames). The laws say that a line's end is the first such byte.
+-- Lines of a text, each ended by byte 0a (document 01: frames). The laws say that a line's end is
+-- the first such byte.
 use mathlib.Core.Bool.{true}
 use mathlib.Core.List.{List, [], _∷_}
 use mathlib.Core.Path.{_≡_, sym, ap, _∙_}
@@ -62,7 +63,12 @@ pub lineEnd-at : (s : List ℕ) (at : ℕ) → isEnded s at ≡ true → getD s 
 unfolding lineEnd
 lineEnd-at s at e =
     sym (getD-drop at s (lineLength (drop at s)) 0)
-    ∙ lineLength-at (drop at s) (omega (arith, ltb-true (lineEnd s at) (length s) e, length-drop at s))
+    ∙ lineLength-at (drop at s) (omega (
+      arith,
+      ltb-true (lineEnd s at)
+          (length s) e,
+      length-drop at s,
+    ))
 
 -- past the text it is where the search began
 pub lineEnd-past : (s : List ℕ) (at : ℕ) → length s ≤ at → lineEnd s at ≡ at
@@ -75,18 +81,21 @@ unfolding lineEnd lineLength
 lineEnd-here s at h e = rw (drop-cons s at 0 h, eq-eqb (getD s at 0) 10 e) (add-zero at)
 
 -- at another byte it is the next place's
-pub lineEnd-next : (s : List ℕ) (at : ℕ) → at < length s → (getD s at 0 ≡ 10 → ⊥) → lineEnd s at ≡ lineEnd s (at + 1)
+pub lineEnd-next : (s : List ℕ) (at : ℕ) → at < length s → (getD s at 0 ≡ 10 → ⊥)
+    → lineEnd s at ≡ lineEnd s (at + 1)
 unfolding lineEnd lineLength
 lineEnd-next s at h e =
     rw (drop-cons s at 0 h, ne-eqb (getD s at 0) 10 e, add-one) (omega arith)
 
 -- a 0a with none between it and `at` is it
-pub lineEnd-first : (s : List ℕ) (at e : ℕ) → at ≤ e → e < length s → getD s e 0 ≡ 10 → ((i : ℕ) → at ≤ i → i < e → getD s i 0 ≡ 10 → ⊥) → lineEnd s at ≡ e
+pub lineEnd-first : (s : List ℕ) (at e : ℕ) → at ≤ e → e < length s → getD s e 0 ≡ 10
+    → ((i : ℕ) → at ≤ i → i < e → getD s i 0 ≡ 10 → ⊥) → lineEnd s at ≡ e
 lineEnd-first s at e p q t none =
     by-test (ltb (lineEnd s at) e)
     (λ f.
     let l = ltb-true (lineEnd s at) e f in
-    absurd (none (lineEnd s at) (lineEnd-ge s at) l (lineEnd-at s at (lt-ltb (lineEnd s at) (length s) (omega arith)))))
+    absurd (none (lineEnd s at) (lineEnd-ge s at) l
+    (lineEnd-at s at (lt-ltb (lineEnd s at) (length s) (omega arith)))))
     (λ f.
     let l = ltb-false (lineEnd s at) e f in
     by-test (ltb e (lineEnd s at))

@@ -1,4 +1,5 @@
--- How a text goes on from its pair k: whether it is hex, and what is left to store of its bytes. Each law opens one pair of the text.
+-- How a text goes on from its pair k: whether it is hex, and what is left to store of its bytes.
+-- Each law opens one pair of the text.
 use mathlib.Core.Bool.{true, false}
 use mathlib.Core.List.{List, [], _∷_}
 use mathlib.Core.Path.{_≡_, _∙_}
@@ -11,14 +12,16 @@ use lib.Seq.{sets, drop-cons}
 use Rattle.hex.specs.Digit.{pair}
 use Rattle.hex.specs.Text.{isHex, bytesOf}
 
-pub drop-pair : (s : List ℕ) (k : ℕ) → 2 * k + 1 < length s → drop (2 * k) s ≡ getD s (2 * k) 0 ∷ getD s (2 * k + 1) 0 ∷ drop (2 * (k + 1)) s
+pub drop-pair : (s : List ℕ) (k : ℕ) → 2 * k + 1 < length s
+    → drop (2 * k) s ≡ getD s (2 * k) 0 ∷ getD s (2 * k + 1) 0 ∷ drop (2 * (k + 1)) s
 drop-pair s k h =
     let next : suc (2 * k) ≡ 2 * k + 1 = omega arith in
     let after : suc (2 * k + 1) ≡ 2 * (k + 1) = omega arith in
     drop-cons s (2 * k) 0 (omega arith) ∙ rw (next, drop-cons s (2 * k + 1) 0 h, after)
 
 -- b is the byte of pair k
-module _ (s : List ℕ) (k b : ℕ) (room : 2 * k + 1 < length s) (is : b ≡ pair (getD s (2 * k) 0) (getD s (2 * k + 1) 0)) where
+module _ (s : List ℕ) (k b : ℕ) (room : 2 * k + 1 < length s)
+    (is : b ≡ pair (getD s (2 * k) 0) (getD s (2 * k + 1) 0)) where
   pub isHex-digits : b < 256 → isHex (drop (2 * (k + 1)) s) ≡ isHex (drop (2 * k) s)
   unfolding isHex
   isHex-digits h = rw (drop-pair s k room, ← is, lt-ltb b 256 h)
@@ -27,7 +30,9 @@ module _ (s : List ℕ) (k b : ℕ) (room : 2 * k + 1 < length s) (is : b ≡ pa
   unfolding isHex
   isHex-other h = rw (drop-pair s k room, ← is, le-ltb b 256 h)
 
-  pub bytesOf-digits : (out : List ℕ) → b < 256 → sets (set out k b) (k + 1) (bytesOf (drop (2 * (k + 1)) s)) ≡ sets out k (bytesOf (drop (2 * k) s))
+  pub bytesOf-digits : (out : List ℕ) → b < 256
+      → sets (set out k b) (k + 1) (bytesOf (drop (2 * (k + 1)) s)) ≡ sets out k
+      (bytesOf (drop (2 * k) s))
   unfolding bytesOf
   bytesOf-digits out h = rw (drop-pair s k room, ← is, lt-ltb b 256 h, add-one k)
 
@@ -54,6 +59,7 @@ module _ (s : List ℕ) (k : ℕ) where
   unfolding bytesOf
   bytesOf-even out h = rw (drop-of-length-le s h)
 
-  pub bytesOf-odd : (out : List ℕ) → length s ≡ 2 * k + 1 → out ≡ sets out k (bytesOf (drop (2 * k) s))
+  pub bytesOf-odd : (out : List ℕ) → length s ≡ 2 * k + 1
+      → out ≡ sets out k (bytesOf (drop (2 * k) s))
   unfolding bytesOf
   bytesOf-odd out h = rw (drop-odd h)

@@ -1,4 +1,5 @@
--- Bytes as text, two digits a byte, and text as bytes (document 01: frames). The laws go two digits at a time.
+-- Bytes as text, two digits a byte, and text as bytes (document 01: frames). The laws go two digits
+-- at a time.
 use mathlib.Core.Bool.{true, false≢true}
 use mathlib.Core.List.{List, [], _∷_, _++_}
 use mathlib.Core.Path.{_≡_, refl, ap, ap₂}
@@ -35,7 +36,8 @@ pub bytesOf-hexText : (bs : List ℕ) → EachByte bs → bytesOf (hexText bs) �
 unfolding bytesOf hexText
 bytesOf-hexText [] h = refl
 bytesOf-hexText (b ∷ bs) h =
-    rw (pair-hexByte b (h zero), lt-ltb b 256 (h zero)) (ap (λ (t : List ℕ). b ∷ t) (bytesOf-hexText bs (λ i. h (suc i))))
+    rw (pair-hexByte b (h zero), lt-ltb b 256 (h zero))
+    (ap (λ (t : List ℕ). b ∷ t) (bytesOf-hexText bs (λ i. h (suc i))))
 
 -- ---- bytesOf
 
@@ -75,4 +77,5 @@ hexText-bytesOf (h ∷ []) e = absurd (false≢true e)
 hexText-bytesOf (h ∷ l ∷ s) e =
     let t = and-left (ltb (pair h l) 256) (isHex s) e in
     rw t
-    (ap₂ (λ (a b : List ℕ). a ++ b) (hexByte-pair h l (ltb-true (pair h l) 256 t)) (hexText-bytesOf s (and-right (ltb (pair h l) 256) (isHex s) e)))
+    (ap₂ (λ (a b : List ℕ). a ++ b) (hexByte-pair h l (ltb-true (pair h l) 256 t))
+    (hexText-bytesOf s (and-right (ltb (pair h l) 256) (isHex s) e)))

@@ -1,4 +1,5 @@
--- A lowercase hexadecimal digit's byte and its value, and the two digits of a byte (document 01: frames).
+-- A lowercase hexadecimal digit's byte and its value, and the two digits of a byte (document 01:
+-- frames).
 use mathlib.Core.Bool.{cond, _&&_}
 use mathlib.Core.List.{List, [], _∷_}
 use Prim.Native.Nat.{ℕ, _+_, _-_, _*_, _/_, _%_}

@@ -1,4 +1,5 @@
--- Lines of a text, each ended by byte 0a (document 01: frames). The laws say that a line's end is the first such byte.
+-- Lines of a text, each ended by byte 0a (document 01: frames). The laws say that a line's end is
+-- the first such byte.
 use mathlib.Core.Bool.{Bool, cond}
 use mathlib.Core.List.{List, [], _∷_}
 use Prim.Native.Nat.{ℕ, suc, _+_}
@@ -12,7 +13,8 @@ lineLength (c ∷ s) =
     let more = suc (lineLength s) in
     cond (eqb c 10) 0 more
 
--- the place of the first 0a of s at or after `at`; the length of s where there is none, and `at` where that is past the end
+-- the place of the first 0a of s at or after `at`; the length of s where there is none, and `at`
+-- where that is past the end
 unfoldable pub lineEnd : List ℕ → ℕ → ℕ
 lineEnd s at = at + lineLength (drop at s)
 

@@ -1,4 +1,5 @@
--- Bytes as text, two digits a byte, and text as bytes (document 01: frames). The laws go two digits at a time.
+-- Bytes as text, two digits a byte, and text as bytes (document 01: frames). The laws go two digits
+-- at a time.
 use mathlib.Core.Bool.{Bool, true, false, cond, _&&_}
 use mathlib.Core.List.{List, [], _∷_, _++_}
 use Prim.Native.Nat.{ℕ}
@@ -13,7 +14,8 @@ isHex (h ∷ l ∷ s) =
     let rest = isHex s in
     ltb (pair h l) 256 && rest
 
--- the bytes of the pairs of s before the first pair that isn't two digits: of all pairs where s is hex
+-- the bytes of the pairs of s before the first pair that isn't two digits: of all pairs where s is
+-- hex
 unfoldable pub bytesOf : List ℕ → List ℕ
 bytesOf [] = []
 bytesOf (h ∷ []) = []

@@ -1,5 +1,5 @@
--- The laws of how many members a set has, `count`, and of how many are below an item, `rank`: each digit counts for itself,
--- the lowest first and then those of half the set.
+-- The laws of how many members a set has, `count`, and of how many are below an item, `rank`: each
+-- digit counts for itself, the lowest first and then those of half the set.
 use mathlib.Core.Bool.{true, false, cond}
 use mathlib.Core.Path.{_≡_, refl, sym, ap, _∙_}
 use Prim.Native.Nat.{ℕ, zero, suc, _+_, _/_, _%_, _^_, _≤_, _<_}
@@ -12,7 +12,8 @@ use lib.Count.{ones, onesIn, ones-step, ones-le}
 use lib.Dec.{eqb}
 use lib.Pow.{field, mod-mod-pow}
 use Rattle.itemset.specs.Set.{has, count, rank, insert, remove}
-use Rattle.itemset.proofs.Laws.{low-set, low-clear, insert-low, insert-half, insert-zero-low, insert-zero-half, insert-remove, has-remove-same}
+use Rattle.itemset.proofs.Laws.{low-set, low-clear, insert-low, insert-half, insert-zero-low}
+use Rattle.itemset.proofs.Laws.{insert-zero-half, insert-remove, has-remove-same}
 use Rattle.basics.proofs.Cases.{by-test}
 
 -- ---- count
@@ -33,12 +34,29 @@ count-le s n h = ones-le n s h
 pub count-insert : (s k : ℕ) → has s k ≡ false → count (insert s k) ≡ suc (count s)
 unfolding has
 count-insert s zero e =
-    omega (arith, ones-step (insert s zero), ap ones (insert-zero-half s), insert-zero-low s, ones-step s, low-clear s e)
+    omega (
+      arith,
+      ones-step (insert s zero),
+      ap ones
+          (insert-zero-half s),
+      insert-zero-low s,
+      ones-step s,
+      low-clear s e,
+    )
 count-insert s (suc k) e =
-    omega (arith, ones-step (insert s (suc k)), ap ones (insert-half s k), insert-low s k, ones-step s, count-insert (s / 2) k e)
+    omega (
+      arith,
+      ones-step (insert s (suc k)),
+      ap ones
+          (insert-half s k),
+      insert-low s k,
+      ones-step s,
+      count-insert (s / 2) k e,
+    )
 
 pub count-remove : (s k : ℕ) → has s k ≡ true → suc (count (remove s k)) ≡ count s
-count-remove s k e = sym (count-insert (remove s k) k (has-remove-same s k)) ∙ ap ones (insert-remove s k e)
+count-remove s k e = sym (count-insert (remove s k) k (has-remove-same s k))
+    ∙ ap ones (insert-remove s k e)
 
 -- ---- rank
 
@@ -68,7 +86,8 @@ rank-mod s (suc k) =
     omega (arith, ones-step (s % 2 ^ suc k), ap ones half, low, rank-mod (s / 2) k)
 
 pub rank-le : (s j k : ℕ) → j ≤ k → rank s j ≤ rank s k
-rank-le s j k l = le-ind (λ (m : ℕ). rank s j ≤ rank s m) (le-refl (rank s j)) (λ m g e. omega (arith, rank-suc s m)) k l
+rank-le s j k l = le-ind (λ (m : ℕ). rank s j ≤ rank s m) (le-refl (rank s j))
+    (λ m g e. omega (arith, rank-suc s m)) k l
 
 pub rank-count : (s k : ℕ) → rank s k ≤ count s
 unfolding onesIn

@@ -1,5 +1,6 @@
--- The laws of the least member from an item on, `leastFrom`, by induction on how many items are looked at: it is within them,
--- it is a member unless it is their end, and no item before it is one.
+-- The laws of the least member from an item on, `leastFrom`, by induction on how many items are
+-- looked at: it is within them, it is a member unless it is their end, and no item before it is
+-- one.
 use mathlib.Core.Bool.{true, false}
 use mathlib.Core.Path.{_≡_}
 use mathlib.Core.Logic.{⊎-elim}
@@ -20,12 +21,14 @@ least-next d s k e = rw e
 pub least-ge : (d s k : ℕ) → k ≤ leastFrom d s k
 unfolding leastFrom
 least-ge zero s k = omega arith
-least-ge (suc d) s k = by-test (has s k) (λ e. rw e (omega arith)) (λ e. rw e (omega (arith, least-ge d s (suc k))))
+least-ge (suc d) s k = by-test (has s k) (λ e. rw e (omega arith))
+    (λ e. rw e (omega (arith, least-ge d s (suc k))))
 
 pub least-le : (d s k : ℕ) → leastFrom d s k ≤ k + d
 unfolding leastFrom
 least-le zero s k = omega arith
-least-le (suc d) s k = by-test (has s k) (λ e. rw e (omega arith)) (λ e. rw e (omega (arith, least-le d s (suc k))))
+least-le (suc d) s k = by-test (has s k) (λ e. rw e (omega arith))
+    (λ e. rw e (omega (arith, least-le d s (suc k))))
 
 pub least-has : (d s k : ℕ) → leastFrom d s k < k + d → has s (leastFrom d s k) ≡ true
 unfolding leastFrom

@@ -1,5 +1,5 @@
--- Sets of items as numbers, for any number of items: item k is the binary digit worth 2 ^ k (document 01: sets of lines).
--- The digits are taken lowest first, by `% 2` and `/ 2`.
+-- Sets of items as numbers, for any number of items: item k is the binary digit worth 2 ^ k
+-- (document 01: sets of lines). The digits are taken lowest first, by `% 2` and `/ 2`.
 use mathlib.Core.Bool.{Bool, cond}
 use mathlib.Core.List.{List, [], _∷_, _++_}
 use Prim.Native.Nat.{ℕ, zero, suc, _+_, _-_, _/_, _%_, _^_}

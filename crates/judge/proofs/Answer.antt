@@ -19,8 +19,11 @@ use Rattle.judge_log.specs.Some.{firstFrom}
 use Rattle.judge_log.specs.declared.scan.Scanned.the-variants.{Lines, Bad}
 use Rattle.judge.specs.declared.Verdict.the-variants.{Malformed, Judged}
 
-module _ (bytes starts : List ℕ) (n line : ℕ) (first : line ≡ firstFrom n 0 (faultAt (framesIn bytes starts n))) where
-  pub judged-fault : (finding : ℕ) → line < n → finding ≡ lowest findings (framesIn bytes starts n) line → Judged finding (line + 1) ≡ judged (framesIn bytes starts n)
+module _ (bytes starts : List ℕ) (n line : ℕ)
+    (first : line ≡ firstFrom n 0 (faultAt (framesIn bytes starts n))) where
+  pub judged-fault : (finding : ℕ) → line < n
+      → finding ≡ lowest findings (framesIn bytes starts n) line
+      → Judged finding (line + 1) ≡ judged (framesIn bytes starts n)
   unfolding judged
   judged-fault finding h e = rw (length-framesIn bytes starts n, ← first, lt-ltb line n h, ← e)
 
@@ -28,18 +31,22 @@ module _ (bytes starts : List ℕ) (n line : ℕ) (first : line ≡ firstFrom n 
   unfolding judged
   judged-clean h = rw (length-framesIn bytes starts n, ← first, le-ltb line n h)
 
-pub checked-lines : (log bytes starts : List ℕ) (n : ℕ) → ScannedOf log bytes starts (Lines n) → judged (framesIn bytes starts n) ≡ checked (framesOf log)
+pub checked-lines : (log bytes starts : List ℕ) (n : ℕ) → ScannedOf log bytes starts (Lines n)
+    → judged (framesIn bytes starts n) ≡ checked (framesOf log)
 unfolding checked
 checked-lines log bytes starts n t =
     rw (t .1, le-ltb n (length (framesOf log)) (omega (arith, t .2))) (ap judged (t .0))
 
-pub checked-bad : (log bytes starts : List ℕ) (i : ℕ) → ScannedOf log bytes starts (Bad i) → Malformed (i + 1) ≡ checked (framesOf log)
+pub checked-bad : (log bytes starts : List ℕ) (i : ℕ) → ScannedOf log bytes starts (Bad i)
+    → Malformed (i + 1) ≡ checked (framesOf log)
 unfolding checked
 checked-bad log bytes starts i t = rw (t .0, lt-ltb i (length (framesOf log)) (t .1))
 
 -- a log within the limits can be scanned
-pub within-start : (log bytes starts : List ℕ) → tooLong log ≡ false → length bytes ≡ 16384 → length starts ≡ 258 → getD starts 0 0 ≡ 0 → Scanning log 0 bytes starts 0
+pub within-start : (log bytes starts : List ℕ) → tooLong log ≡ false → length bytes ≡ 16384
+    → length starts ≡ 258 → getD starts 0 0 ≡ 0 → Scanning log 0 bytes starts 0
 unfolding tooLong
 within-start log bytes starts e p q z =
     let f = or-neither (ltb 32768 (length log)) (ltb 256 (counted (λ c. eqb c 0x0a) log)) e in
-    scan-start log bytes starts (ltb-false 32768 (length log) (f .0)) (ltb-false 256 (counted (λ c. eqb c 0x0a) log) (f .1)) p q z
+    scan-start log bytes starts (ltb-false 32768 (length log) (f .0))
+    (ltb-false 256 (counted (λ c. eqb c 0x0a) log) (f .1)) p q z

@@ -1,4 +1,5 @@
--- Document 01's log examples (★) and those of the source papers, from the log's bytes through the whole definition.
+-- Document 01's log examples (★) and those of the source papers, from the log's bytes through the
+-- whole definition.
 use mathlib.Core.Bool.{Bool, true, _&&_}
 use mathlib.Core.List.{List, [], _∷_, _++_}
 use mathlib.Core.Path.{_≡_, refl}
@@ -12,8 +13,11 @@ use Rattle.hex.specs.Number.{numberAt, bigEndian}
 use Rattle.hex.specs.Text.{isHex, hexText}
 use Rattle.itemset.specs.Set.{has}
 use Rattle.judge_log.specs.Some.{some, someFrom, firstFrom}
-use Rattle.judge_log.specs.Log.{tooLong, linesOf, frameOf, written, numberOf, writtenStamp, writtenValue, shown, shownStamp, shownValue, writeShaped, readShaped, entriesWhole, reaches, malformed}
-use Rattle.judge.specs.Findings.{wrote, isUnwritten, behind, fractures, outdates, holdsAt, lowest, judged, checked, verdict, bytesOf}
+use Rattle.judge_log.specs.Log.{tooLong, linesOf, frameOf, written, numberOf, writtenStamp}
+use Rattle.judge_log.specs.Log.{writtenValue, shown, shownStamp, shownValue, writeShaped}
+use Rattle.judge_log.specs.Log.{readShaped, entriesWhole, reaches, malformed}
+use Rattle.judge.specs.Findings.{wrote, isUnwritten, behind, fractures, outdates, holdsAt}
+use Rattle.judge.specs.Findings.{lowest, judged, checked, verdict, bytesOf}
 
 -- a line of n bytes, its digits as one number, most significant first
 line : ℕ → ℕ → List ℕ
@@ -28,7 +32,8 @@ rows : List Row
 rows =
     -- ★ the empty log
     record { log = []; answer = 0x00000000 }
-    -- ★ a write of {0, 1}, number 1, by desk 1; a read by desk 2 with line 0 from it and line 1 initial
+    -- ★ a write of {0, 1}, number 1, by desk 1; a read by desk 2 with line 0 from it and line 1
+    -- initial
     ∷ record {
       log =
           line 22 0x20010000000000000003_00000001_00000007_00000008
@@ -56,8 +61,8 @@ rows =
           ++ line 28 0x21010000000000000003_00000000_00_00000000_00000000_00_00000000;
       answer = 0x00030002;
     }
-    -- a tie, where the desk decides: desk 2 wrote lines 0 and 1 as number 1, desk 1 wrote line 1 as number 1,
-    -- and desk 3 shows line 0 from desk 2 and line 1 from desk 1
+    -- a tie, where the desk decides: desk 2 wrote lines 0 and 1 as number 1, desk 1 wrote line 1 as
+    -- number 1, and desk 3 shows line 0 from desk 2 and line 1 from desk 1
     ∷ record {
       log =
           line 22 0x20020000000000000003_00000001_00000007_00000008
@@ -79,7 +84,10 @@ right r = same (bytesOf (verdict (r .log))) (bigEndian 4 (r .answer))
 -- every row of the table
 examples : all right rows ≡ true
 unfolding all rows right same line hexText bigEndian hexDigit
-    digit pair lineLength numberAt isHex Rattle.hex.specs.Text.bytesOf has some someFrom counted every ones onesIn
-    linesOf frameOf written numberOf writtenStamp writtenValue shown shownStamp shownValue writeShaped readShaped entriesWhole reaches malformed
-    wrote isUnwritten behind fractures outdates holdsAt lowest firstFrom tooLong judged checked verdict
+    digit pair lineLength numberAt isHex Rattle.hex.specs.Text.bytesOf has some someFrom counted
+    every ones onesIn
+    linesOf frameOf written numberOf writtenStamp writtenValue shown shownStamp shownValue
+    writeShaped readShaped entriesWhole reaches malformed
+    wrote isUnwritten behind fractures outdates holdsAt lowest firstFrom tooLong judged checked
+    verdict
 examples = refl

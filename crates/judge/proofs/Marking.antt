@@ -1,4 +1,5 @@
--- A table with the stamp of each line's write, 0 for a read: most writes are ruled out by it without a look at their frame.
+-- A table with the stamp of each line's write, 0 for a read: most writes are ruled out by it
+-- without a look at their frame.
 use mathlib.Core.Bool.{Bool, true, false, _&&_, _||_}
 use mathlib.Core.List.{List}
 use mathlib.Core.Path.{_≡_, refl, sym, ap, _∙_}
@@ -50,20 +51,25 @@ module _ (w : List ℕ) (item stamp : ℕ) where
   unfolding markOf outdates
   mark-outdates of h =
       by-test (isWrite w)
-      (λ t. rw (le-ltb stamp (writtenStamp w) (rw t at h), and-false (has (written w) item)) (and-false (eqb (clientOf w) of)))
+      (λ t. rw (le-ltb stamp (writtenStamp w) (rw t at h), and-false (has (written w) item))
+      (and-false (eqb (clientOf w) of)))
       (λ t. rw (not-written w item t) (and-false (eqb (clientOf w) of)))
 
   module _ (r : List ℕ) (of : ℕ) (above : Bool) where
-    pub faults-equal : markOf w ≡ stamp → fractures r item stamp w ≡ faultsOf r of item stamp w above
+    pub faults-equal : markOf w ≡ stamp
+        → fractures r item stamp w ≡ faultsOf r of item stamp w above
     unfolding faultsOf
     faults-equal e =
-        rw (mark-outdates of (omega arith), and-false above) (sym (or-none (fractures r item stamp w)))
+        rw (mark-outdates of (omega arith), and-false above)
+        (sym (or-none (fractures r item stamp w)))
 
-    pub faults-later : (markOf w ≡ stamp → ⊥) → above ≡ true → outdates of item stamp w ≡ faultsOf r of item stamp w above
+    pub faults-later : (markOf w ≡ stamp → ⊥) → above ≡ true
+        → outdates of item stamp w ≡ faultsOf r of item stamp w above
     unfolding faultsOf
     faults-later h e = rw (mark-fractures r h, e)
 
-    pub faults-none : (mark : ℕ) → mark ≡ markOf w → (mark ≡ stamp → ⊥) → (ltb stamp mark && above) ≡ false → false ≡ faultsOf r of item stamp w above
+    pub faults-none : (mark : ℕ) → mark ≡ markOf w → (mark ≡ stamp → ⊥)
+        → (ltb stamp mark && above) ≡ false → false ≡ faultsOf r of item stamp w above
     unfolding faultsOf
     faults-none mark m h e =
         let differ : markOf w ≡ stamp → ⊥ = λ z. h (m ∙ z) in
@@ -77,10 +83,13 @@ module _ (w : List ℕ) (item stamp : ℕ) where
 
 -- ---- one more mark
 
-pub marked-next : (bytes starts marks : List ℕ) (j m : ℕ) → Marked bytes starts j marks → j < length marks → m ≡ markOf (frameIn bytes starts j) → Marked bytes starts (j + 1) (set marks j m)
+pub marked-next : (bytes starts marks : List ℕ) (j m : ℕ) → Marked bytes starts j marks
+    → j < length marks → m ≡ markOf (frameIn bytes starts j)
+    → Marked bytes starts (j + 1) (set marks j m)
 marked-next bytes starts marks j m old h e k l =
     by-test (eqb k j)
     (λ t.
     let same = eqb-true k j t in
-    ap (λ (i : ℕ). getD (set marks j m) i 0) same ∙ getD-set-same marks j m 0 h ∙ e ∙ ap (λ (i : ℕ). markOf (frameIn bytes starts i)) (sym same))
+    ap (λ (i : ℕ). getD (set marks j m) i 0) same ∙ getD-set-same marks j m 0 h ∙ e
+    ∙ ap (λ (i : ℕ). markOf (frameIn bytes starts i)) (sym same))
     (λ t. getD-set-other marks j k m 0 (eqb-false k j t) ∙ old k (omega (arith, eqb-false k j t)))

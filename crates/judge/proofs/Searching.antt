@@ -1,4 +1,5 @@
--- The findings as the judge searches for them: item by item of a read, write by write. Each law takes a definition to such a search.
+-- The findings as the judge searches for them: item by item of a read, write by write. Each law
+-- takes a definition to such a search.
 use mathlib.Core.Bool.{Bool, true, false, _&&_, _||_, true≢false}
 use mathlib.Core.List.{List, []}
 use mathlib.Core.Path.{_≡_, refl, sym, ap, ap₂, _∙_}
@@ -11,7 +12,8 @@ use borrow.Author.Tests.{ltb-true, lt-ltb, ne-eqb}
 use Rattle.basics.proofs.Cases.{and-left, and-right, and-both, test-ext}
 use Rattle.itemset.specs.Set.{has}
 use Rattle.judge_log.specs.Some.{some, someFrom}
-use Rattle.judge_log.proofs.Some.{some-at, at-some, someFrom-at, at-someFrom, someFrom-or, someFrom-ext}
+use Rattle.judge_log.proofs.Some.{some-at, at-some, someFrom-at, at-someFrom, someFrom-or}
+use Rattle.judge_log.proofs.Some.{someFrom-ext}
 use Rattle.judge.specs.Findings.{holdsAt, faultAt, behind, isUnwritten, fractures, outdates}
 use Rattle.judge_log.specs.Log.{clientOf, written, writtenStamp, shown, shownStamp, shownValue}
 use Rattle.judge_log.specs.Cut.{frameIn, framesIn}
@@ -23,16 +25,21 @@ and-short true true c e = absurd (true≢false e)
 and-short true false c e = refl
 and-short false b c e = refl
 
-pub behindAt-shown : (r : List ℕ) (items wrote stamp item : ℕ) → (has items item && has wrote item) ≡ true → behindAt r items wrote stamp item ≡ ltb (shownStamp r item) stamp
+pub behindAt-shown : (r : List ℕ) (items wrote stamp item : ℕ)
+    → (has items item && has wrote item) ≡ true
+    → behindAt r items wrote stamp item ≡ ltb (shownStamp r item) stamp
 unfolding behindAt
 behindAt-shown r items wrote stamp item e =
     rw (and-left (has items item) (has wrote item) e, and-right (has items item) (has wrote item) e)
 
-pub behindAt-not : (r : List ℕ) (items wrote stamp item : ℕ) → (has items item && has wrote item) ≡ false → behindAt r items wrote stamp item ≡ false
+pub behindAt-not : (r : List ℕ) (items wrote stamp item : ℕ)
+    → (has items item && has wrote item) ≡ false → behindAt r items wrote stamp item ≡ false
 unfolding behindAt
-behindAt-not r items wrote stamp item e = and-short (has items item) (has wrote item) (ltb (shownStamp r item) stamp) e
+behindAt-not r items wrote stamp item e =
+    and-short (has items item) (has wrote item) (ltb (shownStamp r item) stamp) e
 
-pub behind-search : (r w : List ℕ) (items wrote stamp : ℕ) → items ≡ shown r → wrote ≡ written w → stamp ≡ writtenStamp w
+pub behind-search : (r w : List ℕ) (items wrote stamp : ℕ) → items ≡ shown r → wrote ≡ written w
+    → stamp ≡ writtenStamp w
     → someFrom 64 0 (behindAt r items wrote stamp) ≡ behind r w
 unfolding behindAt behind
 behind-search r w items wrote stamp p q s = rw (p, q, s)
@@ -47,26 +54,37 @@ or-false : (a b d : Bool) → (a || (b || d)) ≡ (a || (b || (d || false)))
 or-false a b true = refl
 or-false a b false = refl
 
-anywhere : (p : List ℕ → Bool) (frames : List (List ℕ)) → someFrom (length frames) 0 (λ j. p (getD frames j [])) ≡ some p frames
+anywhere : (p : List ℕ → Bool) (frames : List (List ℕ))
+    → someFrom (length frames) 0 (λ j. p (getD frames j [])) ≡ some p frames
 anywhere p frames =
     test-ext (someFrom (length frames) 0 (λ j. p (getD frames j []))) (some p frames)
-    (λ e. (let f = someFrom-at (length frames) 0 (λ j. p (getD frames j [])) e in at-some p frames [] (f .0) (omega (arith, f .2)) (f .3)))
-    (λ e. (let f = some-at p frames [] e in at-someFrom (length frames) 0 (λ j. p (getD frames j [])) (f .0) (omega arith) (omega (arith, f .1)) (f .2)))
+    (λ e. (let f = someFrom-at (length frames) 0 (λ j. p (getD frames j [])) e in
+    at-some p frames [] (f .0) (omega (arith, f .2)) (f .3)))
+    (λ e. (let f = some-at p frames [] e in
+    at-someFrom (length frames) 0 (λ j. p (getD frames j [])) (f .0) (omega arith)
+    (omega (arith, f .1)) (f .2)))
 
 above : (q : List ℕ → Bool) (frames : List (List ℕ)) (line : ℕ) → line ≤ length frames
-    → someFrom (length frames) 0 (λ j. ltb j line && q (getD frames j [])) ≡ some q (take line frames)
+    → someFrom (length frames) 0 (λ j. ltb j line && q (getD frames j [])) ≡ some q
+    (take line frames)
 above q frames line l =
     let size = length-take-le line frames l in
-    test-ext (someFrom (length frames) 0 (λ j. ltb j line && q (getD frames j []))) (some q (take line frames))
+    test-ext (someFrom (length frames) 0 (λ j. ltb j line && q (getD frames j [])))
+    (some q (take line frames))
     (λ e.
     let f = someFrom-at (length frames) 0 (λ j. ltb j line && q (getD frames j [])) e in
-    let low = ltb-true (f .0) line (and-left (ltb (f .0) line) (q (getD frames (f .0) [])) (f .3)) in
-    at-some q (take line frames) [] (f .0) (omega arith) (ap q (getD-take line frames (f .0) [] low) ∙ and-right (ltb (f .0) line) (q (getD frames (f .0) [])) (f .3)))
+    let low = ltb-true (f .0) line
+    (and-left (ltb (f .0) line) (q (getD frames (f .0) [])) (f .3)) in
+    at-some q (take line frames) [] (f .0) (omega arith)
+    (ap q (getD-take line frames (f .0) [] low)
+    ∙ and-right (ltb (f .0) line) (q (getD frames (f .0) [])) (f .3)))
     (λ e.
     let f = some-at q (take line frames) [] e in
     let low : f .0 < line = omega (arith, f .1) in
-    at-someFrom (length frames) 0 (λ j. ltb j line && q (getD frames j [])) (f .0) (omega arith) (omega arith)
-    (and-both (ltb (f .0) line) (q (getD frames (f .0) [])) (lt-ltb (f .0) line low) (ap q (sym (getD-take line frames (f .0) [] low)) ∙ f .2)))
+    at-someFrom (length frames) 0 (λ j. ltb j line && q (getD frames j [])) (f .0) (omega arith)
+    (omega arith)
+    (and-both (ltb (f .0) line) (q (getD frames (f .0) [])) (lt-ltb (f .0) line low)
+    (ap q (sym (getD-take line frames (f .0) [] low)) ∙ f .2)))
 
 -- over the writes: any of them, and those above
 pub writes-search : (p q : List ℕ → Bool) (frames : List (List ℕ)) (line : ℕ) → line ≤ length frames
@@ -80,12 +98,17 @@ writes-search p q frames line l =
 -- over the items: each of the three findings
 pub items-search : (p a b d : ℕ → Bool)
     → someFrom 64 0 (λ k. p k && (a k || (b k || d k)))
-    ≡ (someFrom 64 0 (λ k. p k && a k) || (someFrom 64 0 (λ k. p k && b k) || (someFrom 64 0 (λ k. p k && d k) || false)))
+    ≡ (someFrom 64 0 (λ k. p k && a k)
+    || (someFrom 64 0 (λ k. p k && b k) || (someFrom 64 0 (λ k. p k && d k) || false)))
 items-search p a b d =
-    someFrom-ext 64 0 (λ k. p k && (a k || (b k || d k))) (λ k. (p k && a k) || ((p k && b k) || (p k && d k))) (λ k _ _. and-ors (p k) (a k) (b k) (d k))
+    someFrom-ext 64 0 (λ k. p k && (a k || (b k || d k)))
+    (λ k. (p k && a k) || ((p k && b k) || (p k && d k)))
+    (λ k _ _. and-ors (p k) (a k) (b k) (d k))
     ∙ someFrom-or 64 0 (λ k. p k && a k) (λ k. (p k && b k) || (p k && d k))
-    ∙ ap (λ (x : Bool). someFrom 64 0 (λ k. p k && a k) || x) (someFrom-or 64 0 (λ k. p k && b k) (λ k. p k && d k))
-    ∙ or-false (someFrom 64 0 (λ k. p k && a k)) (someFrom 64 0 (λ k. p k && b k)) (someFrom 64 0 (λ k. p k && d k))
+    ∙ ap (λ (x : Bool). someFrom 64 0 (λ k. p k && a k) || x)
+    (someFrom-or 64 0 (λ k. p k && b k) (λ k. p k && d k))
+    ∙ or-false (someFrom 64 0 (λ k. p k && a k)) (someFrom 64 0 (λ k. p k && b k))
+    (someFrom 64 0 (λ k. p k && d k))
 
 -- line i as it stands in the bytes is line i of the frames
 pub fault-search : (bytes starts : List ℕ) (n line : ℕ) → line < n
@@ -96,63 +119,101 @@ fault-search bytes starts n line h =
     let size = length-framesIn bytes starts n in
     let r = frameIn bytes starts line in
     let here : getD frames line [] ≡ r = framesIn-at bytes starts n line h in
-    let writes : (item : ℕ) → someFrom n 0 (writeFault bytes starts line item) ≡ (some (fractures r item (shownStamp r item)) frames || some (outdates (clientOf r) item (shownStamp r item)) (take line frames)) =
+    let writes : (item : ℕ) → someFrom n 0
+    (writeFault bytes starts line item)
+    ≡ (some (fractures r item (shownStamp r item)) frames
+    || some (outdates (clientOf r) item (shownStamp r item)) (take line frames)) =
     λ item.
-    (someFrom-ext n 0 (writeFault bytes starts line item) (λ j. fractures r item (shownStamp r item) (getD frames j []) || (ltb j line && outdates (clientOf r) item (shownStamp r item) (getD frames j []))) (λ j _ g. rw (framesIn-at bytes starts n j (omega arith)))
-    ∙ ap (λ (m : ℕ). someFrom m 0 (λ j. fractures r item (shownStamp r item) (getD frames j []) || (ltb j line && outdates (clientOf r) item (shownStamp r item) (getD frames j [])))) (sym size)
-    ∙ writes-search (fractures r item (shownStamp r item)) (outdates (clientOf r) item (shownStamp r item)) frames line (omega arith)) in
+    (someFrom-ext n 0 (writeFault bytes starts line item)
+    (λ j. fractures r item (shownStamp r item) (getD frames j [])
+    || (ltb j line && outdates (clientOf r) item (shownStamp r item) (getD frames j [])))
+    (λ j _ g. rw (framesIn-at bytes starts n j (omega arith)))
+    ∙ ap (λ (m : ℕ). someFrom m 0 (λ j. fractures r item (shownStamp r item) (getD frames j [])
+    || (ltb j line && outdates (clientOf r) item (shownStamp r item) (getD frames j []))))
+    (sym size)
+    ∙ writes-search (fractures r item (shownStamp r item))
+    (outdates (clientOf r) item (shownStamp r item)) frames line (omega arith)) in
     someFrom-ext 64 0 (itemFault bytes starts n line)
-    (λ item. has (shown r) item && (isUnwritten frames item (shownStamp r item) (shownValue r item) || (some (fractures r item (shownStamp r item)) frames || some (outdates (clientOf r) item (shownStamp r item)) (take line frames))))
-    (λ item _ _. ap (λ (x : Bool). has (shown r) item && (isUnwritten frames item (shownStamp r item) (shownValue r item) || x)) (writes item))
-    ∙ items-search (has (shown r)) (λ item. isUnwritten frames item (shownStamp r item) (shownValue r item)) (λ item. some (fractures r item (shownStamp r item)) frames) (λ item. some (outdates (clientOf r) item (shownStamp r item)) (take line frames))
+    (λ item. has (shown r) item && (isUnwritten frames item (shownStamp r item) (shownValue r item)
+    || (some (fractures r item (shownStamp r item)) frames
+    || some (outdates (clientOf r) item (shownStamp r item)) (take line frames))))
+    (λ item _ _. ap (λ (x : Bool). has (shown r) item
+    && (isUnwritten frames item (shownStamp r item) (shownValue r item) || x)) (writes item))
+    ∙ items-search (has (shown r))
+    (λ item. isUnwritten frames item (shownStamp r item) (shownValue r item))
+    (λ item. some (fractures r item (shownStamp r item)) frames)
+    (λ item. some (outdates (clientOf r) item (shownStamp r item)) (take line frames))
     ∙ rw here
 
 -- ---- one turn of the search
 
-module _ (bytes starts : List ℕ) (n line item : ℕ) (r : List ℕ) (here : r ≡ frameIn bytes starts line) where
+module _ (bytes starts : List ℕ) (n line item : ℕ) (r : List ℕ)
+    (here : r ≡ frameIn bytes starts line) where
   -- the item isn't shown
-  pub item-not : (items : ℕ) → items ≡ shown r → has items item ≡ false → itemFault bytes starts n line item ≡ false
+  pub item-not : (items : ℕ) → items ≡ shown r → has items item ≡ false
+      → itemFault bytes starts n line item ≡ false
   unfolding itemFault
   item-not items e f = rw (← here, ← e, f)
 
   -- it is, and is unwritten
-  pub item-unwritten : (items stamp value : ℕ) → items ≡ shown r → has items item ≡ true → stamp ≡ shownStamp r item → value ≡ shownValue r item
-      → isUnwritten (framesIn bytes starts n) item stamp value ≡ true → itemFault bytes starts n line item ≡ true
+  pub item-unwritten : (items stamp value : ℕ) → items ≡ shown r → has items item ≡ true
+      → stamp ≡ shownStamp r item → value ≡ shownValue r item
+      → isUnwritten (framesIn bytes starts n) item stamp value ≡ true
+      → itemFault bytes starts n line item ≡ true
   unfolding itemFault
   item-unwritten items stamp value e f s v u = rw (← here, ← e, f, ← s, ← v, u)
 
   -- it is, and was written: what is left are the writes
-  pub item-writes : (items stamp value : ℕ) → items ≡ shown r → has items item ≡ true → stamp ≡ shownStamp r item → value ≡ shownValue r item
-      → isUnwritten (framesIn bytes starts n) item stamp value ≡ false → itemFault bytes starts n line item ≡ someFrom n 0 (writeFault bytes starts line item)
+  pub item-writes : (items stamp value : ℕ) → items ≡ shown r → has items item ≡ true
+      → stamp ≡ shownStamp r item → value ≡ shownValue r item
+      → isUnwritten (framesIn bytes starts n) item stamp value ≡ false
+      → itemFault bytes starts n line item ≡ someFrom n 0 (writeFault bytes starts line item)
   unfolding itemFault
   item-writes items stamp value e f s v u = rw (← here, ← e, f, ← s, ← v, u)
 
-  pub write-fault : (of stamp write : ℕ) (w : List ℕ) → of ≡ clientOf r → stamp ≡ shownStamp r item → w ≡ frameIn bytes starts write
+  pub write-fault : (of stamp write : ℕ) (w : List ℕ) → of ≡ clientOf r → stamp ≡ shownStamp r item
+      → w ≡ frameIn bytes starts write
       → writeFault bytes starts line item write ≡ faultsOf r of item stamp w (ltb write line)
   unfolding writeFault
   write-fault of stamp write w o s e = rw (← here, ← o, ← s, ← e)
 
 -- ---- the lowest finding at a line
 
-module _ (bytes starts : List ℕ) (n line item : ℕ) (r : List ℕ) (h : line < n) (here : r ≡ frameIn bytes starts line) (f : ℕ) where
+module _ (bytes starts : List ℕ) (n line item : ℕ) (r : List ℕ) (h : line < n)
+    (here : r ≡ frameIn bytes starts line) (f : ℕ) where
   frame-at : getD (framesIn bytes starts n) line [] ≡ r
   frame-at = framesIn-at bytes starts n line h ∙ sym here
 
-  pub finding-one : (stamp value : ℕ) → f ≡ 1 → stamp ≡ shownStamp r item → value ≡ shownValue r item
-      → isUnwritten (framesIn bytes starts n) item stamp value ≡ findingOf f (framesIn bytes starts n) line item
+  pub finding-one : (stamp value : ℕ) → f ≡ 1 → stamp ≡ shownStamp r item
+      → value ≡ shownValue r item
+      → isUnwritten (framesIn bytes starts n) item stamp value ≡ findingOf f
+      (framesIn bytes starts n) line item
   finding-one stamp value e s v = rw (e, frame-at, s, v)
 
   pub finding-two : (stamp : ℕ) → f ≡ 2 → stamp ≡ shownStamp r item
-      → some (fractures r item stamp) (framesIn bytes starts n) ≡ findingOf f (framesIn bytes starts n) line item
+      → some (fractures r item stamp) (framesIn bytes starts n) ≡ findingOf f
+      (framesIn bytes starts n) line item
   finding-two stamp e s = rw (e, frame-at, s)
 
-  pub finding-three : (of stamp : ℕ) → (f ≡ 1 → ⊥) → (f ≡ 2 → ⊥) → of ≡ clientOf r → stamp ≡ shownStamp r item
-      → some (outdates of item stamp) (framesIn bytes starts line) ≡ findingOf f (framesIn bytes starts n) line item
+  pub finding-three : (of stamp : ℕ) → (f ≡ 1 → ⊥) → (f ≡ 2 → ⊥) → of ≡ clientOf r
+      → stamp ≡ shownStamp r item
+      → some (outdates of item stamp) (framesIn bytes starts line) ≡ findingOf f
+      (framesIn bytes starts n) line item
   finding-three of stamp a b o s =
-      rw (ne-eqb f 1 a, ne-eqb f 2 b, frame-at, framesIn-take bytes starts n line (omega arith), o, s)
+      rw (
+        ne-eqb f 1 a,
+        ne-eqb f 2 b,
+        frame-at,
+        framesIn-take bytes starts n line
+            (omega arith),
+        o,
+        s,
+      )
 
 -- line i shows an item at which the finding holds
-pub holds-search : (bytes starts : List ℕ) (n line f items : ℕ) → line < n → items ≡ shown (frameIn bytes starts line)
-    → someFrom 64 0 (λ k. has items k && findingOf f (framesIn bytes starts n) line k) ≡ holdsAt (findingOf f) (framesIn bytes starts n) line
+pub holds-search : (bytes starts : List ℕ) (n line f items : ℕ) → line < n
+    → items ≡ shown (frameIn bytes starts line)
+    → someFrom 64 0 (λ k. has items k && findingOf f (framesIn bytes starts n) line k) ≡ holdsAt
+    (findingOf f) (framesIn bytes starts n) line
 unfolding holdsAt
 holds-search bytes starts n line f items h e = rw (framesIn-at bytes starts n line h, e)

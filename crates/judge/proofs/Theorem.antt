@@ -1,4 +1,5 @@
--- What the verdict says of a log, in the words of the published definitions: each case of the verdict, field by field.
+-- What the verdict says of a log, in the words of the published definitions: each case of the
+-- verdict, field by field.
 use mathlib.Core.Bool.{true, false}
 use mathlib.Core.List.{List}
 use mathlib.Core.Logic.{inl, inr}
@@ -13,9 +14,12 @@ use Rattle.basics.specs.Lists.{counted}
 use Rattle.judge_log.specs.Log.{tooLong, firstLine, framesOf, malformedAt}
 use Rattle.judge_log.specs.Some.{some}
 use Rattle.judge_log.proofs.Some.{firstFrom-holds, firstFrom-none}
-use Rattle.judge.proofs.Faults.{unwritten-says, says-unwritten, fractured-says, says-fractured, missed-says, says-missed}
-use Rattle.judge.specs.Findings.{unwritten, fractured, ownWriteMissed, findings, holdsAt, lowest, faultAt, judged, checked, verdict}
-use Rattle.judge.specs.Published.{Within, AllWellFormed, FirstMalformed, Unwritten, Fractured, Fault, Lowest, FirstFault, Says}
+use Rattle.judge.proofs.Faults.{unwritten-says, says-unwritten, fractured-says}
+use Rattle.judge.proofs.Faults.{says-fractured, missed-says, says-missed}
+use Rattle.judge.specs.Findings.{unwritten, fractured, ownWriteMissed, findings, holdsAt}
+use Rattle.judge.specs.Findings.{lowest, faultAt, judged, checked, verdict}
+use Rattle.judge.specs.Published.{Within, AllWellFormed, FirstMalformed, Unwritten, Fractured}
+use Rattle.judge.specs.Published.{Fault, Lowest, FirstFault, Says}
 use Rattle.judge.proofs.WellFormed.{length-frames, well-formed, not-malformed}
 use Rattle.judge.specs.declared.Verdict.{Verdict}
 use Rattle.judge.specs.declared.Verdict.the-variants.{TooLong, Malformed, Judged}
@@ -28,7 +32,11 @@ within log e =
 
 not-long : (log : List ℕ) → Within log → tooLong log ≡ false
 unfolding tooLong
-not-long log w = rw (le-ltb 32768 (length log) (w .0), le-ltb 256 (counted (λ c. eqb c 0x0a) log) (w .1))
+not-long log w = rw (
+  le-ltb 32768 (length log) (w .0),
+  le-ltb 256 (counted (λ c. eqb c 0x0a) log)
+      (w .1),
+)
 
 module _ (log : List ℕ) where
   abbrev frames : List (List ℕ)
@@ -44,7 +52,8 @@ module _ (log : List ℕ) where
   by-verdict : (P : Verdict → Type 0)
       → (tooLong log ≡ true → P TooLong)
       → (tooLong log ≡ false → bad < length frames → P (Malformed (bad + 1)))
-      → (tooLong log ≡ false → length frames ≤ bad → first < length frames → P (Judged (lowest findings frames first) (first + 1)))
+      → (tooLong log ≡ false → length frames ≤ bad → first < length frames
+      → P (Judged (lowest findings frames first) (first + 1)))
       → (tooLong log ≡ false → length frames ≤ bad → length frames ≤ first → P (Judged 0 0))
       → P (verdict log)
   unfolding verdict checked judged
@@ -56,8 +65,10 @@ module _ (log : List ℕ) where
       (λ f. rw (e, f) (malformed e (ltb-true bad (length frames) f)))
       (λ f.
       by-test (ltb first (length frames))
-      (λ g. rw (e, f, g) (fault e (ltb-false bad (length frames) f) (ltb-true first (length frames) g)))
-      (λ g. rw (e, f, g) (clean e (ltb-false bad (length frames) f) (ltb-false first (length frames) g)))))
+      (λ g. rw (e, f, g) (fault e (ltb-false bad (length frames) f)
+      (ltb-true first (length frames) g)))
+      (λ g. rw (e, f, g) (clean e (ltb-false bad (length frames) f)
+      (ltb-false first (length frames) g)))))
 
   -- ---- malformed lines
 
@@ -67,7 +78,8 @@ module _ (log : List ℕ) where
   first-malformed : bad < length frames → FirstMalformed log bad
   first-malformed h = (
     omega (arith, length-frames log),
-    (λ w. not-both (firstFrom-holds (length frames) 0 (malformedAt frames) (omega arith)) (not-malformed log bad w)),
+    (λ w. not-both (firstFrom-holds (length frames) 0 (malformedAt frames) (omega arith))
+        (not-malformed log bad w)),
     (λ j l. well-formed log j (omega (arith, length-frames log)) (well-before j l)),
   )
 
@@ -83,11 +95,15 @@ module _ (log : List ℕ) where
     fault-at : (i : ℕ) → Fault frames i → faultAt frames i ≡ true
     unfolding some
     fault-at i (inl u) = or-left (holdsAt unwritten frames i) _ (says-unwritten log well i u)
-    fault-at i (inr (inl u)) = or-right (holdsAt unwritten frames i) _ (or-left (holdsAt fractured frames i) _ (says-fractured log i u))
+    fault-at i (inr (inl u)) = or-right (holdsAt unwritten frames i) _
+        (or-left (holdsAt fractured frames i) _ (says-fractured log i u))
     fault-at i (inr (inr u)) =
-        or-right (holdsAt unwritten frames i) _ (or-right (holdsAt fractured frames i) _ (or-left (holdsAt ownWriteMissed frames i) _ (says-missed log i u)))
+        or-right (holdsAt unwritten frames i) _
+        (or-right (holdsAt fractured frames i) _
+        (or-left (holdsAt ownWriteMissed frames i) _ (says-missed log i u)))
 
-    lowest-says : (i : ℕ) → i < length frames → faultAt frames i ≡ true → Lowest frames i (lowest findings frames i)
+    lowest-says : (i : ℕ) → i < length frames → faultAt frames i ≡ true
+        → Lowest frames i (lowest findings frames i)
     unfolding some lowest
     lowest-says i l e =
         by-test (holdsAt unwritten frames i)
@@ -108,10 +124,16 @@ module _ (log : List ℕ) where
     in-log i (inr (inr u)) = u .7 .0
 
     not-before : (j : ℕ) → j < first → Fault frames j → ⊥
-    not-before j l f = not-both (fault-at j f) (firstFrom-none (length frames) 0 (faultAt frames) j (omega arith) l)
+    not-before j l f = not-both (fault-at j f)
+        (firstFrom-none (length frames) 0 (faultAt frames) j (omega arith) l)
 
     first-fault : first < length frames → FirstFault frames first (lowest findings frames first)
-    first-fault l = (l, lowest-says first l (firstFrom-holds (length frames) 0 (faultAt frames) (omega arith)), not-before)
+    first-fault l = (
+      l,
+      lowest-says first l (firstFrom-holds (length frames) 0 (faultAt frames)
+          (omega arith)),
+      not-before,
+    )
 
     lowest-some : (i f : ℕ) → Lowest frames i f → f ≡ 0 → ⊥
     lowest-some i f (inl a) z = omega (arith, a .0)
@@ -144,7 +166,8 @@ module _ (log : List ℕ) where
         found = λ _ all i _. absurd (here .1 (all bad (here .0)));
       }
 
-  fault-says : tooLong log ≡ false → length frames ≤ bad → first < length frames → Says log (Judged (lowest findings frames first) (first + 1))
+  fault-says : tooLong log ≡ false → length frames ≤ bad → first < length frames
+      → Says log (Judged (lowest findings frames first) (first + 1))
   fault-says e h l =
       let here = first-fault h l in
       record {
@@ -155,12 +178,16 @@ module _ (log : List ℕ) where
         fault =
             λ finding line t _.
             (let number : lowest findings frames first ≡ finding = cc in
-            let same : line ≡ first + 1 = cc in
-            (within log e, all-well h, (first, same, subst (λ (f : ℕ). FirstFault frames first f) number here)));
+            let same : line ≡ first + 1 = cc in (
+              within log e,
+              all-well h,
+              (first, same, subst (λ (f : ℕ). FirstFault frames first f) number here),
+            ));
         found = λ _ _ i _. (lowest findings frames first, first + 1, refl, lowest-some h first (lowest findings frames first) (here .1));
       }
 
-  clean-says : tooLong log ≡ false → length frames ≤ bad → length frames ≤ first → Says log (Judged 0 0)
+  clean-says : tooLong log ≡ false → length frames ≤ bad → length frames ≤ first
+      → Says log (Judged 0 0)
   clean-says e h l =
       record {
         refused = λ t _. (let z : _≡_ {A = ℕ} 0 1 = cc in absurd (omega arith));

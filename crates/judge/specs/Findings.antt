@@ -1,4 +1,5 @@
--- The three findings, their order, and the verdict on a log (document 01: findings; refusals 15 and 16). A line's number here counts from 0.
+-- The three findings, their order, and the verdict on a log (document 01: findings; refusals 15 and
+-- 16). A line's number here counts from 0.
 use mathlib.Core.Bool.{Bool, cond, not, _&&_}
 use mathlib.Core.List.{List, [], _∷_, _++_}
 use Prim.Native.Nat.{ℕ, _+_, _*_}
@@ -7,7 +8,8 @@ use lib.ListN.{length, getD, take}
 use Rattle.hex.specs.Number.{bigEndian}
 use Rattle.itemset.specs.Set.{has}
 use Rattle.judge_log.specs.Some.{some, someFrom}
-use Rattle.judge_log.specs.Log.{tooLong, firstLine, framesOf, clientOf, written, writtenStamp, writtenValue, shown, shownStamp, shownValue, malformedAt}
+use Rattle.judge_log.specs.Log.{tooLong, firstLine, framesOf, clientOf, written, writtenStamp}
+use Rattle.judge_log.specs.Log.{writtenValue, shown, shownStamp, shownValue, malformedAt}
 use Rattle.judge.specs.declared.Verdict.{Verdict}
 use Rattle.judge.specs.declared.Verdict.the-variants.{TooLong, Malformed, Judged}
 
@@ -18,7 +20,8 @@ unfoldable pub wrote : ℕ → ℕ → ℕ → List ℕ → Bool
 wrote item stamp value w =
     eqb (writtenStamp w) stamp && (has (written w) item && eqb (writtenValue w item) value)
 
--- a stamp that isn't initial, and no write anywhere has that stamp, item and value; or the initial stamp with a value not 0
+-- a stamp that isn't initial, and no write anywhere has that stamp, item and value; or the initial
+-- stamp with a value not 0
 unfoldable pub isUnwritten : List (List ℕ) → ℕ → ℕ → ℕ → Bool
 isUnwritten frames item stamp value =
     cond (eqb stamp 0) (not (eqb value 0)) (not (some (wrote item stamp value) frames))
@@ -32,7 +35,8 @@ unwritten frames i item =
 -- r shows an item that w wrote, with an earlier stamp than w's
 unfoldable pub behind : List ℕ → List ℕ → Bool
 behind r w =
-    someFrom 64 0 (λ other. has (shown r) other && (has (written w) other && ltb (shownStamp r other) (writtenStamp w)))
+    someFrom 64 0 (λ other. has (shown r) other && (has (written w) other
+    && ltb (shownStamp r other) (writtenStamp w)))
 
 -- w wrote the item with that stamp, and another item that r shows with an earlier one
 unfoldable pub fractures : List ℕ → ℕ → ℕ → List ℕ → Bool
@@ -72,7 +76,8 @@ findings =
 
 -- line i shows an item at which the finding holds
 unfoldable pub holdsAt : (List (List ℕ) → ℕ → ℕ → Bool) → List (List ℕ) → ℕ → Bool
-holdsAt holds frames i = someFrom 64 0 (λ item. has (shown (getD frames i [])) item && holds frames i item)
+holdsAt holds frames i = someFrom 64 0
+    (λ item. has (shown (getD frames i [])) item && holds frames i item)
 
 -- the first of the findings that holds at line i; 0 where none does
 unfoldable pub lowest : List Finding → List (List ℕ) → ℕ → ℕ
@@ -87,7 +92,8 @@ faultAt frames i = some (λ (f : Finding). holdsAt (f .holds) frames i) findings
 
 -- ---- the verdict
 
--- of well-formed frames: the first line at fault, counted from 1, and there the lowest finding; clean is 0 and 0
+-- of well-formed frames: the first line at fault, counted from 1, and there the lowest finding;
+-- clean is 0 and 0
 unfoldable pub judged : List (List ℕ) → Verdict
 judged frames =
     let line = firstLine faultAt frames in
@@ -107,7 +113,8 @@ verdict log =
 
 -- ---- the verdict as the papers have it
 
--- as a number: the lowest byte is 0 or the refusal, bits 8 to 15 the finding, bits 16 to 31 the line
+-- as a number: the lowest byte is 0 or the refusal, bits 8 to 15 the finding, bits 16 to 31 the
+-- line
 abbrev pub numberOf : Verdict → ℕ
 numberOf TooLong = 16
 numberOf (Malformed line) = 15 + line * 65536

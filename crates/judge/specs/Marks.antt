@@ -1,4 +1,5 @@
--- A table with the stamp of each line's write, 0 for a read: most writes are ruled out by it without a look at their frame.
+-- A table with the stamp of each line's write, 0 for a read: most writes are ruled out by it
+-- without a look at their frame.
 use mathlib.Core.Bool.{cond}
 use mathlib.Core.List.{List}
 use mathlib.Core.Path.{_≡_}

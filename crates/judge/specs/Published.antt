@@ -1,5 +1,6 @@
--- The published definitions as statements about a log, with the lines and items that they speak of: read atomicity and fractured reads (sources
--- 001 and 002), reading one's own writes (source 000), and what a well-formed line is. A line is a transaction; lines and items count from 0.
+-- The published definitions as statements about a log, with the lines and items that they speak of:
+-- read atomicity and fractured reads (sources 001 and 002), reading one's own writes (source 000),
+-- and what a well-formed line is. A line is a transaction; lines and items count from 0.
 use mathlib.Core.Bool.{true}
 use mathlib.Core.List.{List, [], _∷_, _++_}
 use mathlib.Core.Logic.{_⊎_}
@@ -11,7 +12,9 @@ use Rattle.basics.specs.Lists.{counted}
 use Rattle.hex.specs.Bytes.{EachByte}
 use Rattle.hex.specs.Text.{hexText}
 use Rattle.itemset.specs.Set.{has, count}
-use Rattle.judge_log.specs.Log.{linesOf, framesOf, kindOf, clientOf, setOf, numberOf, written, writtenStamp, writtenValue, shown, shownStamp, shownValue, entryAt, entryNumber, entryWriter}
+use Rattle.judge_log.specs.Log.{linesOf, framesOf, kindOf, clientOf, setOf, numberOf, written}
+use Rattle.judge_log.specs.Log.{writtenStamp, writtenValue, shown, shownStamp, shownValue, entryAt}
+use Rattle.judge_log.specs.Log.{entryNumber, entryWriter}
 use Rattle.judge.specs.declared.Verdict.{Verdict}
 use Rattle.judge.specs.declared.Verdict.the-variants.{TooLong, Malformed, Judged}
 
@@ -51,7 +54,8 @@ Holds log i f = EachByte f × (getD (linesOf log) i [] ≡ hexText f ++ 0x0a ∷
 
 -- every write above line i by the client of f has a smaller number
 abbrev pub Rises : List ℕ → ℕ → List ℕ → Type 0
-Rises log i f = (j : ℕ) (g : List ℕ) → j < i → Holds log j g → kindOf g ≡ 0x20 → clientOf g ≡ clientOf f → numberOf g < numberOf f
+Rises log i f = (j : ℕ) (g : List ℕ) → j < i → Holds log j g → kindOf g ≡ 0x20
+    → clientOf g ≡ clientOf f → numberOf g < numberOf f
 
 -- line i holds a write, whose number rises, or a read
 abbrev pub WellFormed : List ℕ → ℕ → Type 0
@@ -59,7 +63,8 @@ WellFormed log i = (f : List ℕ) × Holds log i f × ((WriteFrame f × Rises lo
 
 -- i is the first malformed line
 abbrev pub FirstMalformed : List ℕ → ℕ → Type 0
-FirstMalformed log i = (i < length (linesOf log)) × (WellFormed log i → ⊥) × ((j : ℕ) → j < i → WellFormed log j)
+FirstMalformed log i = (i < length (linesOf log)) × (WellFormed log i → ⊥)
+    × ((j : ℕ) → j < i → WellFormed log j)
 
 abbrev pub AllWellFormed : List ℕ → Type 0
 AllWellFormed log = (i : ℕ) → i < length (linesOf log) → WellFormed log i
@@ -69,28 +74,35 @@ AllWellFormed log = (i : ℕ) → i < length (linesOf log) → WellFormed log i
 module _ (frames : List (List ℕ)) where
   -- line j wrote the version of the item with that stamp
   abbrev pub Wrote : ℕ → ℕ → ℕ → Type 0
-  Wrote j item stamp = (j < length frames) × (has (written (getD frames j [])) item ≡ true) × (writtenStamp (getD frames j []) ≡ stamp)
+  Wrote j item stamp = (j < length frames) × (has (written (getD frames j [])) item ≡ true)
+      × (writtenStamp (getD frames j []) ≡ stamp)
 
   -- line i reads the version of the item with that stamp
   abbrev pub Reads : ℕ → ℕ → ℕ → Type 0
-  Reads i item stamp = (i < length frames) × (has (shown (getD frames i [])) item ≡ true) × (shownStamp (getD frames i []) item ≡ stamp)
+  Reads i item stamp = (i < length frames) × (has (shown (getD frames i [])) item ≡ true)
+      × (shownStamp (getD frames i []) item ≡ stamp)
 
-  -- a read of data that nobody committed: a version, with its value, that is not the initial one and that no line wrote
+  -- a read of data that nobody committed: a version, with its value, that is not the initial one
+  -- and that no line wrote
   abbrev pub Unwritten : ℕ → Type 0
   Unwritten i =
       (item stamp : ℕ)
       × Reads i item stamp
       × ((stamp ≡ 0) × (shownValue (getD frames i []) item ≡ 0) → ⊥)
-      × ((j : ℕ) → Wrote j item stamp → writtenValue (getD frames j []) item ≡ shownValue (getD frames i []) item → ⊥)
+      × ((j : ℕ) → Wrote j item stamp
+      → writtenValue (getD frames j []) item ≡ shownValue (getD frames i []) item → ⊥)
 
-  -- fractured reads: transaction j writes versions x and y at n, transaction i reads x at n and y at k, and k < n
+  -- fractured reads: transaction j writes versions x and y at n, transaction i reads x at n and y
+  -- at k, and k < n
   abbrev pub Fractured : ℕ → Type 0
   Fractured i = (j x y n k : ℕ) × Wrote j x n × Wrote j y n × Reads i x n × Reads i y k × (k < n)
 
-  -- a read that misses an earlier write of its own session: line j above, of the same client, wrote the item at n, line i reads it at k, and k < n
+  -- a read that misses an earlier write of its own session: line j above, of the same client, wrote
+  -- the item at n, line i reads it at k, and k < n
   abbrev pub OwnWriteMissed : ℕ → Type 0
   OwnWriteMissed i =
-      (j item n k : ℕ) × (j < i) × (clientOf (getD frames j []) ≡ clientOf (getD frames i [])) × Wrote j item n × Reads i item k × (k < n)
+      (j item n k : ℕ) × (j < i) × (clientOf (getD frames j []) ≡ clientOf (getD frames i []))
+      × Wrote j item n × Reads i item k × (k < n)
 
   abbrev pub Fault : ℕ → Type 0
   Fault i = Unwritten i ⊎ (Fractured i ⊎ OwnWriteMissed i)
@@ -112,10 +124,15 @@ pub record Says (log : List ℕ) (answer : Verdict) : Type 0 where
   -- 16: if and only if the log is over a limit
   pub refused : answer ≡ TooLong → Within log → ⊥
   pub over : (Within log → ⊥) → answer ≡ TooLong
-  -- 15: if and only if some line of a log within the limits is malformed; the line named is the first such, counted from 1
-  pub malformed : (line : ℕ) → answer ≡ Malformed line → Within log × ((i : ℕ) × (line ≡ i + 1) × FirstMalformed log i)
+  -- 15: if and only if some line of a log within the limits is malformed; the line named is the
+  -- first such, counted from 1
+  pub malformed : (line : ℕ) → answer ≡ Malformed line → Within log
+      × ((i : ℕ) × (line ≡ i + 1) × FirstMalformed log i)
   pub spoiled : Within log → (AllWellFormed log → ⊥) → (line : ℕ) × (answer ≡ Malformed line)
-  -- a fault: if and only if the log is within the limits, well-formed and holds one; the line named is the first, the finding the lowest there
+  -- a fault: if and only if the log is within the limits, well-formed and holds one; the line named
+  -- is the first, the finding the lowest there
   pub fault : (finding line : ℕ) → answer ≡ Judged finding line → (finding ≡ 0 → ⊥)
-      → Within log × AllWellFormed log × ((i : ℕ) × (line ≡ i + 1) × FirstFault (framesOf log) i finding)
-  pub found : Within log → AllWellFormed log → (i : ℕ) → Fault (framesOf log) i → (finding line : ℕ) × (answer ≡ Judged finding line) × (finding ≡ 0 → ⊥)
+      → Within log × AllWellFormed log
+      × ((i : ℕ) × (line ≡ i + 1) × FirstFault (framesOf log) i finding)
+  pub found : Within log → AllWellFormed log → (i : ℕ) → Fault (framesOf log) i → (finding line : ℕ)
+      × (answer ≡ Judged finding line) × (finding ≡ 0 → ⊥)

@@ -1,17 +1,20 @@
--- The findings as the judge searches for them: item by item of a read, write by write. Each law takes a definition to such a search.
+-- The findings as the judge searches for them: item by item of a read, write by write. Each law
+-- takes a definition to such a search.
 use mathlib.Core.Bool.{Bool, cond, _&&_, _||_}
 use mathlib.Core.List.{List, []}
 use Prim.Native.Nat.{ℕ}
 use lib.Dec.{eqb, ltb}
 use Rattle.itemset.specs.Set.{has}
 use Rattle.judge_log.specs.Some.{someFrom}
-use Rattle.judge.specs.Findings.{isUnwritten, unwritten, fractures, fractured, outdates, ownWriteMissed}
+use Rattle.judge.specs.Findings.{isUnwritten, unwritten, fractures, fractured, outdates}
+use Rattle.judge.specs.Findings.{ownWriteMissed}
 use Rattle.judge_log.specs.Log.{clientOf, shown, shownStamp, shownValue}
 use Rattle.judge_log.specs.Cut.{frameIn, framesIn}
 
 -- r shows the item, one of those written, with an earlier stamp
 unfoldable pub behindAt : List ℕ → ℕ → ℕ → ℕ → ℕ → Bool
-behindAt r items wrote stamp item = has items item && (has wrote item && ltb (shownStamp r item) stamp)
+behindAt r items wrote stamp item =
+    has items item && (has wrote item && ltb (shownStamp r item) stamp)
 
 -- ---- the search for the first read at fault
 
@@ -34,4 +37,5 @@ module _ (bytes starts : List ℕ) where
   unfoldable pub itemFault : ℕ → ℕ → ℕ → Bool
   itemFault n line item =
       let r = frameIn bytes starts line in
-      has (shown r) item && (isUnwritten (framesIn bytes starts n) item (shownStamp r item) (shownValue r item) || someFrom n 0 (writeFault line item))
+      has (shown r) item && (isUnwritten (framesIn bytes starts n) item (shownStamp r item)
+      (shownValue r item) || someFrom n 0 (writeFault line item))

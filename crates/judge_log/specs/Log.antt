@@ -1,4 +1,5 @@
--- A log as lines, a line as its frame, a frame as its fields, and which line is malformed (document 01: frames, log frames, refusal 15).
+-- A log as lines, a line as its frame, a frame as its fields, and which line is malformed (document
+-- 01: frames, log frames, refusal 15).
 use mathlib.Core.Bool.{Bool, cond, not, _&&_, _||_}
 use mathlib.Core.List.{List, [], _∷_, map}
 use Prim.Native.Nat.{ℕ, _+_, _*_}
@@ -29,7 +30,8 @@ linesOf (c ∷ s) =
 abbrev pub textOf : List ℕ → List ℕ
 textOf line = take (lineLength line) line
 
--- the frame of a line: the bytes of its digits, two a byte; none where it isn't such digits and then 0a
+-- the frame of a line: the bytes of its digits, two a byte; none where it isn't such digits and
+-- then 0a
 unfoldable pub frameOf : List ℕ → List ℕ
 frameOf line =
     cond (ltb (lineLength line) (length line) && isHex (textOf line)) (bytesOf (textOf line)) []
@@ -40,7 +42,8 @@ framesOf log = map frameOf (linesOf log)
 
 -- ---- stamps
 
--- a stamp as one number, so that `<` is earlier: the number first, then the writing client (desk); 0 is the initial stamp
+-- a stamp as one number, so that `<` is earlier: the number first, then the writing client (desk);
+-- 0 is the initial stamp
 abbrev pub stampOf : ℕ → ℕ → ℕ
 stampOf number client = number * 16 + client
 
@@ -78,7 +81,8 @@ writtenStamp f = stampOf (numberOf f) (clientOf f)
 unfoldable pub writtenValue : List ℕ → ℕ → ℕ
 writtenValue f item = numberAt 4 f (14 + 4 * rank (setOf f) item)
 
--- the read part of a frame: `21` client, set, then per item number (4), writing client (1), value (4)
+-- the read part of a frame: `21` client, set, then per item number (4), writing client (1), value
+-- (4)
 
 -- the items that a frame shows, each with a stamp of its own
 unfoldable pub shown : List ℕ → ℕ
@@ -115,7 +119,8 @@ isWhole number d = (eqb number 0 && eqb d 0) || (leb 1 number && isClient d)
 -- a client, a nonempty set, a number of 1 or more, and one value an item
 unfoldable pub writeShaped : List ℕ → Bool
 writeShaped f =
-    isWrite f && (isClient (clientOf f) && (leb 1 (setOf f) && (leb 1 (numberOf f) && eqb (length f) (14 + 4 * count (setOf f)))))
+    isWrite f && (isClient (clientOf f) && (leb 1 (setOf f)
+    && (leb 1 (numberOf f) && eqb (length f) (14 + 4 * count (setOf f)))))
 
 -- a client, a nonempty set, and one whole entry an item
 unfoldable pub entriesWhole : List ℕ → Bool
@@ -123,16 +128,19 @@ entriesWhole f = every (count (setOf f)) (λ i. isWhole (entryNumber f i) (entry
 
 unfoldable pub readShaped : List ℕ → Bool
 readShaped f =
-    isRead f && (isClient (clientOf f) && (leb 1 (setOf f) && (eqb (length f) (entryAt (count (setOf f))) && entriesWhole f)))
+    isRead f && (isClient (clientOf f)
+    && (leb 1 (setOf f) && (eqb (length f) (entryAt (count (setOf f))) && entriesWhole f)))
 
 -- w is a write of that client with that number or a greater one
 unfoldable pub reaches : ℕ → ℕ → List ℕ → Bool
 reaches client number w = isWrite w && (eqb (clientOf w) client && leb number (numberOf w))
 
--- frame f, below the frames above, is malformed: neither of the two, or a write whose number doesn't rise over its client's writes above
+-- frame f, below the frames above, is malformed: neither of the two, or a write whose number
+-- doesn't rise over its client's writes above
 unfoldable pub malformed : List (List ℕ) → List ℕ → Bool
 malformed above f =
-    not (writeShaped f || readShaped f) || (isWrite f && some (reaches (clientOf f) (numberOf f)) above)
+    not (writeShaped f || readShaped f)
+    || (isWrite f && some (reaches (clientOf f) (numberOf f)) above)
 
 abbrev pub malformedAt : List (List ℕ) → ℕ → Bool
 malformedAt frames i = malformed (take i frames) (getD frames i [])

@@ -1,4 +1,5 @@
--- What parsing a frame answers: its client and, of a write, its number; and that this decides which frame is malformed.
+-- What parsing a frame answers: its client and, of a write, its number; and that this decides which
+-- frame is malformed.
 use mathlib.Core.Bool.{Bool, true, cond, not, _&&_}
 use mathlib.Core.List.{List}
 use Prim.Native.Nat.{ℕ}
@@ -10,7 +11,8 @@ use Rattle.judge_log.specs.declared.form.Parsed.the-variants.{Frame, Mal
 
 -- a write's client and number; a read's client and 0
 unfoldable pub parsed : List ℕ → Parsed
-parsed f = cond (writeShaped f) (Frame (clientOf f) (numberOf f)) (cond (readShaped f) (Frame (clientOf f) 0) Malformed)
+parsed f = cond (writeShaped f) (Frame (clientOf f) (numberOf f))
+    (cond (readShaped f) (Frame (clientOf f) 0) Malformed)
 
 -- what scanning the lines asks of a parsed frame
 abbrev pub refused : List (List ℕ) → Parsed → Bool

@@ -34,11 +34,13 @@ pub record Room (log : List ℕ) (at : ℕ) (bytes starts : List ℕ) (i : ℕ) 
   pub ascending : Ascending starts i
 
 -- line i was taken: its frame joins those before
-pub record Step (log : List ℕ) (at i : ℕ) (bytes starts bytes' starts' : List ℕ) (next : ℕ) : Type 0 where
+pub record Step (log : List ℕ) (at i : ℕ) (bytes starts bytes' starts' : List ℕ)
+    (next : ℕ) : Type 0 where
   pub well : malformed (framesIn bytes starts i) (frameOf (lineAt log at)) ≡ false
   pub ended : lineEnd log at < length log
   pub after : next ≡ lineEnd log at + 1
-  pub joins : framesIn bytes' starts' (i + 1) ≡ framesIn bytes starts i ++ frameOf (lineAt log at) ∷ []
+  pub joins : framesIn bytes' starts' (i + 1) ≡ framesIn bytes starts i ++ frameOf (lineAt log at)
+      ∷ []
   pub bytes-long : length bytes' ≡ 16384
   pub starts-long : length starts' ≡ 258
   pub behind : 2 * getD starts' (i + 1) 0 ≤ next
@@ -46,8 +48,10 @@ pub record Step (log : List ℕ) (at i : ℕ) (bytes starts bytes' starts' : Lis
 
 -- what taking line i tells
 abbrev pub TakenOf : List ℕ → ℕ → ℕ → List ℕ → List ℕ → List ℕ → List ℕ → Taken → Type 0
-TakenOf log at i bytes starts bytes' starts' (Next next) = Step log at i bytes starts bytes' starts' next
-TakenOf log at i bytes starts bytes' starts' Malformed = malformed (framesIn bytes starts i) (frameOf (lineAt log at)) ≡ true
+TakenOf log at i bytes starts bytes' starts' (Next next) =
+    Step log at i bytes starts bytes' starts' next
+TakenOf log at i bytes starts bytes' starts' Malformed =
+    malformed (framesIn bytes starts i) (frameOf (lineAt log at)) ≡ true
 
 -- the first i lines were taken, and the next begins at `at`
 pub record Scanning (log : List ℕ) (at : ℕ) (bytes starts : List ℕ) (i : ℕ) : Type 0 where
@@ -61,11 +65,14 @@ pub record Scanning (log : List ℕ) (at : ℕ) (bytes starts : List ℕ) (i : �
   pub count : i ≤ length (framesOf log)
   pub rest : framesOf (drop at log) ≡ drop i (framesOf log)
   pub taken : framesIn bytes starts i ≡ take i (framesOf log)
-  pub first : firstFrom (length (framesOf log) - i) i (malformedAt (framesOf log)) ≡ firstLine malformedAt (framesOf log)
+  pub first : firstFrom (length (framesOf log) - i) i
+      (malformedAt (framesOf log)) ≡ firstLine malformedAt (framesOf log)
 
--- what scanning answers: how many lines there are, all of them well-formed; or the first malformed line, counted from 0
+-- what scanning answers: how many lines there are, all of them well-formed; or the first malformed
+-- line, counted from 0
 abbrev pub ScannedOf : List ℕ → List ℕ → List ℕ → Scanned → Type 0
 ScannedOf log bytes starts (Lines n) =
-    (framesIn bytes starts n ≡ framesOf log) × (firstLine malformedAt (framesOf log) ≡ n) × (n ≡ length (framesOf log)) × (n ≤ 256)
+    (framesIn bytes starts n ≡ framesOf log) × (firstLine malformedAt (framesOf log) ≡ n)
+    × (n ≡ length (framesOf log)) × (n ≤ 256)
 ScannedOf log bytes starts (Bad i) =
     (firstLine malformedAt (framesOf log) ≡ i) × (i < length (framesOf log)) × (i ≤ 256)

@@ -1,12 +1,12 @@
--- Searches: that some element of a list passes a test, that some number from k on does, and which is the first. Each definition is
--- followed by its laws.
+-- Searches: that some element of a list passes a test, that some number from k on does, and which
+-- is the first. Each definition is followed by its laws.
 use mathlib.Core.Bool.{Bool, false, cond, _||_}
 use mathlib.Core.List.{List, [], _∷_}
 use Prim.Native.Nat.{ℕ, zero, suc}
 
+module _ {A : Type 0} where
   -- ---- some: an element passes the test
 
-module _ {A : Type 0} where
   unfoldable pub some : (A → Bool) → List A → Bool
   some p [] = false
   some p (x ∷ xs) =

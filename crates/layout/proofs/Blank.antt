@@ -4,7 +4,8 @@ use mathlib.Core.Path.{_≡_, _∙_}
 use Prim.Native.Nat.{ℕ, _+_, _≤_, _<_}
 use native.Mathlib.Omega.{arith}
 use borrow.Author.Fill.{fill-none, fill-more}
-use lib.ListN.{length, getD, set, drop, replicate, length-append, length-replicate, length-drop, getD-replicate, List·getD-append}
+use lib.ListN.{length, getD, set, drop, replicate, length-append, length-replicate, length-drop}
+use lib.ListN.{getD-replicate, List·getD-append}
 use Rattle.layout.specs.Store.{blank}
 
 pub blank-none : (b : List ℕ) → b ≡ blank 0 b

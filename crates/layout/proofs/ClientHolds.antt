@@ -11,15 +11,19 @@ use Rattle.layout.specs.Encodes.{numberOfMode, HoldsEnded, HoldsClient}
 use Rattle.layout.proofs.Room.{NarrowEnded, NarrowClient}
 use Rattle.layout.proofs.ClientWords.{Words, wordsOf, HasWords, KeptClient}
 
--- these are the words of an ended transaction: its kind, set and one stamp, and for each item a stamp and a value
+-- these are the words of an ended transaction: its kind, set and one stamp, and for each item a
+-- stamp and a value
 abbrev pub EndedHold : ℕ → ℕ → ℕ → (ℕ → ℕ) → (ℕ → ℕ) → Ended → Type 0
 EndedHold kind set one stamps values nothing = kind ≡ 0
 EndedHold kind set one stamps values (read s σ ν) =
-    (kind ≡ 1) × (set ≡ s) × ((k : ℕ) → has s k ≡ true → stamps k ≡ σ k) × ((k : ℕ) → has s k ≡ true → values k ≡ ν k)
-EndedHold kind set one stamps values (write s σ ν) = (kind ≡ 2) × (set ≡ s) × (one ≡ σ) × ((k : ℕ) → has s k ≡ true → values k ≡ ν k)
+    (kind ≡ 1) × (set ≡ s) × ((k : ℕ) → has s k ≡ true → stamps k ≡ σ k)
+    × ((k : ℕ) → has s k ≡ true → values k ≡ ν k)
+EndedHold kind set one stamps values (write s σ ν) =
+    (kind ≡ 2) × (set ≡ s) × (one ≡ σ) × ((k : ℕ) → has s k ≡ true → values k ≡ ν k)
 
 abbrev pub WordsEnded : Words → Ended → Type 0
-WordsEnded w e = EndedHold (w .scalar 5) (w .scalar 6) (w .scalar 7) (w .lastStamps) (w .lastValues) e
+WordsEnded w e = EndedHold (w .scalar 5) (w .scalar 6) (w .scalar 7) (w .lastStamps)
+    (w .lastValues) e
 
 -- as `HoldsClient`, of a client's words
 pub record WordsHold (w : Words) (c : Client) : Type 0 where
@@ -28,7 +32,8 @@ pub record WordsHold (w : Words) (c : Client) : Type 0 where
   pub set : w .scalar 2 ≡ c .set
   pub awaited : w .scalar 3 ≡ c .awaited
   pub stamp : isWriting (c .mode) ≡ true → w .scalar 4 ≡ c .stamp
-  pub asked : isWriting (c .mode) ≡ false → (k : ℕ) → has (c .set) k ≡ true → w .asked k ≡ c .asked k
+  pub asked : isWriting (c .mode) ≡ false → (k : ℕ) → has (c .set) k ≡ true
+      → w .asked k ≡ c .asked k
   pub values : (k : ℕ) → has (c .set) k ≡ true → w .values k ≡ c .values k
   pub last : WordsEnded w (c .last)
 
@@ -50,14 +55,26 @@ words-hold {d} {b} {c} h =
       last = ended-hold d b (c .last) (h .last);
     }
 
-holds-ended : (d : ℕ) (b : List ℕ) (w : Words) → HasWords d b w → (e : Ended) → NarrowEnded e → WordsEnded w e → HoldsEnded b d e
+holds-ended : (d : ℕ) (b : List ℕ) (w : Words) → HasWords d b w → (e : Ended) → NarrowEnded e
+    → WordsEnded w e → HoldsEnded b d e
 holds-ended d b w k nothing n h = k .scalar 5 (lit< tt) ∙ h
-holds-ended d b w k (read s stamps vs) n h =
-    (k .scalar 5 (lit< tt) ∙ h .0, k .scalar 6 (lit< tt) ∙ h .1, λ j e. k .lastStamps j (n j e) ∙ h .2 j e, λ j e. k .lastValues j (n j e) ∙ h .3 j e)
-holds-ended d b w k (write s stamp vs) n h =
-    (k .scalar 5 (lit< tt) ∙ h .0, k .scalar 6 (lit< tt) ∙ h .1, k .scalar 7 (lit< tt) ∙ h .2, λ j e. k .lastValues j (n j e) ∙ h .3 j e)
+holds-ended d b w k (read s stamps vs) n h = (
+  k .scalar 5 (lit< tt) ∙ h .0,
+  k .scalar 6 (lit< tt) ∙ h .1,
+  λ j e. k .lastStamps j (n j e)
+      ∙ h .2 j e,
+  λ j e. k .lastValues j (n j e) ∙ h .3 j e,
+)
+holds-ended d b w k (write s stamp vs) n h = (
+  k .scalar 5 (lit< tt) ∙ h .0,
+  k .scalar 6 (lit< tt) ∙ h .1,
+  k .scalar 7 (lit< tt)
+      ∙ h .2,
+  λ j e. k .lastValues j (n j e) ∙ h .3 j e,
+)
 
-pub holds-words : {d : ℕ} {b : List ℕ} {w : Words} {c : Client} → HasWords d b w → NarrowClient c → WordsHold w c → HoldsClient b d c
+pub holds-words : {d : ℕ} {b : List ℕ} {w : Words} {c : Client} → HasWords d b w → NarrowClient c
+    → WordsHold w c → HoldsClient b d c
 holds-words {d} {b} {w} {c} k n h =
     record {
       mode = k .scalar 0 (lit< tt) ∙ h .mode;
@@ -70,5 +87,6 @@ holds-words {d} {b} {w} {c} k n h =
       last = holds-ended d b w k (c .last) (n .last) (h .last);
     }
 
-pub kept-client : {d : ℕ} {b b′ : List ℕ} {c : Client} → KeptClient d b b′ → NarrowClient c → HoldsClient b d c → HoldsClient b′ d c
+pub kept-client : {d : ℕ} {b b′ : List ℕ} {c : Client} → KeptClient d b b′ → NarrowClient c
+    → HoldsClient b d c → HoldsClient b′ d c
 kept-client k n h = holds-words k n (words-hold h)

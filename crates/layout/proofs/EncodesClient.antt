@@ -1,5 +1,5 @@
--- A block that holds tables, changed in words of one client alone, holds the tables with that client another, if its words hold that
--- client.
+-- A block that holds tables, changed in words of one client alone, holds the tables with that
+-- client another, if its words hold that client.
 use mathlib.Core.List.{List}
 use mathlib.Core.Path.{_∙_}
 use Prim.Native.Nat.{ℕ, _≤_}
@@ -9,14 +9,16 @@ use lib.ListN.{getD}
 use borrow.Author.Tests.{eqb-true, eqb-false}
 use Rattle.protocol.specs.Tables.{Tables, Client, withClient}
 use Rattle.protocol.proofs.Put.{by-cond}
-use Rattle.layout.specs.Layout.{header, latest, views, versions, messages, clientsAt, partitionsAt, itemsAt, versionsAt, messagesAt}
+use Rattle.layout.specs.Layout.{header, latest, views, versions, messages, clientsAt}
+use Rattle.layout.specs.Layout.{partitionsAt, itemsAt, versionsAt, messagesAt}
 use Rattle.layout.specs.Encodes.{Encodes, HoldsClient}
 use Rattle.layout.proofs.Room.{HasRoom}
 use Rattle.layout.proofs.Kept.{kept-entry, kept-version, kept-message}
 use Rattle.layout.proofs.ClientHolds.{kept-client}
 use Rattle.layout.proofs.SameBut.{SameBut}
 
-pub encodes-client : {b b′ : List ℕ} {t : Tables} {d : ℕ} {c : Client} → Encodes b t → HasRoom t → 1 ≤ d → d ≤ t .sizes .clients
+pub encodes-client : {b b′ : List ℕ} {t : Tables} {d : ℕ} {c : Client} → Encodes b t → HasRoom t
+    → 1 ≤ d → d ≤ t .sizes .clients
     → SameBut d b b′ → HoldsClient b′ d c → Encodes b′ (withClient t d c)
 encodes-client {b} {b′} {t} {d} {c} n r l h same holds =
     record {
@@ -31,7 +33,10 @@ encodes-client {b} {b′} {t} {d} {c} n r l h same holds =
       client = λ e p q.
           by-cond (HoldsClient b′ e) (eqb e d) c (t .client e)
           (λ s. rw (eqb-true e d s) holds)
-          (λ s. kept-client (same .others e p (omega (arith, r .clients)) (eqb-false e d s)) (r .client e p q) (n .client e p q));
-      versions = λ i g none. kept-version (same .versions) (omega (arith, r .versions)) (n .versions i g none);
-      messages = λ i g none. kept-message b b′ i (getD (t .messages) i none) (same .messages) (omega (arith, r .messages)) (n .messages i g none);
+          (λ s. kept-client (same .others e p (omega (arith, r .clients)) (eqb-false e d s))
+          (r .client e p q) (n .client e p q));
+      versions =
+          λ i g none. kept-version (same .versions) (omega (arith, r .versions)) (n .versions i g none);
+      messages =
+          λ i g none. kept-message b b′ i (getD (t .messages) i none) (same .messages) (omega (arith, r .messages)) (n .messages i g none);
     }

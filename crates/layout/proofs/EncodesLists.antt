@@ -1,5 +1,5 @@
--- A block that holds tables, changed in stored versions, messages and their counts alone, holds the tables with other lists, if it holds
--- these.
+-- A block that holds tables, changed in stored versions, messages and their counts alone, holds the
+-- tables with other lists, if it holds these.
 use mathlib.Core.List.{List}
 use mathlib.Core.Path.{_≡_, _∙_}
 use Prim.Native.Nat.{ℕ, _≤_, _<_}
@@ -9,7 +9,9 @@ use lib.ListN.{length, getD}
 use Rattle.protocol.specs.declared.Version.{Version}
 use Rattle.protocol.specs.declared.Message.{Message}
 use Rattle.protocol.specs.Tables.{Tables}
-use Rattle.layout.specs.Layout.{header, latest, base, at, clientsAt, partitionsAt, itemsAt, versionsAt, messagesAt, scalars, versions, asked, values, lastStamps, lastValues}
+use Rattle.layout.specs.Layout.{header, latest, base, at, clientsAt, partitionsAt, itemsAt}
+use Rattle.layout.specs.Layout.{versionsAt, messagesAt, scalars, versions, asked, values}
+use Rattle.layout.specs.Layout.{lastStamps, lastValues}
 use Rattle.layout.specs.Encodes.{Encodes, HoldsVersion, HoldsMessage}
 use Rattle.layout.proofs.Room.{HasRoom}
 use Rattle.layout.proofs.Kept.{kept-entry}
@@ -32,11 +34,20 @@ same-client same d l h =
       lastValues = λ k g. same .fixed _ (omega arith) (omega arith);
     }
 
-pub encodes-lists : {b b′ : List ℕ} {t : Tables} (vs : List Version) (ms : List Message) → Encodes b t → HasRoom t → SameButLists b b′
+pub encodes-lists : {b b′ : List ℕ} {t : Tables} (vs : List Version) (ms : List Message)
+    → Encodes b t → HasRoom t → SameButLists b b′
     → at b′ header versionsAt ≡ length vs → at b′ header messagesAt ≡ length ms
     → ((i : ℕ) → i < length vs → (none : Version) → HoldsVersion b′ i (getD vs i none))
     → ((i : ℕ) → i < length ms → (none : Message) → HoldsMessage b′ i (getD ms i none))
-    → Encodes b′ (record { sizes = t .sizes; latest = t .latest; view = t .view; client = t .client; versions = vs; messages = ms })
+    → Encodes b′ (record {
+      sizes = t .sizes;
+      latest = t .latest;
+      view = t .view;
+      client =
+          t .client;
+      versions = vs;
+      messages = ms;
+    })
 encodes-lists {b} {b′} {t} vs ms n r same p q f g =
     record {
       long = omega (arith, n .long, same .long);

@@ -8,7 +8,9 @@ use lib.ListN.{length, length-set}
 use Rattle.basics.proofs.Cases.{not-both}
 use Rattle.itemset.proofs.Laws.{has-empty}
 use Rattle.protocol.specs.Tables.{Sizes, fresh, initial, resting, nothing}
-use Rattle.layout.specs.Layout.{Section, header, scalars, latest, views, base, needed, at, store, clientsAt, partitionsAt, itemsAt, versionsAt, messagesAt, scalarAt, latestAt, viewAt}
+use Rattle.layout.specs.Layout.{Section, header, scalars, latest, views, base, needed, at}
+use Rattle.layout.specs.Layout.{store, clientsAt, partitionsAt, itemsAt, versionsAt}
+use Rattle.layout.specs.Layout.{messagesAt, scalarAt, latestAt, viewAt}
 use Rattle.layout.specs.Store.{storeSizes, blank, freshBlock}
 use Rattle.layout.specs.Encodes.{Encodes, HoldsEntry, HoldsClient}
 use Rattle.layout.proofs.Blank.{length-blank, blank-zero}
@@ -26,17 +28,22 @@ module _ (b : List ℕ) (clients partitions items : ℕ) where
   pub length-sizes : length (storeSizes b clients partitions items) ≡ length b
   length-sizes = simp length-set
 
-  pub at-sizes-other : (s : Section) (i : ℕ) → 3 ≤ base s + i → at (storeSizes b clients partitions items) s i ≡ at b s i
+  pub at-sizes-other : (s : Section) (i : ℕ) → 3 ≤ base s + i
+      → at (storeSizes b clients partitions items) s i ≡ at b s i
   at-sizes-other s i l =
       at-store-other two header itemsAt items s i (omega arith)
-      ∙ (at-store-other one header partitionsAt partitions s i (omega arith) ∙ at-store-other b header clientsAt clients s i (omega arith))
+      ∙ (at-store-other one header partitionsAt partitions s i (omega arith)
+      ∙ at-store-other b header clientsAt clients s i (omega arith))
 
-  pub at-clients : 3 ≤ length b → at (storeSizes b clients partitions items) header clientsAt ≡ clients
+  pub at-clients : 3 ≤ length b → at
+      (storeSizes b clients partitions items) header clientsAt ≡ clients
   at-clients l =
       at-store-other two header itemsAt items header clientsAt (omega arith)
-      ∙ (at-store-other one header partitionsAt partitions header clientsAt (omega arith) ∙ at-store b header clientsAt clients (omega arith))
+      ∙ (at-store-other one header partitionsAt partitions header clientsAt (omega arith)
+      ∙ at-store b header clientsAt clients (omega arith))
 
-  pub at-partitions : 3 ≤ length b → at (storeSizes b clients partitions items) header partitionsAt ≡ partitions
+  pub at-partitions : 3 ≤ length b
+      → at (storeSizes b clients partitions items) header partitionsAt ≡ partitions
   at-partitions l =
       at-store-other two header itemsAt items header partitionsAt (omega arith)
       ∙ at-store one header partitionsAt partitions (simp length-set (omega arith))
@@ -52,17 +59,21 @@ freshOf b z = freshBlock b (z .clients) (z .partitions) (z .items)
 module _ (b : List ℕ) (z : Sizes) (long : needed ≤ length b) where
   pub length-fresh : length (freshOf b z) ≡ length b
   unfolding freshBlock
-  length-fresh = length-sizes (blank needed b) (z .clients) (z .partitions) (z .items) ∙ length-blank needed b long
+  length-fresh = length-sizes (blank needed b) (z .clients) (z .partitions) (z .items)
+      ∙ length-blank needed b long
 
   -- every word but the sizes
-  pub fresh-zero : (s : Section) (i : ℕ) → 3 ≤ base s + i → base s + i < needed → at (freshOf b z) s i ≡ 0
+  pub fresh-zero : (s : Section) (i : ℕ) → 3 ≤ base s + i → base s + i < needed
+      → at (freshOf b z) s i ≡ 0
   unfolding freshBlock
   fresh-zero s i h l =
-      at-sizes-other (blank needed b) (z .clients) (z .partitions) (z .items) s i h ∙ blank-zero needed b (base s + i) l
+      at-sizes-other (blank needed b) (z .clients) (z .partitions) (z .items) s i h
+      ∙ blank-zero needed b (base s + i) l
 
   fresh-client : (d : ℕ) → 1 ≤ d → d ≤ 8 → HoldsClient (freshOf b z) d (resting 0 nothing)
   fresh-client d l h =
-      let zero : (f : ℕ) → f < 8 → at (freshOf b z) scalars (scalarAt d f) ≡ 0 = λ f g. fresh-zero scalars (scalarAt d f) (omega arith) (omega arith) in
+      let zero : (f : ℕ) → f < 8 → at (freshOf b z) scalars (scalarAt d f) ≡ 0 =
+      λ f g. fresh-zero scalars (scalarAt d f) (omega arith) (omega arith) in
       record {
         mode = zero 0 (lit< tt);
         count = zero 1 (lit< tt);
@@ -74,9 +85,14 @@ module _ (b : List ℕ) (z : Sizes) (long : needed ≤ length b) where
         last = zero 5 (lit< tt);
       }
 
-  fresh-entry : (s : Section) (i : ℕ) → 3 ≤ base s + i → base s + i + 1 < needed → HoldsEntry (freshOf b z) s i initial
+  fresh-entry : (s : Section) (i : ℕ) → 3 ≤ base s + i → base s + i + 1 < needed
+      → HoldsEntry (freshOf b z) s i initial
   fresh-entry s i h l =
-      record { stamp = fresh-zero s i h (omega arith); set = fresh-zero s (i + 1) (omega arith) (omega arith) }
+      record {
+        stamp = fresh-zero s i h (omega arith);
+        set =
+            fresh-zero s (i + 1) (omega arith) (omega arith);
+      }
 
   pub encodes-fresh : z .clients ≤ 8 → z .items ≤ 64 → Encodes (freshOf b z) (fresh z)
   unfolding freshBlock

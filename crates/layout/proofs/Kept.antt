@@ -9,7 +9,8 @@ use Rattle.protocol.specs.declared.Version.{Version}
 use Rattle.protocol.specs.declared.Entry.{Entry}
 use Rattle.protocol.specs.declared.Message.{Message}
 use Rattle.protocol.specs.declared.Message.the-variants.{Prepare, Prepared, Commit, Get, Got}
-use Rattle.layout.specs.Layout.{Section, versions, messages, base, size, at, store, versionAt, messageAt}
+use Rattle.layout.specs.Layout.{Section, versions, messages, base, size, at, store, versionAt}
+use Rattle.layout.specs.Layout.{messageAt}
 use Rattle.layout.specs.Encodes.{HoldsEntry, HoldsVersion, HoldsMessage}
 use Rattle.layout.proofs.At.{at-store-other}
 
@@ -22,32 +23,64 @@ pub kept-trans : (s : Section) (a b c : List ℕ) → Kept s a b → Kept s b c 
 kept-trans s a b c p q i l = q i l ∙ p i l
 
 -- a store outside the section
-pub kept-store : (r : Section) (b : List ℕ) (s : Section) (i v : ℕ) → ((j : ℕ) → j < size r → base r + j ≢ base s + i) → Kept r b (store b s i v)
+pub kept-store : (r : Section) (b : List ℕ) (s : Section) (i v : ℕ)
+    → ((j : ℕ) → j < size r → base r + j ≢ base s + i) → Kept r b (store b s i v)
 kept-store r b s i v n j l = at-store-other b s i v r j (n j l)
 
-pub kept-entry : {s : Section} {b b′ : List ℕ} {i : ℕ} {e : Entry} → Kept s b b′ → i + 1 < size s → HoldsEntry b s i e → HoldsEntry b′ s i e
-kept-entry {i = i} k l h = record { stamp = k i (omega arith) ∙ h .stamp; set = k (i + 1) l ∙ h .set }
+pub kept-entry : {s : Section} {b b′ : List ℕ} {i : ℕ} {e : Entry} → Kept s b b′ → i + 1 < size s
+    → HoldsEntry b s i e → HoldsEntry b′ s i e
+kept-entry {i = i} k l h = record {
+  stamp = k i (omega arith) ∙ h .stamp;
+  set =
+      k (i + 1) l ∙ h .set;
+}
 
 -- ---- a version, or a message, whose words stand at the same place or at another
 
 pub moved-version : {b b′ : List ℕ} {i j : ℕ} {v : Version}
-    → ((f : ℕ) → f < 4 → at b′ versions (versionAt j f) ≡ at b versions (versionAt i f)) → HoldsVersion b i v → HoldsVersion b′ j v
+    → ((f : ℕ) → f < 4 → at b′ versions (versionAt j f) ≡ at b versions (versionAt i f))
+    → HoldsVersion b i v → HoldsVersion b′ j v
 moved-version w h =
-    record { item = w 0 (lit< tt) ∙ h .item; value = w 1 (lit< tt) ∙ h .value; stamp = w 2 (lit< tt) ∙ h .stamp; set = w 3 (lit< tt) ∙ h .set }
+    record {
+      item = w 0 (lit< tt) ∙ h .item;
+      value = w 1 (lit< tt) ∙ h .value;
+      stamp =
+          w 2 (lit< tt) ∙ h .stamp;
+      set = w 3 (lit< tt) ∙ h .set;
+    }
 
 pub moved-message : (b b′ : List ℕ) (i j : ℕ) (m : Message)
-    → ((f : ℕ) → f < 8 → at b′ messages (messageAt j f) ≡ at b messages (messageAt i f)) → HoldsMessage b i m → HoldsMessage b′ j m
-moved-message b b′ i j (Prepare v) w h =
-    (w 0 (lit< tt) ∙ h .0, w 2 (lit< tt) ∙ h .1, w 3 (lit< tt) ∙ h .2, w 4 (lit< tt) ∙ h .3, w 5 (lit< tt) ∙ h .4)
-moved-message b b′ i j (Prepared k stamp) w h = (w 0 (lit< tt) ∙ h .0, w 2 (lit< tt) ∙ h .1, w 4 (lit< tt) ∙ h .2)
-moved-message b b′ i j (Commit p stamp) w h = (w 0 (lit< tt) ∙ h .0, w 1 (lit< tt) ∙ h .1, w 4 (lit< tt) ∙ h .2)
+    → ((f : ℕ) → f < 8 → at b′ messages (messageAt j f) ≡ at b messages (messageAt i f))
+    → HoldsMessage b i m → HoldsMessage b′ j m
+moved-message b b′ i j (Prepare v) w h = (
+  w 0 (lit< tt) ∙ h .0,
+  w 2 (lit< tt) ∙ h .1,
+  w 3 (lit< tt) ∙ h .2,
+  w 4 (lit< tt)
+      ∙ h .3,
+  w 5 (lit< tt) ∙ h .4,
+)
+moved-message b b′ i j (Prepared k stamp) w h =
+    (w 0 (lit< tt) ∙ h .0, w 2 (lit< tt) ∙ h .1, w 4 (lit< tt) ∙ h .2)
+moved-message b b′ i j (Commit p stamp) w h =
+    (w 0 (lit< tt) ∙ h .0, w 1 (lit< tt) ∙ h .1, w 4 (lit< tt) ∙ h .2)
 moved-message b b′ i j (Get d k stamp) w h =
     (w 0 (lit< tt) ∙ h .0, w 1 (lit< tt) ∙ h .1, w 2 (lit< tt) ∙ h .2, w 4 (lit< tt) ∙ h .3)
-moved-message b b′ i j (Got d v e) w h =
-    (w 0 (lit< tt) ∙ h .0, w 1 (lit< tt) ∙ h .1, w 2 (lit< tt) ∙ h .2, w 3 (lit< tt) ∙ h .3, w 4 (lit< tt) ∙ h .4, w 6 (lit< tt) ∙ h .5, w 7 (lit< tt) ∙ h .6)
+moved-message b b′ i j (Got d v e) w h = (
+  w 0 (lit< tt) ∙ h .0,
+  w 1 (lit< tt) ∙ h .1,
+  w 2 (lit< tt) ∙ h .2,
+  w 3 (lit< tt)
+      ∙ h .3,
+  w 4 (lit< tt) ∙ h .4,
+  w 6 (lit< tt) ∙ h .5,
+  w 7 (lit< tt) ∙ h .6,
+)
 
-pub kept-version : {b b′ : List ℕ} {i : ℕ} {v : Version} → Kept versions b b′ → i < 512 → HoldsVersion b i v → HoldsVersion b′ i v
+pub kept-version : {b b′ : List ℕ} {i : ℕ} {v : Version} → Kept versions b b′ → i < 512
+    → HoldsVersion b i v → HoldsVersion b′ i v
 kept-version {i = i} k l = moved-version (λ f g. k (versionAt i f) (omega arith))
 
-pub kept-message : (b b′ : List ℕ) (i : ℕ) (m : Message) → Kept messages b b′ → i < 128 → HoldsMessage b i m → HoldsMessage b′ i m
+pub kept-message : (b b′ : List ℕ) (i : ℕ) (m : Message) → Kept messages b b′ → i < 128
+    → HoldsMessage b i m → HoldsMessage b′ i m
 kept-message b b′ i m k l = moved-message b b′ i i m (λ f g. k (messageAt i f) (omega arith))

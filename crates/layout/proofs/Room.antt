@@ -1,4 +1,5 @@
--- The tables that a block has words for: no size, set or list is past its section. Valid tables are such.
+-- The tables that a block has words for: no size, set or list is past its section. Valid tables are
+-- such.
 use mathlib.Core.Bool.{true}
 use mathlib.Core.List.{List}
 use mathlib.Core.Path.{_≡_}
@@ -10,7 +11,8 @@ use Rattle.itemset.specs.Set.{has}
 use Rattle.itemset.proofs.Laws.{has-below}
 use Rattle.protocol.specs.declared.Version.{Version}
 use Rattle.protocol.specs.declared.Message.{Message}
-use Rattle.protocol.specs.Tables.{Sizes, Tables, Client, Ended, nothing, read, write, withClient, withVersions, withMessages}
+use Rattle.protocol.specs.Tables.{Sizes, Tables, Client, Ended, nothing, read, write, withClient}
+use Rattle.protocol.specs.Tables.{withVersions, withMessages}
 use Rattle.protocol.specs.Range.{capacities, load, occupied}
 use Rattle.protocol.proofs.Ranges.Tables.{Valid}
 use Rattle.protocol.proofs.Ranges.Clients.{EndedInRange, ClientInRange}
@@ -49,7 +51,11 @@ narrow-ended z h (read s stamps vs) r = narrow-below s (z .items) (r .set) h
 narrow-ended z h (write s stamp vs) r = narrow-below s (z .items) (r .set) h
 
 pub narrow-client : (z : Sizes) → z .items ≤ 64 → (c : Client) → ClientInRange z c → NarrowClient c
-narrow-client z h c r = record { set = narrow-below (c .set) (z .items) (r .set) h; last = narrow-ended z h (c .last) (r .last) }
+narrow-client z h c r = record {
+  set = narrow-below (c .set) (z .items) (r .set) h;
+  last =
+      narrow-ended z h (c .last) (r .last);
+}
 
 pub room-valid : (t : Tables) → Valid capacities t → HasRoom t
 unfolding load occupied
@@ -64,7 +70,8 @@ room-valid t v =
     }
 
 -- a client with narrow sets in a client's place
-pub room-client : (t : Tables) (d : ℕ) (c : Client) → HasRoom t → NarrowClient c → HasRoom (withClient t d c)
+pub room-client : (t : Tables) (d : ℕ) (c : Client) → HasRoom t → NarrowClient c
+    → HasRoom (withClient t d c)
 room-client t d c r n =
     record {
       clients = r .clients;
@@ -75,8 +82,24 @@ room-client t d c r n =
     }
 
 -- lists that fit
-pub room-versions : (t : Tables) (vs : List Version) → HasRoom t → length vs ≤ 512 → HasRoom (withVersions t vs)
-room-versions t vs r l = record { clients = r .clients; items = r .items; versions = l; messages = r .messages; client = r .client }
+pub room-versions : (t : Tables) (vs : List Version) → HasRoom t → length vs ≤ 512
+    → HasRoom (withVersions t vs)
+room-versions t vs r l = record {
+  clients = r .clients;
+  items = r .items;
+  versions = l;
+  messages =
+      r .messages;
+  client = r .client;
+}
 
-pub room-messages : (t : Tables) (ms : List Message) → HasRoom t → length ms ≤ 128 → HasRoom (withMessages t ms)
-room-messages t ms r l = record { clients = r .clients; items = r .items; versions = r .versions; messages = l; client = r .client }
+pub room-messages : (t : Tables) (ms : List Message) → HasRoom t → length ms ≤ 128
+    → HasRoom (withMessages t ms)
+room-messages t ms r l = record {
+  clients = r .clients;
+  items = r .items;
+  versions =
+      r .versions;
+  messages = l;
+  client = r .client;
+}

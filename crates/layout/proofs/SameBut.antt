@@ -1,15 +1,18 @@
--- Two blocks that differ in words of one client alone, its view apart: the relation is reflexive and transitive, and a store to such
--- a word gives it.
+-- Two blocks that differ in words of one client alone, its view apart: the relation is reflexive
+-- and transitive, and a store to such a word gives it.
 use mathlib.Core.List.{List}
 use mathlib.Core.Logic.{_≢_}
 use mathlib.Core.Path.{_≡_, refl, _∙_}
 use Prim.Native.Nat.{ℕ, _+_, _≤_, _<_}
 use native.Mathlib.Omega.{arith}
 use lib.ListN.{length}
-use Rattle.layout.specs.Layout.{Section, header, scalars, latest, views, asked, values, lastStamps, lastValues, versions, messages, base, size, store, scalarAt, itemAt}
+use Rattle.layout.specs.Layout.{Section, header, scalars, latest, views, asked, values}
+use Rattle.layout.specs.Layout.{lastStamps, lastValues, versions, messages, base, size, store}
+use Rattle.layout.specs.Layout.{scalarAt, itemAt}
 use Rattle.layout.proofs.At.{length-store}
 use Rattle.layout.proofs.Kept.{Kept, kept-trans, kept-store}
-use Rattle.layout.proofs.ClientWords.{has-words, has-words-trans, Beside, has-words-beside, KeptClient}
+use Rattle.layout.proofs.ClientWords.{has-words, has-words-trans, Beside, has-words-beside}
+use Rattle.layout.proofs.ClientWords.{KeptClient}
 
 pub record SameBut (d : ℕ) (b b′ : List ℕ) : Type 0 where
   pub long : length b′ ≡ length b
@@ -55,7 +58,8 @@ pub record Own (d p : ℕ) : Type 0 where
   pub messages : (i : ℕ) → i < size messages → base messages + i ≢ p
   pub others : (e : ℕ) → 1 ≤ e → e ≤ 8 → e ≢ d → Beside e p
 
-pub same-but-store : (d : ℕ) (b : List ℕ) (s : Section) (i v : ℕ) → Own d (base s + i) → SameBut d b (store b s i v)
+pub same-but-store : (d : ℕ) (b : List ℕ) (s : Section) (i v : ℕ) → Own d (base s + i)
+    → SameBut d b (store b s i v)
 same-but-store d b s i v o =
     record {
       long = length-store b s i v;
@@ -68,18 +72,23 @@ same-but-store d b s i v o =
     }
 
 -- its own eight words
-pub same-but-scalar : (d : ℕ) (b : List ℕ) (f v : ℕ) → 1 ≤ d → d ≤ 8 → f < 8 → SameBut d b (store b scalars (scalarAt d f) v)
+pub same-but-scalar : (d : ℕ) (b : List ℕ) (f v : ℕ) → 1 ≤ d → d ≤ 8 → f < 8
+    → SameBut d b (store b scalars (scalarAt d f) v)
 same-but-scalar d b f v l h g = same-but-store d b scalars (scalarAt d f) v (omega arith)
 
 -- a word for an item
-pub same-but-asked : (d : ℕ) (b : List ℕ) (k v : ℕ) → 1 ≤ d → d ≤ 8 → k < 64 → SameBut d b (store b asked (itemAt d k) v)
+pub same-but-asked : (d : ℕ) (b : List ℕ) (k v : ℕ) → 1 ≤ d → d ≤ 8 → k < 64
+    → SameBut d b (store b asked (itemAt d k) v)
 same-but-asked d b k v l h g = same-but-store d b asked (itemAt d k) v (omega arith)
 
-pub same-but-value : (d : ℕ) (b : List ℕ) (k v : ℕ) → 1 ≤ d → d ≤ 8 → k < 64 → SameBut d b (store b values (itemAt d k) v)
+pub same-but-value : (d : ℕ) (b : List ℕ) (k v : ℕ) → 1 ≤ d → d ≤ 8 → k < 64
+    → SameBut d b (store b values (itemAt d k) v)
 same-but-value d b k v l h g = same-but-store d b values (itemAt d k) v (omega arith)
 
-pub same-but-last-stamp : (d : ℕ) (b : List ℕ) (k v : ℕ) → 1 ≤ d → d ≤ 8 → k < 64 → SameBut d b (store b lastStamps (itemAt d k) v)
+pub same-but-last-stamp : (d : ℕ) (b : List ℕ) (k v : ℕ) → 1 ≤ d → d ≤ 8 → k < 64
+    → SameBut d b (store b lastStamps (itemAt d k) v)
 same-but-last-stamp d b k v l h g = same-but-store d b lastStamps (itemAt d k) v (omega arith)
 
-pub same-but-last-value : (d : ℕ) (b : List ℕ) (k v : ℕ) → 1 ≤ d → d ≤ 8 → k < 64 → SameBut d b (store b lastValues (itemAt d k) v)
+pub same-but-last-value : (d : ℕ) (b : List ℕ) (k v : ℕ) → 1 ≤ d → d ≤ 8 → k < 64
+    → SameBut d b (store b lastValues (itemAt d k) v)
 same-but-last-value d b k v l h g = same-but-store d b lastValues (itemAt d k) v (omega arith)

@@ -1,4 +1,5 @@
--- The decoder: the tables that the words of a block are, initial outside the sizes, the counts and the sets; and which blocks are valid.
+-- The decoder: the tables that the words of a block are, initial outside the sizes, the counts and
+-- the sets; and which blocks are valid.
 use mathlib.Core.Bool.{Bool, true, false, cond, not, _&&_, _||_}
 use mathlib.Core.List.{List, [], _∷_, _++_, map}
 use Prim.Native.Nat.{ℕ, zero, suc, _+_, min}
@@ -10,10 +11,16 @@ use Rattle.protocol.specs.declared.Version.{Version}
 use Rattle.protocol.specs.declared.Entry.{Entry}
 use Rattle.protocol.specs.declared.Message.{Message}
 use Rattle.protocol.specs.declared.Message.the-variants.{Prepare, Prepared, Commit, Get, Got}
-use Rattle.protocol.specs.Tables.{Sizes, Tables, Client, Mode, idle, reading, writing, Ended, nothing, read, write, initial, resting}
+use Rattle.protocol.specs.Tables.{Sizes, Tables, Client, Mode, idle, reading, writing, Ended}
+use Rattle.protocol.specs.Tables.{nothing, read, write, initial, resting}
 use Rattle.protocol.specs.Steps.{version}
-use Rattle.protocol.specs.Range.{capacities, valid, sizesInRange, isClient, isItem, isWriting, everyClient}
-use Rattle.layout.specs.Layout.{header, scalars, latest, views, asked, values, lastStamps, lastValues, versions, messages, needed, at, clientsAt, partitionsAt, itemsAt, versionsAt, messagesAt, modeAt, countAt, setAt, awaitedAt, stampAt, lastKindAt, lastSetAt, lastStampAt, latestAt, viewAt, itemAt, versionAt, messageAt}
+use Rattle.protocol.specs.Range.{capacities, valid, sizesInRange, isClient, isItem, isWriting}
+use Rattle.protocol.specs.Range.{everyClient}
+use Rattle.layout.specs.Layout.{header, scalars, latest, views, asked, values, lastStamps}
+use Rattle.layout.specs.Layout.{lastValues, versions, messages, needed, at, clientsAt}
+use Rattle.layout.specs.Layout.{partitionsAt, itemsAt, versionsAt, messagesAt, modeAt}
+use Rattle.layout.specs.Layout.{countAt, setAt, awaitedAt, stampAt, lastKindAt, lastSetAt}
+use Rattle.layout.specs.Layout.{lastStampAt, latestAt, viewAt, itemAt, versionAt, messageAt}
 
 -- ---- numbers of modes, kinds and ended transactions
 
@@ -43,7 +50,12 @@ messageOf (suc (suc (suc (suc (suc n))))) who k v stamp s e = Got who (version k
 -- ---- field by field
 
 abbrev pub sizesIn : List ℕ → Sizes
-sizesIn b = record { clients = at b header clientsAt; partitions = at b header partitionsAt; items = at b header itemsAt }
+sizesIn b = record {
+  clients = at b header clientsAt;
+  partitions = at b header partitionsAt;
+  items =
+      at b header itemsAt;
+}
 
 abbrev pub latestIn : List ℕ → ℕ → Entry
 latestIn b k = record { stamp = at b latest (latestAt k); set = at b latest (latestAt k + 1) }
@@ -63,20 +75,23 @@ clientIn b d =
       asked = λ k. cond (isWriting mode) 0 (within s (λ j. at b asked (itemAt d j)) k);
       stamp = cond (isWriting mode) (at b scalars (stampAt d)) 0;
       values = within s (λ j. at b values (itemAt d j));
-      last = endedOf (at b scalars (lastKindAt d)) (at b scalars (lastSetAt d)) (at b scalars (lastStampAt d))
+      last = endedOf (at b scalars (lastKindAt d)) (at b scalars (lastSetAt d))
+          (at b scalars (lastStampAt d))
           (λ j. at b lastStamps (itemAt d j)) (λ j. at b lastValues (itemAt d j));
     }
 
 abbrev pub versionIn : List ℕ → ℕ → Version
 versionIn b i =
-    version (at b versions (versionAt i 0)) (at b versions (versionAt i 1)) (at b versions (versionAt i 2)) (at b versions (versionAt i 3))
+    version (at b versions (versionAt i 0)) (at b versions (versionAt i 1))
+    (at b versions (versionAt i 2)) (at b versions (versionAt i 3))
 
 abbrev pub kindIn : List ℕ → ℕ → ℕ
 kindIn b i = at b messages (messageAt i 0)
 
 unfoldable pub messageIn : List ℕ → ℕ → Message
 messageIn b i =
-    messageOf (kindIn b i) (at b messages (messageAt i 1)) (at b messages (messageAt i 2)) (at b messages (messageAt i 3))
+    messageOf (kindIn b i) (at b messages (messageAt i 1)) (at b messages (messageAt i 2))
+    (at b messages (messageAt i 3))
     (at b messages (messageAt i 4)) (at b messages (messageAt i 5))
     (record { stamp = at b messages (messageAt i 6); set = at b messages (messageAt i 7) })
 
@@ -97,8 +112,10 @@ tablesOf b =
 -- modes, kinds and counts are the numbers of some
 unfoldable pub wellFormed : List ℕ → Bool
 wellFormed b =
-    leb needed (length b) && sizesInRange (sizesIn b) && leb (at b header versionsAt) 512 && leb (at b header messagesAt) 128
-    && everyClient (sizesIn b) (λ d. ltb (at b scalars (modeAt d)) 3 && ltb (at b scalars (lastKindAt d)) 3)
+    leb needed (length b) && sizesInRange (sizesIn b) && leb (at b header versionsAt) 512
+    && leb (at b header messagesAt) 128
+    && everyClient (sizesIn b) (λ d. ltb (at b scalars (modeAt d)) 3
+    && ltb (at b scalars (lastKindAt d)) 3)
     && every (at b header messagesAt) (λ i. leb 1 (kindIn b i) && leb (kindIn b i) 5)
 
 -- not refused by 1: the words are those of tables that are in range and within the capacities

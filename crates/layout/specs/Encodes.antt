@@ -9,9 +9,15 @@ use Rattle.protocol.specs.declared.Version.{Version}
 use Rattle.protocol.specs.declared.Entry.{Entry}
 use Rattle.protocol.specs.declared.Message.{Message}
 use Rattle.protocol.specs.declared.Message.the-variants.{Prepare, Prepared, Commit, Get, Got}
-use Rattle.protocol.specs.Tables.{Tables, Client, Mode, idle, reading, writing, Ended, nothing, read, write}
+use Rattle.protocol.specs.Tables.{Tables, Client, Mode, idle, reading, writing, Ended, nothing}
+use Rattle.protocol.specs.Tables.{read, write}
 use Rattle.protocol.specs.Range.{isWriting}
-use Rattle.layout.specs.Layout.{Section, header, scalars, latest, views, asked, values, lastStamps, lastValues, versions, messages, needed, at, clientsAt, partitionsAt, itemsAt, versionsAt, messagesAt, modeAt, countAt, setAt, awaitedAt, stampAt, lastKindAt, lastSetAt, lastStampAt, latestAt, viewAt, itemAt, versionAt, messageAt}
+use Rattle.layout.specs.Layout.{Section, header, scalars, latest, views, asked, values}
+use Rattle.layout.specs.Layout.{lastStamps, lastValues, versions, messages, needed, at}
+use Rattle.layout.specs.Layout.{clientsAt, partitionsAt, itemsAt, versionsAt, messagesAt}
+use Rattle.layout.specs.Layout.{modeAt, countAt, setAt, awaitedAt, stampAt, lastKindAt}
+use Rattle.layout.specs.Layout.{lastSetAt, lastStampAt, latestAt, viewAt, itemAt, versionAt}
+use Rattle.layout.specs.Layout.{messageAt}
 
 -- ---- the numbers
 
@@ -43,12 +49,15 @@ word b i f = at b messages (messageAt i f)
 
 abbrev pub HoldsMessage : List ℕ → ℕ → Message → Type 0
 HoldsMessage b i (Prepare v) =
-    (word b i 0 ≡ 1) × (word b i 2 ≡ v .item) × (word b i 3 ≡ v .value) × (word b i 4 ≡ v .stamp) × (word b i 5 ≡ v .set)
+    (word b i 0 ≡ 1) × (word b i 2 ≡ v .item) × (word b i 3 ≡ v .value) × (word b i 4 ≡ v .stamp)
+    × (word b i 5 ≡ v .set)
 HoldsMessage b i (Prepared k stamp) = (word b i 0 ≡ 2) × (word b i 2 ≡ k) × (word b i 4 ≡ stamp)
 HoldsMessage b i (Commit p stamp) = (word b i 0 ≡ 3) × (word b i 1 ≡ p) × (word b i 4 ≡ stamp)
-HoldsMessage b i (Get d k stamp) = (word b i 0 ≡ 4) × (word b i 1 ≡ d) × (word b i 2 ≡ k) × (word b i 4 ≡ stamp)
+HoldsMessage b i (Get d k stamp) =
+    (word b i 0 ≡ 4) × (word b i 1 ≡ d) × (word b i 2 ≡ k) × (word b i 4 ≡ stamp)
 HoldsMessage b i (Got d v e) =
-    (word b i 0 ≡ 5) × (word b i 1 ≡ d) × (word b i 2 ≡ v .item) × (word b i 3 ≡ v .value) × (word b i 4 ≡ v .stamp)
+    (word b i 0 ≡ 5) × (word b i 1 ≡ d) × (word b i 2 ≡ v .item) × (word b i 3 ≡ v .value)
+    × (word b i 4 ≡ v .stamp)
     × (word b i 6 ≡ e .stamp) × (word b i 7 ≡ e .set)
 
 -- the last ended transaction of client d: its set's items, and no others
@@ -59,7 +68,8 @@ HoldsEnded b d (read s stamps vs) =
     × ((k : ℕ) → has s k ≡ true → at b lastStamps (itemAt d k) ≡ stamps k)
     × ((k : ℕ) → has s k ≡ true → at b lastValues (itemAt d k) ≡ vs k)
 HoldsEnded b d (write s stamp vs) =
-    (at b scalars (lastKindAt d) ≡ 2) × (at b scalars (lastSetAt d) ≡ s) × (at b scalars (lastStampAt d) ≡ stamp)
+    (at b scalars (lastKindAt d) ≡ 2) × (at b scalars (lastSetAt d) ≡ s)
+    × (at b scalars (lastStampAt d) ≡ stamp)
     × ((k : ℕ) → has s k ≡ true → at b lastValues (itemAt d k) ≡ vs k)
 
 pub record HoldsClient (b : List ℕ) (d : ℕ) (c : Client) : Type 0 where
@@ -69,7 +79,8 @@ pub record HoldsClient (b : List ℕ) (d : ℕ) (c : Client) : Type 0 where
   pub awaited : at b scalars (awaitedAt d) ≡ c .awaited
   -- a write has one stamp for all its items, any other client one for each item of its set
   pub stamp : isWriting (c .mode) ≡ true → at b scalars (stampAt d) ≡ c .stamp
-  pub asked : isWriting (c .mode) ≡ false → (k : ℕ) → has (c .set) k ≡ true → at b asked (itemAt d k) ≡ c .asked k
+  pub asked : isWriting (c .mode) ≡ false → (k : ℕ) → has (c .set) k ≡ true
+      → at b asked (itemAt d k) ≡ c .asked k
   pub values : (k : ℕ) → has (c .set) k ≡ true → at b values (itemAt d k) ≡ c .values k
   pub last : HoldsEnded b d (c .last)
 
@@ -83,7 +94,10 @@ pub record Encodes (b : List ℕ) (t : Tables) : Type 0 where
   pub versionCount : at b header versionsAt ≡ length (t .versions)
   pub messageCount : at b header messagesAt ≡ length (t .messages)
   pub latest : (k : ℕ) → k < t .sizes .items → HoldsEntry b latest (latestAt k) (t .latest k)
-  pub view : (d : ℕ) → 1 ≤ d → d ≤ t .sizes .clients → (k : ℕ) → k < t .sizes .items → HoldsEntry b views (viewAt d k) (t .view d k)
+  pub view : (d : ℕ) → 1 ≤ d → d ≤ t .sizes .clients → (k : ℕ) → k < t .sizes .items
+      → HoldsEntry b views (viewAt d k) (t .view d k)
   pub client : (d : ℕ) → 1 ≤ d → d ≤ t .sizes .clients → HoldsClient b d (t .client d)
-  pub versions : (i : ℕ) → i < length (t .versions) → (none : Version) → HoldsVersion b i (getD (t .versions) i none)
-  pub messages : (i : ℕ) → i < length (t .messages) → (none : Message) → HoldsMessage b i (getD (t .messages) i none)
+  pub versions : (i : ℕ) → i < length (t .versions) → (none : Version)
+      → HoldsVersion b i (getD (t .versions) i none)
+  pub messages : (i : ℕ) → i < length (t .messages) → (none : Message)
+      → HoldsMessage b i (getD (t .messages) i none)

@@ -35,7 +35,8 @@ size messages = 1024
 abbrev pub needed : ℕ
 needed = 6352
 
--- a word of a section, 0 past the block's end; and the block with another word there, the same block past its end
+-- a word of a section, 0 past the block's end; and the block with another word there, the same
+-- block past its end
 abbrev pub at : List ℕ → Section → ℕ → ℕ
 at b s i = getD b (base s + i) 0
 
@@ -99,7 +100,8 @@ viewAt d k = 128 * (d - 1) + 2 * k
 abbrev pub itemAt : ℕ → ℕ → ℕ
 itemAt d k = 64 * (d - 1) + k
 
--- versions: item, value, stamp, set; messages: kind, client or partition, item, value, stamp, set, latest's stamp, latest's set
+-- versions: item, value, stamp, set; messages: kind, client or partition, item, value, stamp, set,
+-- latest's stamp, latest's set
 abbrev pub versionAt : ℕ → ℕ → ℕ
 versionAt i f = 4 * i + f
 

@@ -1,4 +1,5 @@
--- The changes of a block, one for each field, and for whole entries, versions and messages: what the setters write.
+-- The changes of a block, one for each field, and for whole entries, versions and messages: what
+-- the setters write.
 use mathlib.Core.Bool.{cond}
 use mathlib.Core.List.{List, [], _∷_, _++_}
 use Prim.Native.Nat.{ℕ, zero, suc, _+_, _-_, _*_}
@@ -8,13 +9,16 @@ use Rattle.protocol.specs.declared.Version.{Version}
 use Rattle.protocol.specs.declared.Entry.{Entry}
 use Rattle.protocol.specs.declared.Message.{Message}
 use Rattle.protocol.specs.declared.Message.the-variants.{Prepare, Prepared, Commit, Get, Got}
-use Rattle.layout.specs.Layout.{Section, header, latest, views, versions, messages, base, needed, store, clientsAt, partitionsAt, itemsAt, versionsAt, messagesAt, latestAt, viewAt, versionAt, messageAt}
+use Rattle.layout.specs.Layout.{Section, header, latest, views, versions, messages, base}
+use Rattle.layout.specs.Layout.{needed, store, clientsAt, partitionsAt, itemsAt, versionsAt}
+use Rattle.layout.specs.Layout.{messagesAt, latestAt, viewAt, versionAt, messageAt}
 
 -- ---- sizes
 
 abbrev pub storeSizes : List ℕ → ℕ → ℕ → ℕ → List ℕ
 storeSizes b clients partitions items =
-    store (store (store b header clientsAt clients) header partitionsAt partitions) header itemsAt items
+    store (store (store b header clientsAt clients) header partitionsAt partitions) header itemsAt
+    items
 
 -- the first n words are 0
 unfoldable pub blank : ℕ → List ℕ → List ℕ
@@ -60,7 +64,8 @@ appendVersion b n v = store (storeVersion b n v) header versionsAt (n + 1)
 unfoldable pub appendMessage : List ℕ → ℕ → Message → List ℕ
 appendMessage b n m = store (storeMessage b n m) header messagesAt (n + 1)
 
--- of n messages, the words of those after message i move up by one message, and the count falls by 1
+-- of n messages, the words of those after message i move up by one message, and the count falls by
+-- 1
 unfoldable pub takeOut : List ℕ → ℕ → ℕ → List ℕ
 takeOut b n i =
     let from = base messages + messageAt i 0 in

@@ -10,31 +10,38 @@ use Rattle.frames.specs.declared.StoreFrame.{StoreFrame}
 use Rattle.frames.specs.declared.Parsed.the-variants.{Frame}
 use Rattle.frames.specs.Answers.{answerLine}
 use Rattle.frames.specs.Frames.{frameBytes, frameOf}
-use Rattle.lines.specs.Lines.{callAnswer, callBlock, callOutput, parsedAnswer, parsedBlock, parsedOutput, blank, lineReply}
+use Rattle.lines.specs.Lines.{callAnswer, callBlock, callOutput, parsedAnswer, parsedBlock}
+use Rattle.lines.specs.Lines.{parsedOutput, blank, lineReply}
 
 -- a part from `at` to the end is what is left
 pub rest-whole : (at : ℕ) (f : List ℕ) → take (length f - at) (drop at f) ≡ drop at f
 rest-whole at f = take-all (length f - at) (drop at f) (omega (arith, length-drop at f))
 
 -- what the call of its frame gives is what a line gives
-module _ (b o line : List ℕ) (g : StoreFrame) (n : ℕ) (e : Frame g n ≡ frameOf line) {f : List ℕ} (q : f ≡ frameBytes line) where
-  pub carried-answer : {x : Answer} → x ≡ callAnswer b f o g → x ≡ parsedAnswer b (frameBytes line) o (frameOf line)
+module _ (b o line : List ℕ) (g : StoreFrame) (n : ℕ) (e : Frame g n ≡ frameOf line) {f : List ℕ}
+    (q : f ≡ frameBytes line) where
+  pub carried-answer : {x : Answer} → x ≡ callAnswer b f o g
+      → x ≡ parsedAnswer b (frameBytes line) o (frameOf line)
   unfolding parsedAnswer
   carried-answer k =
       k ∙ ap (λ (x : List ℕ). callAnswer b x o g) q ∙ ap (parsedAnswer b (frameBytes line) o) e
 
-  pub carried-block : {x : List ℕ} → x ≡ callBlock b f o g → x ≡ parsedBlock b (frameBytes line) o (frameOf line)
+  pub carried-block : {x : List ℕ} → x ≡ callBlock b f o g
+      → x ≡ parsedBlock b (frameBytes line) o (frameOf line)
   unfolding parsedBlock
   carried-block k =
       k ∙ ap (λ (x : List ℕ). callBlock b x o g) q ∙ ap (parsedBlock b (frameBytes line) o) e
 
-  pub carried-output : {x : List ℕ} → x ≡ callOutput b f o g → x ≡ parsedOutput b (frameBytes line) o (frameOf line)
+  pub carried-output : {x : List ℕ} → x ≡ callOutput b f o g
+      → x ≡ parsedOutput b (frameBytes line) o (frameOf line)
   unfolding parsedOutput
   carried-output k =
       k ∙ ap (λ (x : List ℕ). callOutput b x o g) q ∙ ap (parsedOutput b (frameBytes line) o) e
 
 -- the reply of what a line's call answers
-pub replied : (b line : List ℕ) (o : List ℕ) {s : List ℕ} {a : Answer} → o ≡ blank → a ≡ parsedAnswer b (frameBytes line) o (frameOf line) → s ≡ parsedOutput b (frameBytes line) o (frameOf line) → answerLine a s ≡ lineReply b line
+pub replied : (b line : List ℕ) (o : List ℕ) {s : List ℕ} {a : Answer} → o ≡ blank
+    → a ≡ parsedAnswer b (frameBytes line) o (frameOf line)
+    → s ≡ parsedOutput b (frameBytes line) o (frameOf line) → answerLine a s ≡ lineReply b line
 replied b line o q e f =
     ap₂ answerLine
     (e ∙ ap (λ (x : List ℕ). parsedAnswer b (frameBytes line) x (frameOf line)) q)

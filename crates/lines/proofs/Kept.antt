@@ -19,7 +19,8 @@ module _ (line : List ℕ) (at c : ℕ) (wide : length line ≡ 534) where
       let short : length (take at line) ≡ at = length-take-le at line (omega arith) in
       ap (λ (n : ℕ). take n (set line at c)) (add-one at)
       ∙ take-suc-set line at c (omega arith)
-      ∙ sym (take-all 534 (take at line ++ c ∷ []) (omega (arith, length-append (take at line) (c ∷ []))))
+      ∙ sym (take-all 534 (take at line ++ c ∷ [])
+      (omega (arith, length-append (take at line) (c ∷ []))))
 
   pub joined-full : 534 ≤ at → take 534 line ≡ joined (take at line) c
   joined-full h =
@@ -39,9 +40,11 @@ module _ (line : List ℕ) (at c : ℕ) (wide : length line ≡ 534) where
 
 -- what answering line l on block b gives: the reply's length, the output and the block after it
 abbrev pub Answered : (b out : List ℕ) (r : ℕ) (o w : List ℕ) → List ℕ → Type 0
-Answered b out r o w l = (r ≡ length (lineReply b l)) × ((o ≡ sets out 0 (lineReply b l)) × (w ≡ lineBlock b l))
+Answered b out r o w l = (r ≡ length (lineReply b l))
+    × ((o ≡ sets out 0 (lineReply b l)) × (w ≡ lineBlock b l))
 
-pub answered-same : (b out : List ℕ) {r : ℕ} {o w l m : List ℕ} → l ≡ m → Answered b out r o w l → Answered b out r o w m
+pub answered-same : (b out : List ℕ) {r : ℕ} {o w l m : List ℕ} → l ≡ m → Answered b out r o w l
+    → Answered b out r o w m
 answered-same b out e a = (
   a .0 ∙ ap (λ (x : List ℕ). length (lineReply b x)) e,
   (
@@ -53,28 +56,34 @@ answered-same b out e a = (
 -- what a byte c behind the bytes kept leads to, where n bytes are kept then, l, of the array u
 abbrev pub FedBy : (b out : List ℕ) (n r : ℕ) (o w u v kept : List ℕ) (c : ℕ) → List ℕ → Type 0
 FedBy b out n r o w u v kept c l =
-    (n ≡ length (keptAfter kept c)) × ((l ≡ keptAfter kept c) × ((r ≡ length (byteReply b kept c)) × ((o ≡ sets out 0 (byteReply b kept c)) × ((w ≡ byteBlock b kept c) × (u ≡ v)))))
+    (n ≡ length (keptAfter kept c))
+    × ((l ≡ keptAfter kept c) × ((r ≡ length (byteReply b kept c))
+    × ((o ≡ sets out 0 (byteReply b kept c)) × ((w ≡ byteBlock b kept c) × (u ≡ v)))))
 
-pub fed-end : (b out kept : List ℕ) (c : ℕ) {r : ℕ} {o w u v l : List ℕ} → eqb c 0x0a ≡ true → l ≡ joined kept c → Answered b out r o w l → u ≡ v → FedBy b out 0 r o w u v kept c []
+pub fed-end : (b out kept : List ℕ) (c : ℕ) {r : ℕ} {o w u v l : List ℕ} → eqb c 0x0a ≡ true
+    → l ≡ joined kept c → Answered b out r o w l → u ≡ v → FedBy b out 0 r o w u v kept c []
 unfolding keptAfter byteReply byteBlock
 fed-end b out kept c e q a x =
     let s = answered-same b out q a in
     rw e (refl, (refl, (s .0, (s .1 .0, (s .1 .1, x)))))
 
-pub fed-within : (b out kept : List ℕ) (c : ℕ) {n : ℕ} {u v l : List ℕ} → eqb c 0x0a ≡ false → n ≡ length (joined kept c) → l ≡ joined kept c → u ≡ v → FedBy b out n 0 out b u v kept c l
+pub fed-within : (b out kept : List ℕ) (c : ℕ) {n : ℕ} {u v l : List ℕ} → eqb c 0x0a ≡ false
+    → n ≡ length (joined kept c) → l ≡ joined kept c → u ≡ v → FedBy b out n 0 out b u v kept c l
 unfolding keptAfter byteReply byteBlock
 fed-within b out kept c e k q x = rw e (k, (q, (refl, (refl, (refl, x)))))
 
 -- ---- the end of the input
 
 abbrev pub EndedBy : (b out : List ℕ) (r : ℕ) (o w kept : List ℕ) → Type 0
-EndedBy b out r o w kept = (r ≡ length (endReply b kept)) × ((o ≡ sets out 0 (endReply b kept)) × (w ≡ endBlock b kept))
+EndedBy b out r o w kept = (r ≡ length (endReply b kept))
+    × ((o ≡ sets out 0 (endReply b kept)) × (w ≡ endBlock b kept))
 
 pub end-none : (b out line : List ℕ) (at : ℕ) → at ≡ 0 → EndedBy b out 0 out b (take at line)
 unfolding endReply endBlock
 end-none b out line at z = rw z (refl, (refl, refl))
 
-pub end-some : (b out kept : List ℕ) {r : ℕ} {o w : List ℕ} → 1 ≤ length kept → Answered b out r o w kept → EndedBy b out r o w kept
+pub end-some : (b out kept : List ℕ) {r : ℕ} {o w : List ℕ} → 1 ≤ length kept
+    → Answered b out r o w kept → EndedBy b out r o w kept
 unfolding endReply endBlock
 end-some b out [] h a = absurd (omega arith)
 end-some b out (x ∷ kept) h a = a

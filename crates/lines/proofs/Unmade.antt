@@ -1,5 +1,7 @@
--- Before an accepted `01` (document 01: frames): on a block of zeros, however long, every well-formed frame but an `01` answers 01, and a
--- malformed line 0f, and neither changes a word; nor does an `01` that isn't accepted. A size of 0 is out of range, so that such a block is refused by 1.
+-- Before an accepted `01` (document 01: frames): on a block of zeros, however long, every
+-- well-formed frame but an `01` answers 01, and a malformed line 0f, and neither changes a word;
+-- nor does an `01` that isn't accepted. A size of 0 is out of range, so that such a block is
+-- refused by 1.
 use mathlib.Core.Bool.{Bool, true, false, false≢true}
 use mathlib.Core.List.{List, [], _∷_}
 use mathlib.Core.Path.{_≡_, refl, ap, _∙_, subst}
@@ -17,14 +19,16 @@ use Rattle.layout.specs.Layout.{needed}
 use Rattle.layout.specs.Decode.{wellFormed, validBlock}
 use Rattle.layout.specs.Store.{freshBlock}
 use Rattle.range.specs.Sized.{sizes}
-use Rattle.store.specs.Calls.{freshRefusalOn, freshAnswerOn, freshAfter, refusalOn, answerOn, blockAfter}
+use Rattle.store.specs.Calls.{freshRefusalOn, freshAnswerOn, freshAfter, refusalOn, answerOn}
+use Rattle.store.specs.Calls.{blockAfter}
 use Rattle.frames.specs.declared.StoreFrame.the-variants.{Fresh, Read, Write, Deliver, Show}
 use Rattle.frames.specs.declared.Parsed.{Parsed}
 use Rattle.frames.specs.declared.Parsed.the-variants.{Frame, Malformed}
 use Rattle.frames.specs.Answers.{answerLine}
 use Rattle.frames.specs.Frames.{frameBytes, frameOf}
 use Rattle.lines.specs.Input.{linesBlock}
-use Rattle.lines.specs.Lines.{callAnswer, callBlock, parsedAnswer, parsedBlock, blank, lineAnswer, lineBlock, lineReply}
+use Rattle.lines.specs.Lines.{callAnswer, callBlock, parsedAnswer, parsedBlock, blank}
+use Rattle.lines.specs.Lines.{lineAnswer, lineBlock, lineReply}
 
 -- every word is 0
 abbrev pub Zeros : List ℕ → Type 0
@@ -75,11 +79,13 @@ module _ (b : List ℕ) (zeros : Zeros b) where
   made-or-kept zero x h = absurd (h refl)
   made-or-kept (suc r) x h = refl
 
-  unmade-parsed : (f o : List ℕ) (p : Parsed) → (parsedAnswer b f o p ≡ Made → ⊥) → parsedBlock b f o p ≡ b
+  unmade-parsed : (f o : List ℕ) (p : Parsed) → (parsedAnswer b f o p ≡ Made → ⊥)
+      → parsedBlock b f o p ≡ b
   unfolding parsedAnswer parsedBlock callAnswer callBlock freshAnswerOn freshAfter
   unmade-parsed f o Malformed h = refl
   unmade-parsed f o (Frame (Fresh clients partitions items) n) h =
-      made-or-kept (freshRefusalOn b (sizes clients partitions items)) (freshBlock b clients partitions items) h
+      made-or-kept (freshRefusalOn b (sizes clients partitions items))
+      (freshBlock b clients partitions items) h
   unmade-parsed f o (Frame (Read client s) n) h = kept _
   unmade-parsed f o (Frame (Write client s) n) h = kept _
   unmade-parsed f o (Frame (Deliver place) n) h = kept _
@@ -89,7 +95,8 @@ module _ (b : List ℕ) (zeros : Zeros b) where
   unmade-line line h = unmade-parsed (frameBytes line) blank (frameOf line) h
 
   -- 01 and 0a
-  pub unmade-reply : (line : List ℕ) → isOther (frameOf line) ≡ true → lineReply b line ≡ 0x30 ∷ 0x31 ∷ 0x0a ∷ []
+  pub unmade-reply : (line : List ℕ) → isOther (frameOf line) ≡ true
+      → lineReply b line ≡ 0x30 ∷ 0x31 ∷ 0x0a ∷ []
   unfolding answerLine bytesOfAnswer bigEndian hexText hexDigit
   unmade-reply line e = rw (other-answer (frameBytes line) blank (frameOf line) e)
 
@@ -102,7 +109,8 @@ NoneMade b [] = Unit
 NoneMade b (line ∷ lines) = (lineAnswer b line ≡ Made → ⊥) × NoneMade (lineBlock b line) lines
 
 -- after any such lines the block is as it was, and so the next other frame answers 01
-pub unmade-lines : (b : List ℕ) → Zeros b → (lines : List (List ℕ)) → NoneMade b lines → linesBlock b lines ≡ b
+pub unmade-lines : (b : List ℕ) → Zeros b → (lines : List (List ℕ)) → NoneMade b lines
+    → linesBlock b lines ≡ b
 unfolding linesBlock
 unmade-lines b zeros [] h = refl
 unmade-lines b zeros (line ∷ lines) h =
@@ -111,7 +119,8 @@ unmade-lines b zeros (line ∷ lines) h =
     ∙ unmade-lines b zeros lines (subst (λ (w : List ℕ). NoneMade w lines) same (h .1))
 
 -- 0f and 0a, on any block
-pub malformed-reply : (b line : List ℕ) → frameOf line ≡ Malformed → lineReply b line ≡ 0x30 ∷ 0x66 ∷ 0x0a ∷ []
+pub malformed-reply : (b line : List ℕ) → frameOf line ≡ Malformed
+    → lineReply b line ≡ 0x30 ∷ 0x66 ∷ 0x0a ∷ []
 unfolding parsedAnswer answerLine bytesOfAnswer bigEndian hexText hexDigit
 malformed-reply b line e = rw e
 

@@ -1,5 +1,5 @@
--- The replies to the bytes of an input, one at a time, are the replies to its lines: what is kept of a line gets the reply of the line,
--- since both are malformed where they differ.
+-- The replies to the bytes of an input, one at a time, are the replies to its lines: what is kept
+-- of a line gets the reply of the line, since both are malformed where they differ.
 use mathlib.Core.List.{List, [], _∷_, _++_, append-nil}
 use mathlib.Core.Path.{_≡_, refl, sym, ap, ap₂, _∙_}
 use Prim.Native.Nat.{ℕ, _<_}
@@ -10,7 +10,8 @@ use lib.Seq.{take-all, take-take, take-append-le, length-take-le}
 use borrow.Author.Tests.{leb-true, leb-false}
 use Rattle.basics.proofs.Cases.{by-test}
 use Rattle.frames.proofs.Reading.{frameOf-long}
-use Rattle.lines.specs.Input.{lastLine, linesFrom, linesOf, repliesTo, joined, keptAfter, byteReply, byteBlock, endReply, inputReply}
+use Rattle.lines.specs.Input.{lastLine, linesFrom, linesOf, repliesTo, joined, keptAfter}
+use Rattle.lines.specs.Input.{byteReply, byteBlock, endReply, inputReply}
 use Rattle.lines.specs.Lines.{lineReply, lineBlock}
 use Rattle.lines.proofs.Unmade.{malformed-reply, malformed-block}
 
@@ -55,7 +56,8 @@ unfolding endReply repliesTo lastLine
 ended b [] = refl
 ended b (x ∷ begun) = kept-reply (x ∷ begun) b ∙ sym (append-nil (lineReply b (x ∷ begun)))
 
-from : (input b begun : List ℕ) → inputReply b (take 534 begun) input ≡ repliesTo b (linesFrom begun input)
+from : (input b begun : List ℕ) → inputReply b (take 534 begun) input ≡ repliesTo b
+    (linesFrom begun input)
 unfolding inputReply linesFrom repliesTo byteReply byteBlock keptAfter
 from [] b begun = ended b begun
 from (c ∷ input) b begun =
@@ -67,7 +69,8 @@ from (c ∷ input) b begun =
     (λ e. rw e
     (ap₂ (λ (x y : List ℕ). x ++ y)
     (ap (lineReply b) here ∙ kept-reply line b)
-    (ap (λ (w : List ℕ). inputReply w [] input) (ap (lineBlock b) here ∙ kept-block line b) ∙ rest)))
+    (ap (λ (w : List ℕ). inputReply w [] input) (ap (lineBlock b) here ∙ kept-block line b)
+    ∙ rest)))
     (λ e. rw e (ap (λ (k : List ℕ). inputReply b k input) here ∙ more))
 
 -- whatever the input and the block

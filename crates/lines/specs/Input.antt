@@ -1,5 +1,6 @@
--- An input, cut into lines after each 0a, and what the driver answers to it: one line a line, each carried out on the block that the line
--- before it left. The driver sees one byte at a time, and keeps at most 534 bytes of a line: no frame's line has more than 533.
+-- An input, cut into lines after each 0a, and what the driver answers to it: one line a line, each
+-- carried out on the block that the line before it left. The driver sees one byte at a time, and
+-- keeps at most 534 bytes of a line: no frame's line has more than 533.
 use mathlib.Core.Bool.{cond}
 use mathlib.Core.List.{List, [], _∷_, _++_}
 use Prim.Native.Nat.{ℕ}
@@ -14,7 +15,8 @@ unfoldable pub lastLine : List ℕ → List (List ℕ)
 lastLine [] = []
 lastLine (x ∷ begun) = (x ∷ begun) ∷ []
 
--- the lines of an input, the first of which has begun: each with its 0a, which the last one may lack
+-- the lines of an input, the first of which has begun: each with its 0a, which the last one may
+-- lack
 unfoldable pub linesFrom : List ℕ → List ℕ → List (List ℕ)
 linesFrom begun [] = lastLine begun
 linesFrom begun (c ∷ input) =
@@ -61,4 +63,5 @@ endBlock b (x ∷ kept) = lineBlock b (x ∷ kept)
 -- all that is answered to these bytes, and at their end
 unfoldable pub inputReply : List ℕ → List ℕ → List ℕ → List ℕ
 inputReply b kept [] = endReply b kept
-inputReply b kept (c ∷ input) = byteReply b kept c ++ inputReply (byteBlock b kept c) (keptAfter kept c) input
+inputReply b kept (c ∷ input) = byteReply b kept c ++ inputReply (byteBlock b kept c)
+    (keptAfter kept c) input

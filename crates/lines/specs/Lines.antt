@@ -1,5 +1,6 @@
--- What a line of the store's driver answers on a block, whatever the line and the words: the call of its frame, 15 where it is malformed
--- (document 01: frames). A showing writes into 586 bytes, as many as the longest log frame has.
+-- What a line of the store's driver answers on a block, whatever the line and the words: the call
+-- of its frame, 15 where it is malformed (document 01: frames). A showing writes into 586 bytes, as
+-- many as the longest log frame has.
 use mathlib.Core.List.{List}
 use Prim.Native.Nat.{ℕ}
 use lib.ListN.{replicate}
@@ -18,14 +19,16 @@ use Rattle.frames.specs.Frames.{frameBytes, frameOf, valueBytes}
 -- ---- the call of a frame, whose bytes are f, with this output lent
 
 unfoldable pub callAnswer : List ℕ → List ℕ → List ℕ → StoreFrame → Answer
-callAnswer b f output (Fresh clients partitions items) = freshAnswerOn b (sizes clients partitions items)
+callAnswer b f output (Fresh clients partitions items) =
+    freshAnswerOn b (sizes clients partitions items)
 callAnswer b f output (Read client s) = answerOn b (startRead client s)
 callAnswer b f output (Write client s) = answerOn b (startWrite client s (valueBytes f))
 callAnswer b f output (Deliver place) = answerOn b (deliver place)
 callAnswer b f output (Show client) = answerOn b (show client output)
 
 unfoldable pub callBlock : List ℕ → List ℕ → List ℕ → StoreFrame → List ℕ
-callBlock b f output (Fresh clients partitions items) = freshAfter b (sizes clients partitions items)
+callBlock b f output (Fresh clients partitions items) =
+    freshAfter b (sizes clients partitions items)
 callBlock b f output (Read client s) = blockAfter b (startRead client s)
 callBlock b f output (Write client s) = blockAfter b (startWrite client s (valueBytes f))
 callBlock b f output (Deliver place) = blockAfter b (deliver place)
@@ -67,4 +70,5 @@ lineBlock b line = parsedBlock b (frameBytes line) blank (frameOf line)
 
 -- the line that answers it
 abbrev pub lineReply : List ℕ → List ℕ → List ℕ
-lineReply b line = answerLine (lineAnswer b line) (parsedOutput b (frameBytes line) blank (frameOf line))
+lineReply b line = answerLine (lineAnswer b line)
+    (parsedOutput b (frameBytes line) blank (frameOf line))

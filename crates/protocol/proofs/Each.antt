@@ -1,5 +1,5 @@
--- What holds of each element of a list holds of lists put together, with one taken out, of one element, or made from numbers that pass
--- a test.
+-- What holds of each element of a list holds of lists put together, with one taken out, of one
+-- element, or made from numbers that pass a test.
 use mathlib.Core.Bool.{Bool, true, false}
 use mathlib.Core.List.{List, [], _∷_, _++_, map}
 use mathlib.Core.Logic.{inl, inr, ⊎-elim}

@@ -1,5 +1,6 @@
--- Document 01's bench examples for the store (★), its whole session, and rows that tell the steps from near misses: one table, proved by
--- computing every answer through the whole definitions, refusal 1 first.
+-- Document 01's bench examples for the store (★), its whole session, and rows that tell the steps
+-- from near misses: one table, proved by computing every answer through the whole definitions,
+-- refusal 1 first.
 use mathlib.Core.Bool.{true, _&&_}
 use mathlib.Core.List.{List, [], _∷_, _++_}
 use mathlib.Core.Path.{_≡_, refl}
@@ -8,8 +9,10 @@ use lib.Dec.{eqb}
 use lib.ListN.{length, drop, replicate}
 use Rattle.basics.specs.Lists.{all}
 use Rattle.protocol.specs.Calls.{startRead, startWrite, deliver, show}
-use Rattle.protocol.proofs.Examples.Table.{Row, freshly, on, onEach, _⇒_, _keeping_, anything, right, pileIs, entryIs}
-use Rattle.protocol.proofs.Examples.Begin.{sizes, entry, loaded, holding, seeing, ahead, spent, crowded, strayed}
+use Rattle.protocol.proofs.Examples.Table.{Row, freshly, on, onEach, _⇒_, _keeping_}
+use Rattle.protocol.proofs.Examples.Table.{anything, right, pileIs, entryIs}
+use Rattle.protocol.proofs.Examples.Begin.{sizes, entry, loaded, holding, seeing, ahead}
+use Rattle.protocol.proofs.Examples.Begin.{spent, crowded, strayed}
 use Rattle.protocol.proofs.Examples.Faults.{faults}
 pub mod Table
 pub mod Begin
@@ -42,12 +45,14 @@ freshTooLarge = record { start = freshly (sizes 9 8 64) "02"; lines = []; after 
 
 -- ---- ★ Load. Of 126, 21 are prepared replies that have come.
 
--- Two lines bring it to 128, and there it stays when the last reply of a write turns its three others into commits.
+-- Two lines bring it to 128, and there it stays when the last reply of a write turns its three
+-- others into commits.
 abbrev loadTwoFit : Row
 loadTwoFit =
     record {
       start = on (loaded 98);
-      lines = startWrite 8 3 (value 5 ++ value 6) ⇒ "00006b" ∷ deliver 0 ⇒ "0002006e02" ∷ startRead 1 1 ⇒ "08" ∷ [];
+      lines = startWrite 8 3 (value 5 ++ value 6) ⇒ "00006b" ∷ deliver 0 ⇒ "0002006e02"
+          ∷ startRead 1 1 ⇒ "08" ∷ [];
       after = anything;
     }
 
@@ -55,7 +60,8 @@ abbrev loadTwoTooMany : Row
 loadTwoTooMany =
     record {
       start = on (loaded 99);
-      lines = startRead 8 3 ⇒ "08" ∷ startWrite 8 3 (value 5 ++ value 6) ⇒ "08" ∷ startRead 8 1 ⇒ "00006b" ∷ [];
+      lines = startRead 8 3 ⇒ "08" ∷ startWrite 8 3 (value 5 ++ value 6) ⇒ "08"
+          ∷ startRead 8 1 ⇒ "00006b" ∷ [];
       after = anything;
     }
 
@@ -66,7 +72,8 @@ abbrev versionsTwoFit : Row
 versionsTwoFit =
     record {
       start = on (holding 510);
-      lines = startWrite 1 3 (value 5 ++ value 6) ⇒ "000002" ∷ startWrite 2 1 (value 5) ⇒ "09" ∷ startRead 2 1 ⇒ "000003" ∷ [];
+      lines = startWrite 1 3 (value 5 ++ value 6) ⇒ "000002" ∷ startWrite 2 1 (value 5) ⇒ "09"
+          ∷ startRead 2 1 ⇒ "000003" ∷ [];
       after = anything;
     }
 
@@ -123,12 +130,14 @@ wholeSession =
           ∷ show 2 (room 28) ⇒ "0021020000000000000003000000010100000007000000010100000008"
           ∷ [];
       after = λ t.
-          entryIs (t .latest 0) 1 1 3 && entryIs (t .latest 1) 0 0 0 && entryIs (t .view 2 0) 1 1 3 && entryIs (t .view 2 1) 0 0 0;
+          entryIs (t .latest 0) 1 1 3 && entryIs (t .latest 1) 0 0 0 && entryIs (t .view 2 0) 1 1 3
+          && entryIs (t .view 2 1) 0 0 0;
     }
 
 -- ---- Near misses
 
--- A desk reads its own write though no commit of it has been delivered. Lines 1 and 2 lie in cabinets 1 and 0.
+-- A desk reads its own write though no commit of it has been delivered. Lines 1 and 2 lie in
+-- cabinets 1 and 0.
 abbrev ownWrite : Row
 ownWrite =
     record {
@@ -147,15 +156,16 @@ ownWrite =
           ∷ deliver 2 ⇒ "0005000400"
           ∷ deliver 2 ⇒ "0005000300"
           ∷ deliver 2 ⇒ "0005000201"
-          ∷ show 1 (room 37) ⇒ "00210100000000000000070000000000000000000000000101000000070000000101ffffffff"
+          ∷ show 1 (room 37) ⇒
+          "00210100000000000000070000000000000000000000000101000000070000000101ffffffff"
           ∷ [];
       after = λ t.
           entryIs (t .view 1 1) 1 1 6 && entryIs (t .view 1 2) 1 1 6
           && pileIs (t .messages) ((3 ∷ 0 ∷ 1 ∷ 1 ∷ []) ∷ (3 ∷ 1 ∷ 1 ∷ 1 ∷ []) ∷ []);
     }
 
--- A write of which one line is stored and replied is in nobody's view, its writer's included, and in no latest: no read asks for its other
--- line.
+-- A write of which one line is stored and replied is in nobody's view, its writer's included, and
+-- in no latest: no read asks for its other line.
 abbrev halfStored : Row
 halfStored =
     record {
@@ -176,11 +186,13 @@ halfStored =
           ∷ [];
       after = λ t.
           eqb (length (t .versions)) 1
-          && entryIs (t .latest 0) 0 0 0 && entryIs (t .view 2 0) 0 0 0 && entryIs (t .view 1 0) 0 0 0 && entryIs (t .view 1 1) 0 0 0;
+          && entryIs (t .latest 0) 0 0 0 && entryIs (t .view 2 0) 0 0 0
+          && entryIs (t .view 1 0) 0 0 0 && entryIs (t .view 1 1) 0 0 0;
     }
 
--- Desk 1's sixth write is later than desk 2's first and second: a commit of the first that comes late changes no latest, and the second
--- doesn't enter its own desk's view. The first read shows desk 2's own write, the next one desk 1's.
+-- Desk 1's sixth write is later than desk 2's first and second: a commit of the first that comes
+-- late changes no latest, and the second doesn't enter its own desk's view. The first read shows
+-- desk 2's own write, the next one desk 1's.
 abbrev lateCommit : Row
 lateCommit =
     record {
@@ -240,7 +252,8 @@ refusals =
       after = anything;
     }
 
--- 7, 8 and 9 all apply to the first write, 8 and 9 to the second; once a message is delivered, 9 alone
+-- 7, 8 and 9 all apply to the first write, 8 and 9 to the second; once a message is delivered, 9
+-- alone
 abbrev firstOfSeveral : Row
 firstOfSeveral =
     record {
@@ -254,10 +267,11 @@ firstOfSeveral =
       after = anything;
     }
 
--- Stray messages. Those that 11 and 12 refuse stay where they are. Gets and commits are delivered whatever their desk does: the get of
--- a version stored twice is answered with the first, a commit of nothing stored does nothing. At a tie latest and view keep their sets.
--- The write is shown with the number of its stamp, which isn't its desk's count. The last read asks for the stamp of line 1's entry on
--- both lines: for line 0 by its set, for line 1 as its own.
+-- Stray messages. Those that 11 and 12 refuse stay where they are. Gets and commits are delivered
+-- whatever their desk does: the get of a version stored twice is answered with the first, a commit
+-- of nothing stored does nothing. At a tie latest and view keep their sets. The write is shown with
+-- the number of its stamp, which isn't its desk's count. The last read asks for the stamp of line
+-- 1's entry on both lines: for line 0 by its set, for line 1 as its own.
 abbrev strays : Row
 strays =
     record {
@@ -297,7 +311,8 @@ abbrev outOfRange : Row
 outOfRange =
     record {
       start = onEach faults;
-      lines = startRead 1 1 ⇒ "01" ∷ startWrite 9 0 [] ⇒ "01" ∷ deliver 0 ⇒ "01" ∷ show 1 (room 1) ⇒ "01" keeping "ee" ∷ [];
+      lines = startRead 1 1 ⇒ "01" ∷ startWrite 9 0 [] ⇒ "01" ∷ deliver 0 ⇒ "01"
+          ∷ show 1 (room 1) ⇒ "01" keeping "ee" ∷ [];
       after = anything;
     }
 

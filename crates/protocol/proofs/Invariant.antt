@@ -1,4 +1,5 @@
--- The invariant of a world: whole stamps, agreeing sets, counts, and one fitting message for each awaited item.
+-- The invariant of a world: whole stamps, agreeing sets, counts, and one fitting message for each
+-- awaited item.
 pub mod Growth
 pub mod Delivery
 pub mod Deliver
@@ -23,7 +24,8 @@ use Rattle.protocol.specs.declared.Version.{Version}
 use Rattle.protocol.specs.declared.Entry.{Entry}
 use Rattle.protocol.specs.declared.Message.{Message}
 use Rattle.protocol.specs.declared.Message.the-variants.{Prepare, Prepared, Commit, Get, Got}
-use Rattle.protocol.specs.Tables.{Client, Mode, idle, reading, writing, stampOf, numberOf, writerOf}
+use Rattle.protocol.specs.Tables.{Client, Mode, idle, reading, writing, stampOf, numberOf}
+use Rattle.protocol.specs.Tables.{writerOf}
 use Rattle.protocol.specs.Range.{Capacities, valid}
 use Rattle.protocol.specs.Steps.{stored}
 use Rattle.protocol.specs.World.{World, Label, Labelled, Write, Store, itemOf, ownerOf}
@@ -51,7 +53,8 @@ Whole h a = (j : ℕ) → has (a .set) j ≡ true → stored (h .versions) j (a 
 
 -- its own prepare of each of its items was delivered before time n
 abbrev pub LandedBefore : History → Write → ℕ → ℕ → Type 0
-LandedBefore h a j n = (σ : Store) × In σ (h .stores) × (σ .start ≡ a .start) × (σ .item ≡ j) × (σ .time < n)
+LandedBefore h a j n = (σ : Store) × In σ (h .stores) × (σ .start ≡ a .start) × (σ .item ≡ j)
+    × (σ .time < n)
 
 -- a stamp, at item k, is of a whole write that wrote the item, or initial
 pub record Sound (h : History) (k s : ℕ) : Type 0 where
@@ -89,7 +92,8 @@ pub record Writes (h : History) (d : ℕ) (c : Client) : Type 0 where
   pub same : write .stamp ≡ c .stamp
   pub agrees : write .set ≡ c .set
   pub values : (k : ℕ) → write .values k ≡ c .values k
-  pub arrived : (k : ℕ) → has (c .set) k ≡ true → has (c .awaited) k ≡ false → stored (h .versions) k (c .stamp) ≡ true
+  pub arrived : (k : ℕ) → has (c .set) k ≡ true → has (c .awaited) k ≡ false
+      → stored (h .versions) k (c .stamp) ≡ true
 
 pub record Reads (h : History) (c : Client) : Type 0 where
   pub within : (k : ℕ) → has (c .awaited) k ≡ true → has (c .set) k ≡ true
@@ -168,15 +172,20 @@ pub record Inv (caps : Capacities) (w : World) : Type 0 where
   pub past : (a : Write) → In a (w .writes) → a .start < w .time
   pub distinct : (a b : Write) → In a (w .writes) → In b (w .writes) → a .start ≡ b .start → a ≡ b
   pub pastStores : (σ : Store) → In σ (w .stores) → (σ .start < w .time) × (σ .time < w .time)
-  pub pastLabels : (l : Labelled) → In l (w .pile) → (l .label .start < w .time) × (l .label .since < w .time)
+  pub pastLabels : (l : Labelled) → In l (w .pile) → (l .label .start < w .time)
+      × (l .label .since < w .time)
   -- one write to a stamp, and no stamp's number is above its client's count
-  pub unique : (a b : Write) → In a (known (w .writes)) → In b (known (w .writes)) → a .stamp ≡ b .stamp → a ≡ b
-  pub counts : (a : Write) → In a (known (w .writes)) → numberOf (a .stamp) ≤ w .tables .client (writerOf (a .stamp)) .count
+  pub unique : (a b : Write) → In a (known (w .writes)) → In b (known (w .writes))
+      → a .stamp ≡ b .stamp → a ≡ b
+  pub counts : (a : Write) → In a (known (w .writes))
+      → numberOf (a .stamp) ≤ w .tables .client (writerOf (a .stamp)) .count
   -- whole or initial is every stamp in a view or a latest
   pub view : (d k : ℕ) → SoundEntry (historyOf w) k (w .tables .view d k)
   pub latest : (k : ℕ) → SoundEntry (historyOf w) k (w .tables .latest k)
   pub versions : (v : Version) → In v (w .tables .versions) → Kept (historyOf w) (w .time) v
   -- each item awaited has exactly one message, and there is no other but commits
-  pub one : (d k : ℕ) → counted (isFor d k) (w .tables .messages) ≡ cond (has (w .tables .client d .awaited) k) 1 0
-  pub fits : (l : Labelled) → In l (w .pile) → Fits (historyOf w) (w .tables .client (ownerOf (l .message))) (l .label) (l .message)
+  pub one : (d k : ℕ) → counted (isFor d k) (w .tables .messages) ≡ cond
+      (has (w .tables .client d .awaited) k) 1 0
+  pub fits : (l : Labelled) → In l (w .pile)
+      → Fits (historyOf w) (w .tables .client (ownerOf (l .message))) (l .label) (l .message)
   pub does : (d : ℕ) → Does (historyOf w) d (w .tables .client d) (w .tables .client d .mode)

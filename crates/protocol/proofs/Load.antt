@@ -1,5 +1,5 @@
--- A start adds to the load one for each item of its set, and a delivery adds nothing: what joins and what has arrived is at most the
--- message that leaves.
+-- A start adds to the load one for each item of its set, and a delivery adds nothing: what joins
+-- and what has arrived is at most the message that leaves.
 use mathlib.Core.Bool.{true, cond}
 use mathlib.Core.List.{List, [], _++_}
 use mathlib.Core.Path.{_≡_, refl, ap, _∙_}
@@ -15,30 +15,40 @@ use Rattle.itemset.proofs.Counts.{count-empty, count-remove}
 use Rattle.itemset.proofs.Members.{length-members}
 use Rattle.protocol.specs.declared.Message.{Message}
 use Rattle.protocol.specs.declared.Message.the-variants.{Prepare, Prepared, Commit, Get, Got}
-use Rattle.protocol.specs.Tables.{Tables, Client, idle, reading, writing, read, write, put, resting, writerOf, withClient, withMessages}
+use Rattle.protocol.specs.Tables.{Tables, Client, idle, reading, writing, read, write, put}
+use Rattle.protocol.specs.Tables.{resting, writerOf, withClient, withMessages}
 use Rattle.protocol.specs.Range.{Capacities, isWriting, arrived, load}
-use Rattle.protocol.specs.Steps.{reader, gets, writer, prepares, isLast, struck, prepared, got, commits, delivered, joined, messageAt}
+use Rattle.protocol.specs.Steps.{reader, gets, writer, prepares, isLast, struck, prepared}
+use Rattle.protocol.specs.Steps.{got, commits, delivered, joined, messageAt}
 use Rattle.protocol.specs.Calls.{startRead, startWrite, deliver, effect}
 use Rattle.protocol.proofs.Ranges.Values.{IsClient, MessageInRange}
 use Rattle.protocol.proofs.Ranges.Tables.{InRange}
-use Rattle.protocol.proofs.Refusals.{AcceptedStart, AcceptedDeliver, Expected, accepted-message}
+use Rattle.protocol.proofs.Refusals.{AcceptedStart, AcceptedDeliver, Expected}
+use Rattle.protocol.proofs.Refusals.{accepted-message}
 use Rattle.protocol.proofs.Delivered.{delivered-messages}
 use Rattle.protocol.proofs.Put.{total-put}
 use Rattle.protocol.proofs.Touched.{length-commits}
 
 -- ---- The load of changed tables
 
-pub load-messages : (t : Tables) (ms : List Message) → load (withMessages t ms) + length (t .messages) ≡ load t + length ms
+pub load-messages : (t : Tables) (ms : List Message)
+    → load (withMessages t ms) + length (t .messages) ≡ load t + length ms
 unfolding load
 load-messages t ms = omega arith
 
-pub load-client : (t : Tables) (d : ℕ) (c : Client) → IsClient (t .sizes) d → load (withClient t d c) + arrived (t .client d) ≡ load t + arrived c
+pub load-client : (t : Tables) (d : ℕ) (c : Client) → IsClient (t .sizes) d
+    → load (withClient t d c) + arrived (t .client d) ≡ load t + arrived c
 unfolding load
-load-client t d c h = omega (arith, total-put arrived (t .client) d c (t .sizes .clients) (h .0) (h .1))
+load-client t d c h = omega (
+  arith,
+  total-put arrived (t .client) d c (t .sizes .clients) (h .0)
+      (h .1),
+)
 
 -- ---- What has arrived
 
-pub arrived-writing : (c : Client) → c .mode ≡ writing → arrived c ≡ count (c .set) - count (c .awaited)
+pub arrived-writing : (c : Client) → c .mode ≡ writing
+    → arrived c ≡ count (c .set) - count (c .awaited)
 unfolding arrived isWriting
 arrived-writing c e = rw e
 
@@ -53,44 +63,70 @@ arrived-idle c e = rw e
 -- ---- Starts
 
 -- client d of t, idle, is replaced by one of whose messages none has arrived, and messages join
-load-start : (t : Tables) (d : ℕ) (c : Client) (ms : List Message) → IsClient (t .sizes) d → t .client d .mode ≡ idle → arrived c ≡ 0
+load-start : (t : Tables) (d : ℕ) (c : Client) (ms : List Message) → IsClient (t .sizes) d
+    → t .client d .mode ≡ idle → arrived c ≡ 0
     → load (withMessages (withClient t d c) (t .messages ++ ms)) ≡ load t + length ms
 load-start t d c ms h rests none =
-    omega (arith, load-messages (withClient t d c) (t .messages ++ ms), length-append (t .messages) ms, load-client t d c h, arrived-idle (t .client d) rests)
+    omega (
+      arith,
+      load-messages (withClient t d c) (t .messages ++ ms),
+      length-append
+          (t .messages) ms,
+      load-client t d c h,
+      arrived-idle (t .client d) rests,
+    )
 
 module _ (caps : Capacities) (t : Tables) (d s : ℕ) (a : AcceptedStart caps t d s) where
   pub load-read : load (effect t (startRead d s)) ≡ load t + count s
   unfolding effect
   load-read =
-      load-start t d (reader t d s) (gets t d s) (a .client) (a .idle) (arrived-reading (reader t d s) refl)
+      load-start t d (reader t d s) (gets t d s) (a .client) (a .idle)
+      (arrived-reading (reader t d s) refl)
       ∙ ap (λ (n : ℕ). load t + n) (simp length-map (length-members s (t .sizes .items) (a .set)))
 
   pub load-write : (bytes : List ℕ) → load (effect t (startWrite d s bytes)) ≡ load t + count s
   unfolding effect
   load-write bytes =
-      load-start t d (writer t d s bytes) (prepares t d s bytes) (a .client) (a .idle) (omega (arith, arrived-writing (writer t d s bytes) refl))
+      load-start t d (writer t d s bytes) (prepares t d s bytes) (a .client) (a .idle)
+      (omega (arith, arrived-writing (writer t d s bytes) refl))
       ∙ ap (λ (n : ℕ). load t + n) (simp length-map (length-members s (t .sizes .items) (a .set)))
 
 -- ---- Deliveries
 
 -- a prepared reply: it has arrived, or it was the last and commits join
-pub arrived-prepared : (t : Tables) (c : Client) (k stamp : ℕ) → c .set < 2 ^ t .sizes .items → c .mode ≡ writing → has (c .awaited) k ≡ true
-    → arrived (prepared c k) + length (cond (isLast c k) (commits t (c .set) stamp) []) ≤ suc (arrived c)
+pub arrived-prepared : (t : Tables) (c : Client) (k stamp : ℕ) → c .set < 2 ^ t .sizes .items
+    → c .mode ≡ writing → has (c .awaited) k ≡ true
+    → arrived (prepared c k) + length (cond (isLast c k) (commits t (c .set) stamp) []) ≤ suc
+    (arrived c)
 arrived-prepared t c k stamp h m e =
     by-test (isLast c k)
     (λ l.
     let ended = write (c .set) (c .stamp) (c .values) in
-    let none : count (remove (c .awaited) k) ≡ 0 = ap count (eqb-true (remove (c .awaited) k) 0 l) ∙ count-empty in
-    rw l (omega (arith, arrived-idle (resting (c .count) ended) refl, arrived-writing c m, count-remove (c .awaited) k e, length-commits t (c .set) stamp h)))
-    (λ l. rw l (omega (arith, arrived-writing (struck c k (c .values)) m, arrived-writing c m, count-remove (c .awaited) k e)))
+    let none : count (remove (c .awaited) k) ≡ 0 =
+    ap count (eqb-true (remove (c .awaited) k) 0 l) ∙ count-empty in
+    rw l (omega (
+      arith,
+      arrived-idle (resting (c .count) ended) refl,
+      arrived-writing c m,
+      count-remove (c .awaited) k e,
+      length-commits t (c .set) stamp h,
+    )))
+    (λ l. rw l (omega (
+      arith,
+      arrived-writing (struck c k (c .values)) m,
+      arrived-writing c m,
+      count-remove (c .awaited) k e,
+    )))
 
 pub arrived-got : (c : Client) (k value : ℕ) → c .mode ≡ reading → arrived (got c k value) ≡ 0
 arrived-got c k value m =
     by-test (isLast c k)
-    (λ l. rw l (arrived-idle (resting (c .count) (read (c .set) (c .asked) (put (c .values) k value))) refl))
+    (λ l. rw l (arrived-idle (resting (c .count) (read (c .set) (c .asked)
+    (put (c .values) k value))) refl))
     (λ l. rw l (arrived-reading (struck c k (put (c .values) k value)) m))
 
-pub load-delivered : (t : Tables) (m : Message) → InRange t → MessageInRange (t .sizes) m → Expected t m
+pub load-delivered : (t : Tables) (m : Message) → InRange t → MessageInRange (t .sizes) m
+    → Expected t m
     → load (delivered t m) + length (joined t m) ≤ suc (load t)
 unfolding delivered joined load
 load-delivered t (Prepare v) r h x = omega arith
@@ -98,14 +134,25 @@ load-delivered t (Prepared k stamp) r h x =
     let d = writerOf stamp in
     let c = t .client d in
     let one : IsClient (t .sizes) d = h .stamp .writer in
-    omega (arith, load-client t d (prepared c k) one, arrived-prepared t c k stamp (r .client d one .set) (x .mode) (x .awaited))
+    omega (
+      arith,
+      load-client t d (prepared c k) one,
+      arrived-prepared t c k stamp
+          (r .client d one .set) (x .mode) (x .awaited),
+    )
 load-delivered t (Commit p stamp) r h x = omega arith
 load-delivered t (Get d k stamp) r h x = omega arith
 load-delivered t (Got d v latest) r h x =
     let c = t .client d in
-    omega (arith, load-client t d (got c (v .item) (v .value)) (h .client), arrived-got c (v .item) (v .value) (x .mode))
+    omega (
+      arith,
+      load-client t d (got c (v .item) (v .value)) (h .client),
+      arrived-got c (v .item)
+          (v .value) (x .mode),
+    )
 
-pub load-deliver : (caps : Capacities) (t : Tables) (i : ℕ) → AcceptedDeliver caps t i → load (effect t (deliver i)) ≤ load t
+pub load-deliver : (caps : Capacities) (t : Tables) (i : ℕ) → AcceptedDeliver caps t i
+    → load (effect t (deliver i)) ≤ load t
 unfolding effect
 load-deliver caps t i a =
     let m = messageAt t i in

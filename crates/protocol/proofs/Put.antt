@@ -1,4 +1,5 @@
--- The laws of a choice, of a function with another value at one place, and of a sum over the clients when one client changes.
+-- The laws of a choice, of a function with another value at one place, and of a sum over the
+-- clients when one client changes.
 use mathlib.Core.Bool.{Bool, true, false, cond}
 use mathlib.Core.Path.{_≡_, refl, sym, ap, subst}
 use mathlib.Core.Logic.{_≢_}
@@ -12,7 +13,8 @@ use Rattle.protocol.specs.Range.{total}
 
 module _ {A : Type 0} where
   -- what holds of each arm, given what the test says, holds of the choice
-  pub by-cond : (P : A → Type 0) (b : Bool) (x y : A) → (b ≡ true → P x) → (b ≡ false → P y) → P (cond b x y)
+  pub by-cond : (P : A → Type 0) (b : Bool) (x y : A) → (b ≡ true → P x) → (b ≡ false → P y)
+      → P (cond b x y)
   by-cond P true x y p q = p refl
   by-cond P false x y p q = q refl
 
@@ -23,7 +25,8 @@ module _ {A : Type 0} where
   put-other f k v j n = rw (ne-eqb j k n)
 
   -- what holds of the value and of the function holds of the new function
-  pub put-all : (P : A → Type 0) (f : ℕ → A) (k : ℕ) (v : A) (j : ℕ) → P v → P (f j) → P (put f k v j)
+  pub put-all : (P : A → Type 0) (f : ℕ → A) (k : ℕ) (v : A) (j : ℕ) → P v → P (f j)
+      → P (put f k v j)
   put-all P f k v j p q = by-cond P (eqb j k) v (f j) (λ e. p) (λ e. q)
 
   -- what holds of the new value at k, and of the others elsewhere, holds everywhere
@@ -40,7 +43,8 @@ module _ {A : Type 0} where
       → total n (λ e. g (put f d c e)) ≡ total n (λ e. g (f e))
   unfolding total
   total-past g f d c zero l = refl
-  total-past g f d c (suc n) l = rw (put-other f d c (suc n) (omega arith), total-past g f d c n (omega arith))
+  total-past g f d c (suc n) l = rw
+      (put-other f d c (suc n) (omega arith), total-past g f d c n (omega arith))
 
   pub total-put : (g : A → ℕ) (f : ℕ → A) (d : ℕ) (c : A) (n : ℕ) → 1 ≤ d → d ≤ n
       → total n (λ e. g (put f d c e)) + g (f d) ≡ total n (λ e. g (f e)) + g c

@@ -16,16 +16,20 @@ use Rattle.protocol.specs.declared.Message.the-variants.{Prepare, Prepar
 use Rattle.protocol.specs.Tables.{Sizes, Tables, idle, reading, writing, writerOf}
 use Rattle.protocol.specs.Range.{Capacities, load, occupied}
 use Rattle.protocol.specs.Steps.{messageAt, stored}
-use Rattle.protocol.specs.Calls.{startRead, startWrite, deliver, show, Test, test, first, unexpected, missing, isNothing, refusal, freshRefusal, shownFrame}
+use Rattle.protocol.specs.Calls.{startRead, startWrite, deliver, show, Test, test, first}
+use Rattle.protocol.specs.Calls.{unexpected, missing, isNothing, refusal, freshRefusal}
+use Rattle.protocol.specs.Calls.{shownFrame}
 use Rattle.protocol.proofs.Tells.{tells}
 use Rattle.protocol.proofs.Each.{Each}
-use Rattle.protocol.proofs.Ranges.Values.{SizesInRange, tells-sizes, IsClient, MessageInRange}
+use Rattle.protocol.proofs.Ranges.Values.{SizesInRange, tells-sizes, IsClient}
+use Rattle.protocol.proofs.Ranges.Values.{MessageInRange}
 use Rattle.protocol.proofs.Ranges.Clients.{tells-idle, tells-reading, tells-writing}
 use Rattle.protocol.proofs.Ranges.Tables.{Valid, tells-valid}
 
 -- ---- The first test that applies
 
-pub tells-first : (n : ℕ) (b : Bool) (xs : List Test) → eqb n 0 ≡ false → (first (test n b ∷ xs) ≡ 0) ↔ ((b ≡ false) × (first xs ≡ 0))
+pub tells-first : (n : ℕ) (b : Bool) (xs : List Test) → eqb n 0 ≡ false
+    → (first (test n b ∷ xs) ≡ 0) ↔ ((b ≡ false) × (first xs ≡ 0))
 unfolding first
 tells-first n true xs z = (λ e. absurd (eqb-false n 0 z e), λ p. not-both refl (p .0))
 tells-first n false xs z = (λ e. (refl, e), λ p. p .1)
@@ -59,14 +63,23 @@ pub record AcceptedWrite (caps : Capacities) (t : Tables) (d s : ℕ) (bytes : L
 
 ruleset tests = (tells-first, tells-valid, tells-idle, tells-reading, tells-writing, tells)
 
-pub accepted-read : (caps : Capacities) (t : Tables) (d s : ℕ) → (refusal caps t (startRead d s) ≡ 0) ↔ AcceptedStart caps t d s
+pub accepted-read : (caps : Capacities) (t : Tables) (d s : ℕ)
+    → (refusal caps t (startRead d s) ≡ 0) ↔ AcceptedStart caps t d s
 unfolding refusal
-accepted-read caps t d s = (λ e. let f = simp tests at e in search, λ a. simp tests (search first-empty))
+accepted-read caps t d s = (
+  λ e. let f = simp tests at e in
+      search,
+  λ a. simp tests (search first-empty),
+)
 
 pub accepted-write : (caps : Capacities) (t : Tables) (d s : ℕ) (bytes : List ℕ)
     → (refusal caps t (startWrite d s bytes) ≡ 0) ↔ AcceptedWrite caps t d s bytes
 unfolding refusal
-accepted-write caps t d s bytes = (λ e. let f = simp tests at e in search, λ a. simp tests (search first-empty))
+accepted-write caps t d s bytes = (
+  λ e. let f = simp tests at e in
+      search,
+  λ a. simp tests (search first-empty),
+)
 
 -- ---- Deliveries
 
@@ -90,20 +103,24 @@ Expected t (Commit p stamp) = Unit
 Expected t (Get d k stamp) = stamp ≢ 0 → stored (t .versions) k stamp ≡ true
 Expected t (Got d v latest) = AwaitedGot t d v
 
-pub tells-expected : (t : Tables) (m : Message) → ((unexpected t m ≡ false) × (missing t m ≡ false)) ↔ Expected t m
+pub tells-expected : (t : Tables) (m : Message) → ((unexpected t m ≡ false) × (missing t m ≡ false))
+    ↔ Expected t m
 unfolding unexpected missing
 tells-expected t (Prepare v) = (λ p. p .0, λ r. (r, refl))
-tells-expected t (Prepared k stamp) = (λ p. let f = simp tests at (p .0) in search, λ r. (simp tests search, refl))
+tells-expected t (Prepared k stamp) =
+    (λ p. let f = simp tests at (p .0) in search, λ r. (simp tests search, refl))
 tells-expected t (Commit p stamp) = (λ p. tt, λ r. (refl, refl))
 tells-expected t (Get d k stamp) = (λ p. simp tests at (p .1), λ r. (refl, simp tests r))
-tells-expected t (Got d v latest) = (λ p. let f = simp tests at (p .0) in search, λ r. (simp tests search, refl))
+tells-expected t (Got d v latest) =
+    (λ p. let f = simp tests at (p .0) in search, λ r. (simp tests search, refl))
 
 pub record AcceptedDeliver (caps : Capacities) (t : Tables) (i : ℕ) : Type 0 where
   pub valid : Valid caps t
   pub place : i < length (t .messages)
   pub expected : Expected t (messageAt t i)
 
-pub accepted-deliver : (caps : Capacities) (t : Tables) (i : ℕ) → (refusal caps t (deliver i) ≡ 0) ↔ AcceptedDeliver caps t i
+pub accepted-deliver : (caps : Capacities) (t : Tables) (i : ℕ) → (refusal caps t (deliver i) ≡ 0)
+    ↔ AcceptedDeliver caps t i
 unfolding refusal
 accepted-deliver caps t i = (
   λ e.
@@ -116,13 +133,19 @@ accepted-deliver caps t i = (
 )
 
 -- the message delivered is in range
-pub accepted-message : (caps : Capacities) (t : Tables) (i : ℕ) → AcceptedDeliver caps t i → MessageInRange (t .sizes) (messageAt t i)
-accepted-message caps t i a = a .valid .inRange .messages (messageAt t i) (in-getD (t .messages) i (Commit 0 0) (a .place))
+pub accepted-message : (caps : Capacities) (t : Tables) (i : ℕ) → AcceptedDeliver caps t i
+    → MessageInRange (t .sizes) (messageAt t i)
+accepted-message caps t i a = a .valid .inRange .messages (messageAt t i)
+    (in-getD (t .messages) i (Commit 0 0) (a .place))
 
 -- ---- Fresh starts and showings
 
 pub accepted-fresh : (z : Sizes) → (freshRefusal z ≡ 0) ↔ SizesInRange z
-accepted-fresh z = (λ e. let f = simp (tests, tells-sizes) at e in search, λ r. simp (tests, tells-sizes) (search first-empty))
+accepted-fresh z = (
+  λ e. let f = simp (tests, tells-sizes) at e in
+      search,
+  λ r. simp (tests, tells-sizes) (search first-empty),
+)
 
 pub record AcceptedShow (caps : Capacities) (t : Tables) (d : ℕ) (output : List ℕ) : Type 0 where
   pub valid : Valid caps t
@@ -134,4 +157,8 @@ pub record AcceptedShow (caps : Capacities) (t : Tables) (d : ℕ) (output : Lis
 pub accepted-show : (caps : Capacities) (t : Tables) (d : ℕ) (output : List ℕ)
     → (refusal caps t (show d output) ≡ 0) ↔ AcceptedShow caps t d output
 unfolding refusal
-accepted-show caps t d output = (λ e. let f = simp tests at e in search, λ a. simp tests (search first-empty))
+accepted-show caps t d output = (
+  λ e. let f = simp tests at e in
+      search,
+  λ a. simp tests (search first-empty),
+)

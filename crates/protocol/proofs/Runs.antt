@@ -1,4 +1,5 @@
--- Lists of calls from a world with the invariant: runs, spans of reads and writes, and each clause of condition 3.
+-- Lists of calls from a world with the invariant: runs, spans of reads and writes, and each clause
+-- of condition 3.
 pub mod Run
 pub mod Touch
 pub mod ReadSpan

@@ -1,15 +1,18 @@
--- A showing's frame gives back what it shows: its length, its head, and of each item the stamp and the value, read at the item's rank.
--- Entries are of equal length, so the entry of a place begins at a multiple of it.
+-- A showing's frame gives back what it shows: its length, its head, and of each item the stamp and
+-- the value, read at the item's rank. Entries are of equal length, so the entry of a place begins
+-- at a multiple of it.
 use mathlib.Core.Bool.{true}
 use mathlib.Core.List.{List, [], _∷_, _++_, append-assoc}
 use mathlib.Core.Path.{_≡_, refl, sym, ap, ap₂, _∙_}
 use Prim.Native.Nat.{ℕ, zero, suc, _+_, _*_, _%_, _^_, _≤_, _<_}
-use native.Mathlib.Nat.{mul-zero, mul-suc, zero-add, mod-eq-of-lt, not-suc-le-zero, le-of-suc-le-suc}
+use native.Mathlib.Nat.{mul-zero, mul-suc, zero-add, mod-eq-of-lt, not-suc-le-zero}
+use native.Mathlib.Nat.{le-of-suc-le-suc}
 use native.Mathlib.Omega.{arith}
 use lib.ListN.{length, getD, take, length-append}
 use lib.Seq.{take-at}
 use Rattle.hex.specs.Number.{numberAt, bigEndian}
-use Rattle.hex.proofs.Number.{length-bigEndian, numberAt-append, numberAt-append-add, numberAt-append-bigEndian}
+use Rattle.hex.proofs.Number.{length-bigEndian, numberAt-append, numberAt-append-add}
+use Rattle.hex.proofs.Number.{numberAt-append-bigEndian}
 use Rattle.itemset.specs.Set.{has, count, rank, members}
 use Rattle.itemset.proofs.Laws.{has-below}
 use Rattle.itemset.proofs.Counts.{rank-lt}
@@ -38,7 +41,8 @@ module _ (f : ℕ → List ℕ) (n : ℕ) (each : (k : ℕ) → length (f k) ≡
   listed-at (k ∷ ks) rest m (suc i) j h l =
       let place : n * suc i + j ≡ length (f k) + (n * i + j) = omega (arith, each k, mul-suc n i) in
       rw (append-assoc, place)
-      (numberAt-append-add m (f k) (listed f ks ++ rest) (n * i + j) ∙ listed-at ks rest m i j h (le-of-suc-le-suc l))
+      (numberAt-append-add m (f k) (listed f ks ++ rest) (n * i + j)
+      ∙ listed-at ks rest m i j h (le-of-suc-le-suc l))
 
 -- ---- the parts of a frame
 
@@ -66,16 +70,31 @@ pub length-frame-read : (d s : ℕ) (stamps values : ℕ → ℕ) → s < 2 ^ 64
 unfolding frame
 length-frame-read d s stamps values below =
     length-append (head 0x21 d s) (entries s stamps values)
-    ∙ omega (arith, length-head 0x21 d s, length-listed (entryOf stamps values) 9 (length-entryOf stamps values) (members 64 s), length-members s 64 below)
+    ∙ omega (
+      arith,
+      length-head 0x21 d s,
+      length-listed (entryOf stamps values) 9
+          (length-entryOf stamps values) (members 64 s),
+      length-members s 64 below,
+    )
 
 pub length-frame-write : (d s stamp : ℕ) (values : ℕ → ℕ) → s < 2 ^ 64
     → length (frame d (write s stamp values)) ≡ 14 + 4 * count s
 unfolding frame
 length-frame-write d s stamp values below =
     let number = bigEndian 4 (numberOf stamp) in
-    let each = length-listed (λ k. bigEndian 4 (values k)) 4 (λ k. length-bigEndian 4 (values k)) (members 64 s) in
+    let each = length-listed (λ k. bigEndian 4 (values k)) 4 (λ k. length-bigEndian 4 (values k))
+    (members 64 s) in
     length-append (head 0x20 d s ++ number) (listed (λ k. bigEndian 4 (values k)) (members 64 s))
-    ∙ omega (arith, length-append (head 0x20 d s) number, length-head 0x20 d s, length-bigEndian 4 (numberOf stamp), each, length-members s 64 below)
+    ∙ omega (
+      arith,
+      length-append (head 0x20 d s) number,
+      length-head 0x20 d s,
+      length-bigEndian 4
+          (numberOf stamp),
+      each,
+      length-members s 64 below,
+    )
 
 -- ---- what a read shows: the head
 
@@ -83,54 +102,71 @@ module _ (d s : ℕ) (stamps values : ℕ → ℕ) (rest : List ℕ) where
   pub frame-head : take 10 (frame d (read s stamps values) ++ rest) ≡ 0x21 ∷ d % 256 ∷ bigEndian 8 s
   unfolding frame bigEndian
   frame-head =
-      rw append-assoc (take-at (head 0x21 d s) (entries s stamps values ++ rest) 10 (length-head 0x21 d s))
+      rw append-assoc (take-at (head 0x21 d s) (entries s stamps values ++ rest) 10
+      (length-head 0x21 d s))
 
-  pub frame-head-client : d < 256 → take 10 (frame d (read s stamps values) ++ rest) ≡ 0x21 ∷ d ∷ bigEndian 8 s
+  pub frame-head-client : d < 256 → take 10 (frame d (read s stamps values) ++ rest) ≡ 0x21 ∷ d
+      ∷ bigEndian 8 s
   frame-head-client h = frame-head ∙ ap (λ (b : ℕ). 0x21 ∷ b ∷ bigEndian 8 s) (mod-eq-of-lt h)
 
 -- ---- what a read shows: its item k
 
-module _ (d s : ℕ) (stamps values : ℕ → ℕ) (rest : List ℕ) (k : ℕ) (member : has s k ≡ true) (below : s < 2 ^ 64) where
+module _ (d s : ℕ) (stamps values : ℕ → ℕ) (rest : List ℕ) (k : ℕ) (member : has s k ≡ true)
+    (below : s < 2 ^ 64) where
   -- what stands at j in the item's entry
   pub shown-at : (m j : ℕ) → j + m ≤ 9
-      → numberAt m (frame d (read s stamps values) ++ rest) (10 + j + 9 * rank s k) ≡ numberAt m (shownEntry (stamps k) (values k)) j
+      → numberAt m (frame d (read s stamps values) ++ rest) (10 + j + 9 * rank s k) ≡ numberAt m
+      (shownEntry (stamps k) (values k)) j
   unfolding frame
   shown-at m j h =
       let first : length (head 0x21 d s) ≡ 10 = length-head 0x21 d s in
-      let place : 10 + j + 9 * rank s k ≡ length (head 0x21 d s) + (9 * rank s k + j) = omega arith in
-      let inside : rank s k < length (members 64 s) = omega (arith, rank-lt s k member, length-members s 64 below) in
+      let place : 10 + j + 9 * rank s k ≡ length (head 0x21 d s) + (9 * rank s k + j) =
+      omega arith in
+      let inside : rank s k < length (members 64 s) =
+      omega (arith, rank-lt s k member, length-members s 64 below) in
       ap₂ (numberAt m) (append-assoc (head 0x21 d s) (entries s stamps values) rest) place
       ∙ numberAt-append-add m (head 0x21 d s) (entries s stamps values ++ rest) (9 * rank s k + j)
-      ∙ listed-at (entryOf stamps values) 9 (length-entryOf stamps values) (members 64 s) rest m (rank s k) j h inside
-      ∙ ap (λ (i : ℕ). numberAt m (entryOf stamps values i) j) (members-at s k 64 (has-below s k 64 below member) member)
+      ∙ listed-at (entryOf stamps values) 9 (length-entryOf stamps values) (members 64 s) rest m
+      (rank s k) j h inside
+      ∙ ap (λ (i : ℕ). numberAt m (entryOf stamps values i) j)
+      (members-at s k 64 (has-below s k 64 below member) member)
 
   -- a number that is written between two parts of the item's entry
-  shown-field : (m x : ℕ) (before after : List ℕ) → entryOf stamps values k ≡ before ++ bigEndian m x ++ after → x < 256 ^ m
+  shown-field : (m x : ℕ) (before after : List ℕ)
+      → entryOf stamps values k ≡ before ++ bigEndian m x ++ after → x < 256 ^ m
       → numberAt m (frame d (read s stamps values) ++ rest) (10 + length before + 9 * rank s k) ≡ x
   shown-field m x before after e h =
-      let whole : length (before ++ bigEndian m x ++ after) ≡ 9 = rw e at (length-entryOf stamps values k) in
-      let parts : length before + length (bigEndian m x) + length after ≡ 9 = simp length-append at whole in
+      let whole : length (before ++ bigEndian m x ++ after) ≡ 9 =
+      rw e at (length-entryOf stamps values k) in
+      let parts : length before + length (bigEndian m x) + length after ≡ 9 =
+      simp length-append at whole in
       shown-at m (length before) (omega (arith, length-bigEndian m x))
       ∙ ap (λ (t : List ℕ). numberAt m t (length before)) e
       ∙ numberAt-append-bigEndian m x before after h
 
   pub shown-number : numberOf (stamps k) < 2 ^ 32
-      → numberAt 4 (frame d (read s stamps values) ++ rest) (10 + 9 * rank s k) ≡ numberOf (stamps k)
+      → numberAt 4 (frame d (read s stamps values) ++ rest) (10 + 9 * rank s k) ≡ numberOf
+      (stamps k)
   unfolding bigEndian
   shown-number h =
-      shown-field 4 (numberOf (stamps k)) [] (bigEndian 1 (writerOf (stamps k)) ++ bigEndian 4 (values k)) refl h
+      shown-field 4 (numberOf (stamps k)) []
+      (bigEndian 1 (writerOf (stamps k)) ++ bigEndian 4 (values k)) refl h
 
-  pub shown-writer : numberAt 1 (frame d (read s stamps values) ++ rest) (14 + 9 * rank s k) ≡ writerOf (stamps k)
+  pub shown-writer : numberAt 1 (frame d (read s stamps values) ++ rest)
+      (14 + 9 * rank s k) ≡ writerOf (stamps k)
   unfolding bigEndian
   shown-writer =
-      shown-field 1 (writerOf (stamps k)) (bigEndian 4 (numberOf (stamps k))) (bigEndian 4 (values k)) refl (omega arith)
+      shown-field 1 (writerOf (stamps k)) (bigEndian 4 (numberOf (stamps k)))
+      (bigEndian 4 (values k)) refl (omega arith)
 
   pub shown-value : values k < 2 ^ 32
       → numberAt 4 (frame d (read s stamps values) ++ rest) (15 + 9 * rank s k) ≡ values k
   unfolding bigEndian
   shown-value h =
-      shown-field 4 (values k) (bigEndian 4 (numberOf (stamps k)) ++ bigEndian 1 (writerOf (stamps k))) [] refl h
+      shown-field 4 (values k) (bigEndian 4 (numberOf (stamps k)) ++ bigEndian 1
+      (writerOf (stamps k))) [] refl h
 
   pub shown-stamp : numberOf (stamps k) < 2 ^ 32
-      → stampOf (numberAt 4 (frame d (read s stamps values) ++ rest) (10 + 9 * rank s k)) (numberAt 1 (frame d (read s stamps values) ++ rest) (14 + 9 * rank s k)) ≡ stamps k
+      → stampOf (numberAt 4 (frame d (read s stamps values) ++ rest) (10 + 9 * rank s k))
+      (numberAt 1 (frame d (read s stamps values) ++ rest) (14 + 9 * rank s k)) ≡ stamps k
   shown-stamp h = omega (arith, shown-number h, shown-writer)

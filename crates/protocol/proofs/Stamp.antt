@@ -1,4 +1,5 @@
--- A stamp kept as one number has the paper's order: with a client below 16, number and client are its digits to the base 16.
+-- A stamp kept as one number has the paper's order: with a client below 16, number and client are
+-- its digits to the base 16.
 use mathlib.Core.Logic.{_⊎_, inl, inr, ⊎-elim, _↔_}
 use mathlib.Core.Path.{_≡_}
 use Prim.Native.Nat.{ℕ, _≤_, _<_}
@@ -22,7 +23,8 @@ stampOf-parts stamp = omega arith
 
 -- ---- the greater number is later; with equal numbers, the greater client
 
-pub stamp-order : (n d m e : ℕ) → d < 16 → e < 16 → (stampOf n d < stampOf m e) ↔ ((n < m) ⊎ ((n ≡ m) × (d < e)))
+pub stamp-order : (n d m e : ℕ) → d < 16 → e < 16 → (stampOf n d < stampOf m e)
+    ↔ ((n < m) ⊎ ((n ≡ m) × (d < e)))
 stamp-order n d m e l k = (earlier, later)
   where
     earlier : stampOf n d < stampOf m e → (n < m) ⊎ ((n ≡ m) × (d < e))

@@ -8,7 +8,8 @@ use native.Mathlib.Nat.{le-refl}
 use native.Mathlib.Omega.{arith}
 use lib.Dec.{eqb, leb}
 use borrow.Author.Tests.{eqb-true, eqb-false, leb-true, leb-false}
-use Rattle.basics.proofs.Cases.{by-test, not-both, and-left, and-right, or-cases, or-left, or-right, eqb-same}
+use Rattle.basics.proofs.Cases.{by-test, not-both, and-left, and-right, or-cases, or-left, or-right}
+use Rattle.basics.proofs.Cases.{eqb-same}
 use Rattle.basics.specs.Lists.{In}
 use Rattle.itemset.specs.Set.{has}
 use Rattle.protocol.specs.declared.Version.{Version}
@@ -22,7 +23,8 @@ unfolding stored
 in-stored v [] i = absurd i
 in-stored v (u ∷ us) (inl e) =
     or-left (alike (v .item) (v .stamp) u) (stored us (v .item) (v .stamp))
-    (subst (λ (x : Version). (eqb (x .item) (v .item) && eqb (x .stamp) (v .stamp)) ≡ true) e (rw (eqb-same (v .item)) (eqb-same (v .stamp))))
+    (subst (λ (x : Version). (eqb (x .item) (v .item) && eqb (x .stamp) (v .stamp)) ≡ true) e
+    (rw (eqb-same (v .item)) (eqb-same (v .stamp))))
 in-stored v (u ∷ us) (inr i) =
     or-right (alike (v .item) (v .stamp) u) (stored us (v .item) (v .stamp)) (in-stored v us i)
 
@@ -40,7 +42,8 @@ held-here u us k s a =
       stamp = eqb-true (u .stamp) s (and-right (eqb (u .item) k) (eqb (u .stamp) s) a);
     }
 
-held-later : (u : Version) (us : List Version) (k s : ℕ) (v : Version) → Held us k s v → Held (u ∷ us) k s v
+held-later : (u : Version) (us : List Version) (k s : ℕ) (v : Version) → Held us k s v
+    → Held (u ∷ us) k s v
 held-later u us k s v h = record { isIn = inr (h .isIn); item = h .item; stamp = h .stamp }
 
 pub found-held : (vs : List Version) (k s : ℕ) → stored vs k s ≡ true → Held vs k s (found vs k s)
@@ -49,22 +52,28 @@ found-held [] k s e = not-both e refl
 found-held (u ∷ us) k s e =
     by-test (alike k s u)
     (λ a. rw a (held-here u us k s a))
-    (λ a. rw a (held-later u us k s (found us k s) (found-held us k s (⊎-elim (λ x. not-both x a) (λ x. x) (or-cases (alike k s u) (stored us k s) e)))))
+    (λ a. rw a (held-later u us k s (found us k s) (found-held us k s
+    (⊎-elim (λ x. not-both x a) (λ x. x) (or-cases (alike k s u) (stored us k s) e)))))
 
-pub stored-append : (vs us : List Version) (k stamp : ℕ) → stored (vs ++ us) k stamp ≡ (stored vs k stamp || stored us k stamp)
+pub stored-append : (vs us : List Version) (k stamp : ℕ)
+    → stored (vs ++ us) k stamp ≡ (stored vs k stamp || stored us k stamp)
 unfolding stored
 stored-append [] us k stamp = refl
 stored-append (v ∷ vs) us k stamp =
     by-test (alike k stamp v) (λ e. rw e refl) (λ e. rw e (stored-append vs us k stamp))
 
-pub stored-more : (vs us : List Version) (k stamp : ℕ) → stored vs k stamp ≡ true → stored (vs ++ us) k stamp ≡ true
-stored-more vs us k stamp e = stored-append vs us k stamp ∙ or-left (stored vs k stamp) (stored us k stamp) e
+pub stored-more : (vs us : List Version) (k stamp : ℕ) → stored vs k stamp ≡ true
+    → stored (vs ++ us) k stamp ≡ true
+stored-more vs us k stamp e = stored-append vs us k stamp
+    ∙ or-left (stored vs k stamp) (stored us k stamp) e
 
-pub not-found : (vs : List Version) (k stamp : ℕ) → stored vs k stamp ≡ false → found vs k stamp .value ≡ 0
+pub not-found : (vs : List Version) (k stamp : ℕ) → stored vs k stamp ≡ false
+    → found vs k stamp .value ≡ 0
 unfolding stored found
 not-found [] k stamp e = refl
 not-found (u ∷ us) k stamp e =
-    by-test (alike k stamp u) (λ a. not-both (or-left (alike k stamp u) (stored us k stamp) a) e) (λ a. rw a (not-found us k stamp (rw a at e)))
+    by-test (alike k stamp u) (λ a. not-both (or-left (alike k stamp u) (stored us k stamp) a) e)
+    (λ a. rw a (not-found us k stamp (rw a at e)))
 
 -- ---- choice
 
@@ -73,7 +82,8 @@ unfolding choice
 choice-own view k zero = le-refl (view k .stamp)
 choice-own view k (suc n) = omega (arith, choice-own view k n)
 
-pub choice-ge : (view : ℕ → Entry) (k n j : ℕ) → j < n → has (view j .set) k ≡ true → view j .stamp ≤ choice view k n
+pub choice-ge : (view : ℕ → Entry) (k n j : ℕ) → j < n → has (view j .set) k ≡ true
+    → view j .stamp ≤ choice view k n
 unfolding choice
 choice-ge view k (suc n) j h e =
     by-test (eqb j n)
@@ -90,24 +100,37 @@ pub record Chosen (view : ℕ → Entry) (k n : ℕ) : Type 0 where
   pub stamp : choice view k n ≡ view place .stamp
   pub why : (place ≡ k) ⊎ ((place < n) × (has (view place .set) k ≡ true))
 
--- the choice of the first n entries stays the choice, or entry n is later and has the item in its set
+-- the choice of the first n entries stays the choice, or entry n is later and has the item in its
+-- set
 chosen-stays : (view : ℕ → Entry) (k n m : ℕ) → m ≤ choice view k n → Chosen view k n
-    → (x : ℕ) → x ≡ max (choice view k n) m → (p : ℕ) × (x ≡ view p .stamp) × ((p ≡ k) ⊎ ((p < suc n) × (has (view p .set) k ≡ true)))
-chosen-stays view k n m h r x e =
-    (r .place, omega (arith, r .stamp), ⊎-elim (λ q. inl q) (λ q. inr (omega (arith, q .0), q .1)) (r .why))
+    → (x : ℕ) → x ≡ max (choice view k n) m → (p : ℕ) × (x ≡ view p .stamp)
+    × ((p ≡ k) ⊎ ((p < suc n) × (has (view p .set) k ≡ true)))
+chosen-stays view k n m h r x e = (
+  r .place,
+  omega (arith, r .stamp),
+  ⊎-elim (λ q. inl q) (λ q. inr (omega (arith, q .0), q .1))
+      (r .why),
+)
 
 pub choice-chosen : (view : ℕ → Entry) (k n : ℕ) → Chosen view k n
 unfolding choice
 choice-chosen view k zero = record { place = k; stamp = refl; why = inl refl }
 choice-chosen view k (suc n) = go (choice-chosen view k n)
   where
-    made : (p : ℕ) × (choice view k (suc n) ≡ view p .stamp) × ((p ≡ k) ⊎ ((p < suc n) × (has (view p .set) k ≡ true))) → Chosen view k (suc n)
+    made : (p : ℕ) × (choice view k (suc n) ≡ view p .stamp)
+        × ((p ≡ k) ⊎ ((p < suc n) × (has (view p .set) k ≡ true))) → Chosen view k (suc n)
     made q = record { place = q .0; stamp = q .1; why = q .2 }
 
     go : Chosen view k n → Chosen view k (suc n)
     go r =
         by-test (has (view n .set) k)
         (λ e. by-test (leb (view n .stamp) (choice view k n))
-        (λ l. made (chosen-stays view k n (view n .stamp) (leb-true (view n .stamp) (choice view k n) l) r (choice view k (suc n)) (rw e refl)))
-        (λ l. record { place = n; stamp = rw e (omega (arith, leb-false (view n .stamp) (choice view k n) l)); why = inr (omega arith, e) }))
+        (λ l. made (chosen-stays view k n (view n .stamp)
+        (leb-true (view n .stamp) (choice view k n) l) r (choice view k (suc n)) (rw e refl)))
+        (λ l. record {
+          place = n;
+          stamp = rw e (omega
+              (arith, leb-false (view n .stamp) (choice view k n) l));
+          why = inr (omega arith, e);
+        }))
         (λ e. made (chosen-stays view k n 0 (omega arith) r (choice view k (suc n)) (rw e refl)))

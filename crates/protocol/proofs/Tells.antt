@@ -1,13 +1,16 @@
--- What a test tells, as one law for each test that goes both ways: `simp tells at e` turns a chain of tests into plain facts,
--- and `simp tells` turns the chain to prove into the facts that prove it.
+-- What a test tells, as one law for each test that goes both ways: `simp tells at e` turns a chain
+-- of tests into plain facts, and `simp tells` turns the chain to prove into the facts that prove
+-- it.
 use mathlib.Core.Bool.{Bool, true, false, not, Bool·beq, _&&_, _||_}
 use mathlib.Core.List.{List}
 use mathlib.Core.Logic.{_↔_, _≢_}
 use mathlib.Core.Path.{_≡_, refl, sym}
 use Prim.Native.Nat.{ℕ, _≤_, _<_}
 use lib.Dec.{eqb, ltb, leb}
-use borrow.Author.Tests.{leb-true, leb-false, ltb-true, ltb-false, eqb-true, eqb-false, eq-eqb, ne-eqb, lt-ltb, le-ltb, le-leb, lt-leb}
-use Rattle.basics.proofs.Cases.{not-both, and-left, and-right, and-both, not-true, not-false, beq-true, or-neither}
+use borrow.Author.Tests.{leb-true, leb-false, ltb-true, ltb-false, eqb-true, eqb-false, eq-eqb}
+use borrow.Author.Tests.{ne-eqb, lt-ltb, le-ltb, le-leb, lt-leb}
+use Rattle.basics.proofs.Cases.{not-both, and-left, and-right, and-both, not-true, not-false}
+use Rattle.basics.proofs.Cases.{beq-true, or-neither}
 use Rattle.basics.specs.Lists.{In, all, every}
 use Rattle.basics.proofs.Lists.{all-in, in-all, every-at, at-every}
 
@@ -61,7 +64,23 @@ tells-ne a b = (eqb-false a b, ne-eqb a b)
 pub tells-every : (n : ℕ) (p : ℕ → Bool) → (every n p ≡ true) ↔ ((k : ℕ) → k < n → p k ≡ true)
 tells-every n p = (every-at n p, at-every n p)
 
-pub tells-all : {A : Type 0} (p : A → Bool) (xs : List A) → (all p xs ≡ true) ↔ ((x : A) → In x xs → p x ≡ true)
+pub tells-all : {A : Type 0} (p : A → Bool) (xs : List A) → (all p xs ≡ true)
+    ↔ ((x : A) → In x xs → p x ≡ true)
 tells-all p xs = (all-in p xs, in-all p xs)
 
-pub ruleset tells = (tells-and, tells-or, tells-neither, tells-not, tells-not-false, tells-same, tells-lt, tells-not-lt, tells-le, tells-not-le, tells-eq, tells-ne, tells-every, tells-all)
+pub ruleset tells = (
+  tells-and,
+  tells-or,
+  tells-neither,
+  tells-not,
+  tells-not-false,
+  tells-same,
+  tells-lt,
+  tells-not-lt,
+  tells-le,
+  tells-not-le,
+  tells-eq,
+  tells-ne,
+  tells-every,
+  tells-all,
+)

@@ -1,4 +1,5 @@
--- A set touches at most as many partitions as it has items: each item, taken in turn, touches at most one more.
+-- A set touches at most as many partitions as it has items: each item, taken in turn, touches at
+-- most one more.
 use mathlib.Core.Bool.{Bool, true, false, cond, _&&_, _||_}
 use mathlib.Core.Path.{_≡_, refl}
 use Prim.Native.Nat.{ℕ, zero, suc, _+_, _-_, _^_, _≤_, _<_, min}
@@ -27,10 +28,19 @@ either-more : (a b : Bool) → cond (a || b) 1 0 ≤ cond a 1 0 + cond b 1 0
 either-more true b = omega arith
 either-more false b = omega arith
 
-length-either : (m : ℕ) (p q : ℕ → Bool) → length (upto m (λ k. p k || q k)) ≤ length (upto m p) + length (upto m q)
+length-either : (m : ℕ) (p q : ℕ → Bool)
+    → length (upto m (λ k. p k || q k)) ≤ length (upto m p) + length (upto m q)
 length-either zero p q = omega (arith, length-zero (λ k. p k || q k))
 length-either (suc m) p q =
-    omega (arith, length-upto-suc m (λ k. p k || q k), length-upto-suc m p, length-upto-suc m q, length-either m p q, either-more (p m) (q m))
+    omega (
+      arith,
+      length-upto-suc m
+          (λ k. p k || q k),
+      length-upto-suc m p,
+      length-upto-suc m q,
+      length-either m p q,
+      either-more (p m) (q m),
+    )
 
 length-one : (m j : ℕ) → length (upto m (eqb j)) ≤ min 1 (m - j)
 length-one zero j = omega (arith, length-zero (eqb j))
@@ -46,7 +56,8 @@ length-item : (m j : ℕ) (b : Bool) → length (upto m (λ p. b && eqb j p)) �
 length-item m j true = omega (arith, length-one m j)
 length-item m j false = omega (arith, length-none m (λ p. false) (λ p. refl))
 
-length-touched : (t : Tables) (s n : ℕ) → length (upto (t .sizes .partitions) (λ p. touches t s p n)) ≤ rank s n
+length-touched : (t : Tables) (s n : ℕ)
+    → length (upto (t .sizes .partitions) (λ p. touches t s p n)) ≤ rank s n
 unfolding touches
 length-touched t s zero = omega (arith, length-none (t .sizes .partitions) (λ p. false) (λ p. refl))
 length-touched t s (suc n) =
@@ -59,5 +70,7 @@ length-touched t s (suc n) =
       rank-suc s n,
     )
 
-pub length-commits : (t : Tables) (s stamp : ℕ) → s < 2 ^ t .sizes .items → length (commits t s stamp) ≤ count s
-length-commits t s stamp h = simp length-map (omega (arith, length-touched t s (t .sizes .items), rank-all s (t .sizes .items) h))
+pub length-commits : (t : Tables) (s stamp : ℕ) → s < 2 ^ t .sizes .items
+    → length (commits t s stamp) ≤ count s
+length-commits t s stamp h = simp length-map
+    (omega (arith, length-touched t s (t .sizes .items), rank-all s (t .sizes .items) h))

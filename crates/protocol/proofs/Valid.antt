@@ -1,4 +1,5 @@
--- An accepted call leaves valid tables: in range, with a load and stored versions within the bounds. So does a fresh start.
+-- An accepted call leaves valid tables: in range, with a load and stored versions within the
+-- bounds. So does a fresh start.
 use mathlib.Core.Bool.{true}
 use mathlib.Core.Path.{_≡_, refl}
 use Prim.Native.Nat.{ℕ, zero, suc}
@@ -7,10 +8,12 @@ use lib.Pow.{pow-pos}
 use Rattle.basics.specs.Lists.{counted}
 use Rattle.protocol.specs.Tables.{Sizes, Tables, nothing, initial, resting, fresh}
 use Rattle.protocol.specs.Range.{Capacities, sizesInRange, arrived, load, occupied, valid}
-use Rattle.protocol.specs.Calls.{Call, startRead, startWrite, deliver, show, effect, refusal, pick, step}
+use Rattle.protocol.specs.Calls.{Call, startRead, startWrite, deliver, show, effect, refusal}
+use Rattle.protocol.specs.Calls.{pick, step}
 use Rattle.protocol.proofs.Ranges.Values.{SizesInRange, EntryInRange, tells-sizes}
 use Rattle.protocol.proofs.Ranges.Tables.{InRange, Valid, facts-valid}
-use Rattle.protocol.proofs.Refusals.{accepted-read, accepted-write, accepted-deliver, accepted-show}
+use Rattle.protocol.proofs.Refusals.{accepted-read, accepted-write, accepted-deliver}
+use Rattle.protocol.proofs.Refusals.{accepted-show}
 use Rattle.protocol.proofs.Put.{total-none}
 use Rattle.protocol.proofs.Load.{arrived-idle, load-read, load-write, load-deliver}
 use Rattle.protocol.proofs.Occupied.{occupied-read, occupied-write, occupied-deliver}
@@ -18,7 +21,8 @@ use Rattle.protocol.proofs.Kept.Values.{range-initial, range-resting}
 use Rattle.protocol.proofs.Kept.Starts.{range-read, range-write}
 use Rattle.protocol.proofs.Kept.Deliveries.{range-deliver}
 
-pub valid-kept : (caps : Capacities) (t : Tables) (c : Call) → refusal caps t c ≡ 0 → Valid caps (effect t c)
+pub valid-kept : (caps : Capacities) (t : Tables) (c : Call) → refusal caps t c ≡ 0
+    → Valid caps (effect t c)
 unfolding effect
 valid-kept caps t (startRead d s) e =
     let a = accepted-read caps t d s .0 e in
@@ -43,11 +47,13 @@ valid-kept caps t (deliver i) e =
     }
 valid-kept caps t (show d output) e = accepted-show caps t d output .0 e .valid
 
-pub valid-step : (caps : Capacities) (t : Tables) (c : Call) → refusal caps t c ≡ 0 → valid caps (effect t c) ≡ true
+pub valid-step : (caps : Capacities) (t : Tables) (c : Call) → refusal caps t c ≡ 0
+    → valid caps (effect t c) ≡ true
 valid-step caps t c e = facts-valid caps (effect t c) (valid-kept caps t c e)
 
 -- accepted or refused
-pub valid-next : (caps : Capacities) (t : Tables) (c : Call) → valid caps t ≡ true → valid caps (step caps t c .tables) ≡ true
+pub valid-next : (caps : Capacities) (t : Tables) (c : Call) → valid caps t ≡ true
+    → valid caps (step caps t c .tables) ≡ true
 unfolding step
 valid-next caps t c v = at (refusal caps t c) refl
   where
@@ -59,7 +65,8 @@ valid-next caps t c v = at (refusal caps t c) refl
 
 pub range-fresh : (z : Sizes) → SizesInRange z → InRange (fresh z)
 range-fresh z h =
-    let entry : EntryInRange z initial = record { stamp = range-initial z; set = pow-pos (z .items) } in
+    let entry : EntryInRange z initial =
+    record { stamp = range-initial z; set = pow-pos (z .items) } in
     record {
       sizes = h;
       latest = λ k l. entry;
@@ -71,13 +78,18 @@ range-fresh z h =
 
 pub load-fresh : (z : Sizes) → load (fresh z) ≡ 0
 unfolding load
-load-fresh z = omega (arith, total-none (z .clients) (λ d. arrived (resting 0 nothing)) (λ d. arrived-idle (resting 0 nothing) refl))
+load-fresh z = omega (
+  arith,
+  total-none (z .clients) (λ d. arrived (resting 0 nothing))
+      (λ d. arrived-idle (resting 0 nothing) refl),
+)
 
 pub occupied-fresh : (z : Sizes) → occupied (fresh z) ≡ 0
 unfolding occupied counted
 occupied-fresh z = refl
 
-pub valid-fresh : (caps : Capacities) (z : Sizes) → sizesInRange z ≡ true → valid caps (fresh z) ≡ true
+pub valid-fresh : (caps : Capacities) (z : Sizes) → sizesInRange z ≡ true
+    → valid caps (fresh z) ≡ true
 valid-fresh caps z e =
     facts-valid caps (fresh z)
     (record {

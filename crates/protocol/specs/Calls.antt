@@ -1,4 +1,5 @@
--- The calls: the refusal table, answers with document 01's numbers and bytes, and what each call gives.
+-- The calls: the refusal table, answers with document 01's numbers and bytes, and what each call
+-- gives.
 use mathlib.Core.Bool.{Bool, true, false, cond, not, _&&_, _||_}
 use mathlib.Core.List.{List, [], _∷_, _++_}
 use Prim.Native.Nat.{ℕ, zero, suc, _+_, _*_, _^_}
@@ -9,10 +10,13 @@ use Rattle.itemset.specs.Set.{has, count, allBelow}
 use Rattle.protocol.specs.declared.Message.{Message}
 use Rattle.protocol.specs.declared.Message.the-variants.{Prepare, Prepared, Commit, Get, Got}
 use Rattle.protocol.specs.declared.Answer.{Answer}
-use Rattle.protocol.specs.declared.Answer.the-variants.{Refused, Made, Started, Delivered, Shown}
+use Rattle.protocol.specs.declared.Answer.the-variants.{Refused, Made, Started, Delivered}
+use Rattle.protocol.specs.declared.Answer.the-variants.{Shown}
 use Rattle.protocol.specs.Tables.{Sizes, Tables, Ended, nothing, read, write, writerOf}
-use Rattle.protocol.specs.Range.{Capacities, valid, sizesInRange, isClient, isIdle, isReading, isWriting, load, occupied}
-use Rattle.protocol.specs.Steps.{startedRead, startedWrite, deliveredAt, messageAt, stored, isLast}
+use Rattle.protocol.specs.Range.{Capacities, valid, sizesInRange, isClient, isIdle, isReading}
+use Rattle.protocol.specs.Range.{isWriting, load, occupied}
+use Rattle.protocol.specs.Steps.{startedRead, startedWrite, deliveredAt, messageAt, stored}
+use Rattle.protocol.specs.Steps.{isLast}
 use Rattle.protocol.specs.Frame.{frame}
 
 -- The calls that follow a fresh start. A write brings its value bytes, a showing the lent output.
@@ -39,8 +43,8 @@ first (x ∷ xs) = cond (x .applies) (x .number) (first xs)
 abbrev pub badSet : Tables → ℕ → Bool
 badSet t s = eqb s 0 || not (allBelow s (t .sizes .items))
 
--- 11: prepare of an item and stamp already stored; prepared whose client isn't writing, got whose client isn't
--- reading, or either not awaited with that item and stamp
+-- 11: prepare of an item and stamp already stored; prepared whose client isn't writing, got whose
+-- client isn't reading, or either not awaited with that item and stamp
 unfoldable pub unexpected : Tables → Message → Bool
 unexpected t (Prepare v) = stored (t .versions) (v .item) (v .stamp)
 unexpected t (Prepared k stamp) =
@@ -137,7 +141,8 @@ unfoldable pub reply : Tables → Call → Answer
 reply t (startRead d s) = Started (length (effect t (startRead d s) .messages))
 reply t (startWrite d s bytes) = Started (length (effect t (startWrite d s bytes) .messages))
 reply t (deliver i) =
-    Delivered (kindOf (messageAt t i)) (length (effect t (deliver i) .messages)) (outcomeOf t (messageAt t i))
+    Delivered (kindOf (messageAt t i)) (length (effect t (deliver i) .messages))
+    (outcomeOf t (messageAt t i))
 reply t (show d output) = Shown (length (shownFrame t d))
 
 -- the output after an accepted call: past the frame it keeps its bytes
@@ -154,7 +159,8 @@ lent (startWrite d s bytes) = []
 lent (deliver i) = []
 lent (show d output) = output
 
--- What a call gives: its answer, the tables after it, the output after it. A refusal changes nothing.
+-- What a call gives: its answer, the tables after it, the output after it. A refusal changes
+-- nothing.
 pub record Given : Type 0 where
   pub answer : Answer
   pub tables : Tables
@@ -191,5 +197,6 @@ unfoldable pub bytesOfAnswer : Answer → List ℕ → List ℕ
 bytesOfAnswer (Refused n) output = bigEndian 1 n
 bytesOfAnswer Made output = 0 ∷ []
 bytesOfAnswer (Started n) output = 0 ∷ bigEndian 2 n
-bytesOfAnswer (Delivered kind n outcome) output = 0 ∷ bigEndian 1 kind ++ bigEndian 2 n ++ bigEndian 1 outcome
+bytesOfAnswer (Delivered kind n outcome) output =
+    0 ∷ bigEndian 1 kind ++ bigEndian 2 n ++ bigEndian 1 outcome
 bytesOfAnswer (Shown n) output = 0 ∷ take n output

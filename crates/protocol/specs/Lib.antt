@@ -1,4 +1,5 @@
--- Document 01 as definitions, in its order: the tables, what is in range, the steps, showing, the refusals, the calls.
+-- Document 01 as definitions, in its order: the tables, what is in range, the steps, showing, the
+-- refusals, the calls.
 pub mod Tables
 pub mod Range
 pub mod Steps

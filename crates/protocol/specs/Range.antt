@@ -1,4 +1,5 @@
--- What is in range, and the load (document 01, 'Tables'): the fields that a block's words are held to.
+-- What is in range, and the load (document 01, 'Tables'): the fields that a block's words are held
+-- to.
 use mathlib.Core.Bool.{Bool, true, false, cond, not, Bool·beq, _&&_, _||_}
 use Prim.Native.Nat.{ℕ, zero, suc, _+_, _-_, _^_}
 use lib.Dec.{eqb, ltb, leb}
@@ -9,7 +10,8 @@ use Rattle.protocol.specs.declared.Version.{Version}
 use Rattle.protocol.specs.declared.Entry.{Entry}
 use Rattle.protocol.specs.declared.Message.{Message}
 use Rattle.protocol.specs.declared.Message.the-variants.{Prepare, Prepared, Commit, Get, Got}
-use Rattle.protocol.specs.Tables.{Sizes, Tables, Client, Mode, idle, reading, writing, Ended, nothing, read, write, numberOf, writerOf}
+use Rattle.protocol.specs.Tables.{Sizes, Tables, Client, Mode, idle, reading, writing, Ended}
+use Rattle.protocol.specs.Tables.{nothing, read, write, numberOf, writerOf}
 
 -- counts are at most 4,294,967,295 and values of 32 bits
 abbrev pub fits : ℕ → Bool
@@ -56,7 +58,8 @@ messageInRange z (Prepared k stamp) = isItem z k && stampInRange z stamp && notI
 messageInRange z (Commit p stamp) = isPartition z p && stampInRange z stamp && notInitial stamp
 messageInRange z (Get d k stamp) = isClient z d && isItem z k && stampInRange z stamp
 messageInRange z (Got d v latest) =
-    isClient z d && isItem z (v .item) && fits (v .value) && stampInRange z (v .stamp) && entryInRange z latest
+    isClient z d && isItem z (v .item) && fits (v .value) && stampInRange z (v .stamp)
+    && entryInRange z latest
 
 -- every item of s has p
 abbrev pub each : Sizes → ℕ → (ℕ → Bool) → Bool
@@ -84,7 +87,8 @@ isWriting idle = false
 isWriting reading = false
 isWriting writing = true
 
--- a client is idle exactly when it awaits no item, and awaited items lie in its set; a writing one has one stamp for all its items
+-- a client is idle exactly when it awaits no item, and awaited items lie in its set; a writing one
+-- has one stamp for all its items
 unfoldable pub clientInRange : Sizes → Client → Bool
 clientInRange z c =
     fits (c .count) && allBelow (c .set) (z .items) && allBelow (c .awaited) (z .items)

@@ -11,11 +11,14 @@ use Rattle.protocol.specs.declared.Version.{Version}
 use Rattle.protocol.specs.declared.Entry.{Entry}
 use Rattle.protocol.specs.declared.Message.{Message}
 use Rattle.protocol.specs.declared.Message.the-variants.{Prepare, Prepared, Commit, Get, Got}
-use Rattle.protocol.specs.Tables.{Tables, Client, read, write, reading, writing, stampOf, writerOf, laterOf, resting, partitionOf, put, withClient, withView, withLatest, withVersions, withMessages}
+use Rattle.protocol.specs.Tables.{Tables, Client, read, write, reading, writing, stampOf}
+use Rattle.protocol.specs.Tables.{writerOf, laterOf, resting, partitionOf, put, withClient}
+use Rattle.protocol.specs.Tables.{withView, withLatest, withVersions, withMessages}
 
 -- ---- Start a read
 
--- the latest stamp among the view's own entry for item k and those of its first n entries whose write set contains k
+-- the latest stamp among the view's own entry for item k and those of its first n entries whose
+-- write set contains k
 unfoldable pub choice : (ℕ → Entry) → ℕ → ℕ → ℕ
 choice view k zero = view k .stamp
 choice view k (suc n) = max (choice view k n) (cond (has (view n .set) k) (view n .stamp) 0)
@@ -51,7 +54,8 @@ startedRead t d s = withMessages (withClient t d (reader t d s)) (t .messages ++
 abbrev pub nextStamp : Tables → ℕ → ℕ
 nextStamp t d = stampOf (suc (t .client d .count)) d
 
--- the value of item k: four bytes for each item of the set, ascending, most significant first. (Of bytes the remainder is the number itself.)
+-- the value of item k: four bytes for each item of the set, ascending, most significant first. (Of
+-- bytes the remainder is the number itself.)
 abbrev pub valueOf : ℕ → List ℕ → ℕ → ℕ
 valueOf s bytes k = cond (has s k) (numberAt 4 bytes (4 * rank s k) % 2 ^ 32) 0
 
@@ -74,10 +78,12 @@ version k value stamp s = record { item = k; value = value; stamp = stamp; set =
 
 -- one prepare for each item, ascending, holding the version
 abbrev pub prepares : Tables → ℕ → ℕ → List ℕ → List Message
-prepares t d s bytes = map (λ k. Prepare (version k (valueOf s bytes k) (nextStamp t d) s)) (members (t .sizes .items) s)
+prepares t d s bytes = map (λ k. Prepare (version k (valueOf s bytes k) (nextStamp t d) s))
+    (members (t .sizes .items) s)
 
 abbrev pub startedWrite : Tables → ℕ → ℕ → List ℕ → Tables
-startedWrite t d s bytes = withMessages (withClient t d (writer t d s bytes)) (t .messages ++ prepares t d s bytes)
+startedWrite t d s bytes = withMessages (withClient t d (writer t d s bytes))
+    (t .messages ++ prepares t d s bytes)
 
 -- ---- Stored versions
 
@@ -116,7 +122,8 @@ isLast c k = eqb (remove (c .awaited) k) 0
 
 -- Prepared: with the last one the client is idle
 abbrev pub prepared : Client → ℕ → Client
-prepared c k = cond (isLast c k) (resting (c .count) (write (c .set) (c .stamp) (c .values))) (struck c k (c .values))
+prepared c k = cond (isLast c k) (resting (c .count) (write (c .set) (c .stamp) (c .values)))
+    (struck c k (c .values))
 
 -- Got: the version is kept as the answer for its item; with the last one the client is idle
 abbrev pub got : Client → ℕ → ℕ → Client
@@ -128,7 +135,8 @@ got c k value =
 abbrev pub seen : (ℕ → Entry) → ℕ → ℕ → ℕ → Entry
 seen view s stamp k = cond (has s k) (laterOf (view k) (record { stamp = stamp; set = s })) (view k)
 
--- Commit: each item of that partition with a stored version of that stamp takes it as latest, if it is later
+-- Commit: each item of that partition with a stored version of that stamp takes it as latest, if it
+-- is later
 abbrev pub committed : Tables → ℕ → ℕ → ℕ → Entry
 committed t p stamp k =
     cond (eqb (partitionOf t k) p && stored (t .versions) k stamp)
@@ -155,7 +163,8 @@ touches t s p (suc n) = touches t s p n || (has s n && eqb (partitionOf t n) p)
 
 -- one commit for each partition touched, ascending
 abbrev pub commits : Tables → ℕ → ℕ → List Message
-commits t s stamp = map (λ p. Commit p stamp) (upto (t .sizes .partitions) (λ p. touches t s p (t .sizes .items)))
+commits t s stamp = map (λ p. Commit p stamp)
+    (upto (t .sizes .partitions) (λ p. touches t s p (t .sizes .items)))
 
 unfoldable pub joined : Tables → Message → List Message
 joined t (Prepare v) = Prepared (v .item) (v .stamp) ∷ []
@@ -163,7 +172,8 @@ joined t (Prepared k stamp) =
     let c = t .client (writerOf stamp) in
     cond (isLast c k) (commits t (c .set) stamp) []
 joined t (Commit p stamp) = []
-joined t (Get d k stamp) = Got d (version k (found (t .versions) k stamp .value) stamp 0) (t .latest k) ∷ []
+joined t (Get d k stamp) = Got d (version k (found (t .versions) k stamp .value) stamp 0)
+    (t .latest k) ∷ []
 joined t (Got d v latest) = []
 
 -- the message at a place
@@ -172,4 +182,5 @@ messageAt t i = getD (t .messages) i (Commit 0 0)
 
 -- the message is taken out, later ones move up by one, new ones join at the end
 abbrev pub deliveredAt : Tables → ℕ → Tables
-deliveredAt t i = withMessages (delivered t (messageAt t i)) (without i (t .messages) ++ joined t (messageAt t i))
+deliveredAt t i = withMessages (delivered t (messageAt t i))
+    (without i (t .messages) ++ joined t (messageAt t i))

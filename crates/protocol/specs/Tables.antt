@@ -1,5 +1,5 @@
--- The store's tables (document 01, 'Tables'), as values with no word of a block in them: a client is document 01's desk, a partition its
--- cabinet, an item its line, the messages its pile.
+-- The store's tables (document 01, 'Tables'), as values with no word of a block in them: a client
+-- is document 01's desk, a partition its cabinet, an item its line, the messages its pile.
 use mathlib.Core.Bool.{cond}
 use mathlib.Core.List.{List, []}
 use Prim.Native.Nat.{ℕ, _+_, _*_, _/_, _%_}
@@ -34,7 +34,8 @@ laterOf present other = cond (ltb (present .stamp) (other .stamp)) other present
 pub data Mode : Type 0 where
   idle reading writing : Mode
 
--- the last ended transaction: none yet, a read with the stamps and values it shows, or a write with its stamp and values
+-- the last ended transaction: none yet, a read with the stamps and values it shows, or a write with
+-- its stamp and values
 pub data Ended : Type 0 where
   nothing : Ended
   read : (set : ℕ) (stamps values : ℕ → ℕ) → Ended
@@ -80,12 +81,30 @@ partitionOf t k = k % t .sizes .partitions
 -- a client as a fresh start or the end of a transaction leaves it: idle, with no set
 abbrev pub resting : ℕ → Ended → Client
 resting count last =
-    record { mode = idle; count = count; set = 0; awaited = 0; asked = λ k. 0; stamp = 0; values = λ k. 0; last = last }
+    record {
+      mode = idle;
+      count = count;
+      set = 0;
+      awaited = 0;
+      asked = λ k. 0;
+      stamp = 0;
+      values =
+          λ k. 0;
+      last = last;
+    }
 
 -- what a fresh start makes
 abbrev pub fresh : Sizes → Tables
 fresh sizes =
-    record { sizes = sizes; latest = λ k. initial; view = λ d k. initial; client = λ d. resting 0 nothing; versions = []; messages = [] }
+    record {
+      sizes = sizes;
+      latest = λ k. initial;
+      view = λ d k. initial;
+      client =
+          λ d. resting 0 nothing;
+      versions = [];
+      messages = [];
+    }
 
 -- ---- changes: the tables with one field another
 
@@ -95,21 +114,61 @@ put f k v j = cond (eqb j k) v (f j)
 
 abbrev pub withClient : Tables → ℕ → Client → Tables
 withClient t d c =
-    record { sizes = t .sizes; latest = t .latest; view = t .view; client = put (t .client) d c; versions = t .versions; messages = t .messages }
+    record {
+      sizes = t .sizes;
+      latest = t .latest;
+      view = t .view;
+      client =
+          put (t .client) d c;
+      versions = t .versions;
+      messages = t .messages;
+    }
 
 -- the whole view of client d
 abbrev pub withView : Tables → ℕ → (ℕ → Entry) → Tables
 withView t d entries =
-    record { sizes = t .sizes; latest = t .latest; view = put (t .view) d entries; client = t .client; versions = t .versions; messages = t .messages }
+    record {
+      sizes = t .sizes;
+      latest = t .latest;
+      view = put (t .view) d entries;
+      client =
+          t .client;
+      versions = t .versions;
+      messages = t .messages;
+    }
 
 abbrev pub withLatest : Tables → (ℕ → Entry) → Tables
 withLatest t entries =
-    record { sizes = t .sizes; latest = entries; view = t .view; client = t .client; versions = t .versions; messages = t .messages }
+    record {
+      sizes = t .sizes;
+      latest = entries;
+      view = t .view;
+      client = t .client;
+      versions =
+          t .versions;
+      messages = t .messages;
+    }
 
 abbrev pub withVersions : Tables → List Version → Tables
 withVersions t versions =
-    record { sizes = t .sizes; latest = t .latest; view = t .view; client = t .client; versions = versions; messages = t .messages }
+    record {
+      sizes = t .sizes;
+      latest = t .latest;
+      view = t .view;
+      client = t .client;
+      versions =
+          versions;
+      messages = t .messages;
+    }
 
 abbrev pub withMessages : Tables → List Message → Tables
 withMessages t messages =
-    record { sizes = t .sizes; latest = t .latest; view = t .view; client = t .client; versions = t .versions; messages = messages }
+    record {
+      sizes = t .sizes;
+      latest = t .latest;
+      view = t .view;
+      client = t .client;
+      versions =
+          t .versions;
+      messages = messages;
+    }

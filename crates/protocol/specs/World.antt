@@ -1,5 +1,6 @@
--- A run of calls with provenance (document 01, 'Whole lists of calls'): the pile beside the tables, each message with a label that
--- the start gives and a delivery passes on, and the history of accepted writes and of delivered prepares.
+-- A run of calls with provenance (document 01, 'Whole lists of calls'): the pile beside the tables,
+-- each message with a label that the start gives and a delivery passes on, and the history of
+-- accepted writes and of delivered prepares.
 use mathlib.Core.Bool.{Bool, true, false, cond, not, _&&_, _||_}
 use mathlib.Core.List.{List, [], _∷_, _++_, map}
 use Prim.Native.Nat.{ℕ, suc}
@@ -9,11 +10,13 @@ use Rattle.basics.specs.Lists.{without}
 use Rattle.protocol.specs.declared.Message.{Message}
 use Rattle.protocol.specs.declared.Message.the-variants.{Prepare, Prepared, Commit, Get, Got}
 use Rattle.protocol.specs.declared.Answer.{Answer}
-use Rattle.protocol.specs.declared.Answer.the-variants.{Refused, Made, Started, Delivered, Shown}
+use Rattle.protocol.specs.declared.Answer.the-variants.{Refused, Made, Started, Delivered}
+use Rattle.protocol.specs.declared.Answer.the-variants.{Shown}
 use Rattle.protocol.specs.Tables.{Tables, Sizes, fresh, writerOf}
 use Rattle.protocol.specs.Range.{Capacities}
 use Rattle.protocol.specs.Steps.{gets, prepares, joined, nextStamp, valueOf}
-use Rattle.protocol.specs.Calls.{Call, startRead, startWrite, deliver, show, refusal, effect, step}
+use Rattle.protocol.specs.Calls.{Call, startRead, startWrite, deliver, show, refusal, effect}
+use Rattle.protocol.specs.Calls.{step}
 
 -- ---- Labels. A time is a number of calls: the first of a list is made at its world's time, each later one a unit later.
 
@@ -27,7 +30,8 @@ pub record Labelled : Type 0 where
   pub label : Label
   pub message : Message
 
--- an accepted write: its start's time, its client, the stamp that its start makes, its set and values
+-- an accepted write: its start's time, its client, the stamp that its start makes, its set and
+-- values
 pub record Write : Type 0 where
   pub start : ℕ
   pub client : ℕ
@@ -55,14 +59,19 @@ begin z = record { time = 0; tables = fresh z; pile = []; writes = []; stores = 
 -- ---- What an accepted call makes join and leave, and what it adds to the history
 
 abbrev pub placed : World → ℕ → Labelled
-placed w i = getD (w .pile) i (record { label = record { client = 0; start = 0; since = 0 }; message = Commit 0 0 })
+placed w i = getD (w .pile) i (record {
+  label = record { client = 0; start = 0; since = 0 };
+  message = Commit 0 0;
+})
 
 abbrev pub labelled : ℕ → ℕ → ℕ → Message → Labelled
-labelled client start since m = record { label = record { client = client; start = start; since = since }; message = m }
+labelled client start since m = record
+    { label = record { client = client; start = start; since = since }; message = m }
 
 unfoldable pub joining : World → Call → List Labelled
 joining w (startRead d s) = map (labelled d (w .time) (w .time)) (gets (w .tables) d s)
-joining w (startWrite d s bytes) = map (labelled d (w .time) (w .time)) (prepares (w .tables) d s bytes)
+joining w (startWrite d s bytes) =
+    map (labelled d (w .time) (w .time)) (prepares (w .tables) d s bytes)
 joining w (deliver i) =
     let l = placed w i .label in
     map (labelled (l .client) (l .start) (w .time)) (joined (w .tables) (placed w i .message))
@@ -83,7 +92,14 @@ staying w (show d output) = w .pile
 unfoldable pub begun : World → Call → List Write
 begun w (startRead d s) = []
 begun w (startWrite d s bytes) =
-    record { start = w .time; client = d; stamp = nextStamp (w .tables) d; set = s; values = valueOf s bytes } ∷ []
+    record {
+      start = w .time;
+      client = d;
+      stamp = nextStamp (w .tables) d;
+      set = s;
+      values =
+          valueOf s bytes;
+    } ∷ []
 begun w (deliver i) = []
 begun w (show d output) = []
 
@@ -117,7 +133,14 @@ moved w c =
     }
 
 abbrev pub passed : World → World
-passed w = record { time = suc (w .time); tables = w .tables; pile = w .pile; writes = w .writes; stores = w .stores }
+passed w = record {
+  time = suc (w .time);
+  tables = w .tables;
+  pile = w .pile;
+  writes =
+      w .writes;
+  stores = w .stores;
+}
 
 unfoldable pub next : Capacities → World → Call → World
 next caps w c = cond (accepts caps w c) (moved w c) (passed w)
@@ -129,11 +152,13 @@ after caps w (c ∷ cs) = after caps (next caps w c) cs
 -- the messages that join, and those that are delivered, over a list of calls
 unfoldable pub joiningOver : Capacities → World → List Call → List Labelled
 joiningOver caps w [] = []
-joiningOver caps w (c ∷ cs) = cond (accepts caps w c) (joining w c) [] ++ joiningOver caps (next caps w c) cs
+joiningOver caps w (c ∷ cs) = cond (accepts caps w c) (joining w c) [] ++ joiningOver caps
+    (next caps w c) cs
 
 unfoldable pub leavingOver : Capacities → World → List Call → List Labelled
 leavingOver caps w [] = []
-leavingOver caps w (c ∷ cs) = cond (accepts caps w c) (leaving w c) [] ++ leavingOver caps (next caps w c) cs
+leavingOver caps w (c ∷ cs) = cond (accepts caps w c) (leaving w c) [] ++ leavingOver caps
+    (next caps w c) cs
 
 -- ---- Whose, and of which item
 

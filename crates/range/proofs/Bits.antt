@@ -16,7 +16,8 @@ use Rattle.itemset.proofs.Bits.{has-and}
 pub lacks-power : (s k : ℕ) → eqb (s / 2 ^ k % 2) 0 ≡ not (has s k)
 lacks-power s k =
     rw (has-power s k)
-    (by-test (eqb (s / 2 ^ k % 2) 1) (λ e. rw (low-set (s / 2 ^ k) e)) (λ e. rw (low-clear (s / 2 ^ k) e)))
+    (by-test (eqb (s / 2 ^ k % 2) 1) (λ e. rw (low-set (s / 2 ^ k) e))
+    (λ e. rw (low-clear (s / 2 ^ k) e)))
 
 -- every item of s is one of t, by one mask
 and-or : (a b : Bool) → (a && b) ≡ a → (not a || b) ≡ true
@@ -27,8 +28,11 @@ or-and : (a b : Bool) → (a ≡ true → (not a || b) ≡ true) → (a && b) �
 or-and true b h = h refl
 or-and false b h = refl
 
-pub subset-mask : (s t n : ℕ) → s < 2 ^ n → eqb (bitAnd s t) s ≡ every n (λ k. not (has s k) || has t k)
+pub subset-mask : (s t n : ℕ) → s < 2 ^ n
+    → eqb (bitAnd s t) s ≡ every n (λ k. not (has s k) || has t k)
 subset-mask s t n l =
     test-ext _ _
-    (λ e. at-every n _ (λ k b. and-or (has s k) (has t k) (sym (has-and s t k) ∙ ap (λ (x : ℕ). has x k) (eqb-true (bitAnd s t) s e))))
-    (λ e. eq-eqb _ _ (set-ext (bitAnd s t) s (λ k. has-and s t k ∙ or-and (has s k) (has t k) (λ h. every-at n _ e k (has-below s k n l h)))))
+    (λ e. at-every n _ (λ k b. and-or (has s k) (has t k)
+    (sym (has-and s t k) ∙ ap (λ (x : ℕ). has x k) (eqb-true (bitAnd s t) s e))))
+    (λ e. eq-eqb _ _ (set-ext (bitAnd s t) s (λ k. has-and s t k
+    ∙ or-and (has s k) (has t k) (λ h. every-at n _ e k (has-below s k n l h)))))

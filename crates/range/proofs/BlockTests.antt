@@ -10,12 +10,16 @@ use borrow.Author.Tests.{lt-ltb, le-leb, lt-leb}
 use Rattle.basics.proofs.Cases.{by-test, not-both, test-ext}
 use Rattle.basics.specs.Lists.{every, all, table, counted}
 use Rattle.protocol.specs.Tables.{Sizes, initial, resting, nothing}
-use Rattle.protocol.specs.Range.{sizesInRange, entryInRange, versionInRange, messageInRange, clientInRange, inRange, valid}
-use Rattle.protocol.specs.Range.{isClient, isItem, everyClient, isPrepare, arrived, total, load, occupied}
+use Rattle.protocol.specs.Range.{sizesInRange, entryInRange, versionInRange, messageInRange}
+use Rattle.protocol.specs.Range.{clientInRange, inRange, valid}
+use Rattle.protocol.specs.Range.{isClient, isItem, everyClient, isPrepare, arrived, total, load}
+use Rattle.protocol.specs.Range.{occupied}
 use Rattle.protocol.proofs.Tells.{tells-and, tells-le}
 use Rattle.protocol.proofs.Ranges.Values.{tells-sizes}
-use Rattle.layout.specs.Layout.{at, header, scalars, clientsAt, partitionsAt, itemsAt, versionsAt, messagesAt, modeAt, lastKindAt, needed}
-use Rattle.layout.specs.Decode.{sizesIn, latestIn, viewIn, clientIn, versionIn, messageIn, kindIn, tablesOf, wellFormed, validBlock}
+use Rattle.layout.specs.Layout.{at, header, scalars, clientsAt, partitionsAt, itemsAt, versionsAt}
+use Rattle.layout.specs.Layout.{messagesAt, modeAt, lastKindAt, needed}
+use Rattle.layout.specs.Decode.{sizesIn, latestIn, viewIn, clientIn, versionIn, messageIn, kindIn}
+use Rattle.layout.specs.Decode.{tablesOf, wellFormed, validBlock}
 use Rattle.range.specs.Sized.{sizes, sized}
 use Rattle.range.specs.Clients.{clientTest}
 use Rattle.range.specs.Messages.{messageTest}
@@ -26,11 +30,14 @@ use Rattle.range.proofs.WellFormed.{client-test, tells-valid-block}
 use Rattle.range.proofs.CapacityTests.{load-words, occupied-words}
 
 -- the same tests in another order, where those of the header pass
-regroup : (long size vs ms latest view modes client versions kinds messages load occupied : Bool) → long ≡ true → size ≡ true → vs ≡ true → ms ≡ true
+regroup : (long size vs ms latest view modes client versions kinds messages load occupied : Bool)
+    → long ≡ true → size ≡ true → vs ≡ true → ms ≡ true
     → (latest && view && (modes && client) && versions && (kinds && messages) && load && occupied)
-    ≡ ((long && size && vs && ms && modes && kinds) && (size && latest && view && client && versions && messages && load && occupied))
+    ≡ ((long && size && vs && ms && modes && kinds)
+    && (size && latest && view && client && versions && messages && load && occupied))
 regroup long size vs ms latest view modes client versions kinds messages load occupied p q r s =
-    test-ext _ _ (λ e. let f = simp tells-and at e in simp tells-and search) (λ e. let f = simp tells-and at e in simp tells-and search)
+    test-ext _ _ (λ e. let f = simp tells-and at e in simp tells-and search)
+    (λ e. let f = simp tells-and at e in simp tells-and search)
 
 module _ (b : List ℕ) where
   abbrev z : Sizes
@@ -44,33 +51,47 @@ module _ (b : List ℕ) where
 
   latest-same : every (z .items) (λ k. entryInRange (sized (z .clients) (z .items)) (latestIn b k))
       ≡ every (z .items) (λ k. entryInRange z (cond (isItem z k) (latestIn b k) initial))
-  latest-same = every-same (z .items) _ _ (λ k l. rw (lt-ltb k (z .items) l) (entry-sized (z .clients) (z .partitions) (z .items) (latestIn b k)))
+  latest-same = every-same (z .items) _ _
+      (λ k l. rw (lt-ltb k (z .items) l)
+      (entry-sized (z .clients) (z .partitions) (z .items) (latestIn b k)))
 
-  view-same : every (z .clients) (λ i. every (z .items) (λ k. entryInRange (sized (z .clients) (z .items)) (viewIn b (suc i) k)))
-      ≡ everyClient z (λ d. every (z .items) (λ k. entryInRange z (cond (isClient z d && isItem z k) (viewIn b d k) initial)))
+  view-same : every (z .clients) (λ i. every (z .items)
+      (λ k. entryInRange (sized (z .clients) (z .items)) (viewIn b (suc i) k)))
+      ≡ everyClient z (λ d. every (z .items) (λ k. entryInRange z
+      (cond (isClient z d && isItem z k) (viewIn b d k) initial)))
   view-same = every-same (z .clients) _ _ (λ i m. every-same (z .items) _ _ (λ k l.
-      rw (client-test z (suc i) (omega arith, m), lt-ltb k (z .items) l) (entry-sized (z .clients) (z .partitions) (z .items) (viewIn b (suc i) k))))
+      rw (client-test z (suc i) (omega arith, m), lt-ltb k (z .items) l)
+      (entry-sized (z .clients) (z .partitions) (z .items) (viewIn b (suc i) k))))
 
   client-same : every (z .clients) (λ i. clientTest b (suc i) (z .clients) (z .items))
       ≡ (everyClient z (λ d. ltb (at b scalars (modeAt d)) 3 && ltb (at b scalars (lastKindAt d)) 3)
-      && everyClient z (λ d. clientInRange z (cond (isClient z d) (clientIn b d) (resting 0 nothing))))
+      && everyClient z (λ d. clientInRange z (cond (isClient z d) (clientIn b d)
+      (resting 0 nothing))))
   client-same =
       every-same (z .clients) _ _ (λ i l.
-      rw (client-test z (suc i) (omega arith, l), client-sized (z .clients) (z .partitions) (z .items) (clientIn b (suc i))))
+      rw (
+        client-test z (suc i) (omega arith, l),
+        client-sized (z .clients) (z .partitions)
+            (z .items) (clientIn b (suc i)),
+      ))
       ∙ sym (every-both (z .clients) _ _)
 
-  versions-same : vs ≤ 512 → every vs (λ i. versionInRange (sized (z .clients) (z .items)) (versionIn b i))
+  versions-same : vs ≤ 512 → every vs
+      (λ i. versionInRange (sized (z .clients) (z .items)) (versionIn b i))
       ≡ all (versionInRange z) (table (min vs 512) (versionIn b))
   versions-same l =
       let few : min vs 512 ≡ vs = omega arith in
-      every-same vs _ _ (λ i m. version-sized (z .clients) (z .partitions) (z .items) (versionIn b i))
+      every-same vs _ _ (λ i m. version-sized (z .clients) (z .partitions) (z .items)
+      (versionIn b i))
       ∙ sym (all-table (versionInRange z) vs (versionIn b)) ∙ rw few
 
   messages-same : ms ≤ 128 → every ms (λ i. messageTest b i (z .clients) (z .partitions) (z .items))
-      ≡ (every ms (λ i. leb 1 (kindIn b i) && leb (kindIn b i) 5) && all (messageInRange z) (table (min ms 128) (messageIn b)))
+      ≡ (every ms (λ i. leb 1 (kindIn b i) && leb (kindIn b i) 5)
+      && all (messageInRange z) (table (min ms 128) (messageIn b)))
   messages-same l =
       let few : min ms 128 ≡ ms = omega arith in
-      sym (every-both ms (λ i. leb 1 (kindIn b i) && leb (kindIn b i) 5) (λ i. messageInRange z (messageIn b i)))
+      sym (every-both ms (λ i. leb 1 (kindIn b i) && leb (kindIn b i) 5)
+      (λ i. messageInRange z (messageIn b i)))
       ∙ rw (few, all-table (messageInRange z) ms (messageIn b))
 
   valid-tests : needed ≤ length b → sizesInRange z ≡ true → vs ≤ 512 → ms ≤ 128
@@ -78,7 +99,15 @@ module _ (b : List ℕ) where
   unfolding tablesTest validBlock wellFormed valid inRange tablesOf
   valid-tests h s l m =
       let t = tablesOf b in
-      rw (latest-same, view-same, client-same, versions-same l, messages-same m, load-words b m, occupied-words b l m)
+      rw (
+        latest-same,
+        view-same,
+        client-same,
+        versions-same l,
+        messages-same m,
+        load-words b m,
+        occupied-words b l m,
+      )
       (regroup (leb needed (length b)) (sizesInRange z) (leb vs 512) (leb ms 128)
       (every (z .items) (λ k. entryInRange z (t .latest k)))
       (everyClient z (λ d. every (z .items) (λ k. entryInRange z (t .view d k))))
@@ -111,42 +140,53 @@ module _ (b : List ℕ) where
       → messages + total clients (λ d. arrived (clientIn b d)) ≡ load (tablesOf b)
   load-valid clients messages p q l = rw (p, q) (load-words b (omega arith))
 
-  pub occupied-valid : (versions messages : ℕ) → versions ≡ vs → messages ≡ ms → versions ≤ 512 → messages ≤ 128
+  pub occupied-valid : (versions messages : ℕ) → versions ≡ vs → messages ≡ ms → versions ≤ 512
+      → messages ≤ 128
       → versions + counted isPrepare (table messages (messageIn b)) ≡ occupied (tablesOf b)
-  occupied-valid versions messages p q l h = rw (p, q) (occupied-words b (omega arith) (omega arith))
+  occupied-valid versions messages p q l h =
+      rw (p, q) (occupied-words b (omega arith) (omega arith))
 
 -- ---- From the outcomes of the tests
 
-pub tables-tests : (b : List ℕ) (clients partitions items versions messages : ℕ) {latest view client stored flight : Bool} {full used : ℕ}
+pub tables-tests : (b : List ℕ) (clients partitions items versions messages : ℕ)
+    {latest view client stored flight : Bool} {full used : ℕ}
     → latest ≡ every items (λ k. entryInRange (sized clients items) (latestIn b k))
-    → view ≡ every clients (λ i. every items (λ k. entryInRange (sized clients items) (viewIn b (suc i) k)))
+    → view ≡ every clients (λ i. every items (λ k. entryInRange (sized clients items)
+    (viewIn b (suc i) k)))
     → client ≡ every clients (λ i. clientTest b (suc i) clients items)
     → stored ≡ every versions (λ i. versionInRange (sized clients items) (versionIn b i))
     → flight ≡ every messages (λ i. messageTest b i clients partitions items)
     → full ≡ messages + total clients (λ d. arrived (clientIn b d))
     → used ≡ versions + counted isPrepare (table messages (messageIn b))
-    → (latest && view && client && stored && flight && leb full 128 && leb used 512) ≡ tablesTest b clients partitions items versions messages
+    → (latest && view && client && stored && flight && leb full 128 && leb used 512) ≡ tablesTest b
+    clients partitions items versions messages
 unfolding tablesTest
 tables-tests b clients partitions items versions messages p q r s t u v = rw (p, q, r, s, t, u, v)
 
 -- ---- The header's words
 
 abbrev headerTest : ℕ → ℕ → ℕ → ℕ → ℕ → Bool
-headerTest clients partitions items versions messages = sizesInRange (sizes clients partitions items) && leb versions 512 && leb messages 128
+headerTest clients partitions items versions messages =
+    sizesInRange (sizes clients partitions items) && leb versions 512 && leb messages 128
 
-pub header-bounds : (clients partitions items versions messages : ℕ) {known : Bool} → known ≡ headerTest clients partitions items versions messages
+pub header-bounds : (clients partitions items versions messages : ℕ) {known : Bool}
+    → known ≡ headerTest clients partitions items versions messages
     → known ≡ true → (clients ≤ 8) × (items ≤ 64) × (versions ≤ 512) × (messages ≤ 128)
 header-bounds clients partitions items versions messages k e =
     let f = simp (tells-and, tells-le, tells-sizes) at (sym k ∙ e) in
     (f .0 .0 .clients, f .0 .0 .items, f .0 .1, f .1)
 
-module _ (b : List ℕ) {clients partitions items versions messages : ℕ} (p : clients ≡ at b header clientsAt) (q : partitions ≡ at b header partitionsAt)
-    (r : items ≡ at b header itemsAt) (s : versions ≡ at b header versionsAt) (t : messages ≡ at b header messagesAt) where
-  pub long-tests : {known ok : Bool} → known ≡ headerTest clients partitions items versions messages → known ≡ true → needed ≤ length b
+module _ (b : List ℕ) {clients partitions items versions messages : ℕ}
+    (p : clients ≡ at b header clientsAt) (q : partitions ≡ at b header partitionsAt)
+    (r : items ≡ at b header itemsAt) (s : versions ≡ at b header versionsAt)
+    (t : messages ≡ at b header messagesAt) where
+  pub long-tests : {known ok : Bool} → known ≡ headerTest clients partitions items versions messages
+      → known ≡ true → needed ≤ length b
       → ok ≡ tablesTest b clients partitions items versions messages → ok ≡ validBlock b
   long-tests k e l h =
       let f = simp (tells-and, tells-le) at (rw (p, q, r, s, t) at (sym k ∙ e)) in
       h ∙ rw (p, q, r, s, t) (valid-tests b l (f .0 .0) (f .0 .1) (f .1))
 
-  pub long-header : {known : Bool} → known ≡ headerTest clients partitions items versions messages → known ≡ false → false ≡ validBlock b
+  pub long-header : {known : Bool} → known ≡ headerTest clients partitions items versions messages
+      → known ≡ false → false ≡ validBlock b
   long-header k e = valid-header b (rw (p, q, r, s, t) at (sym k ∙ e))

@@ -9,10 +9,13 @@ use borrow.Author.Tests.{lt-ltb}
 use Rattle.basics.specs.Lists.{table}
 use Rattle.basics.proofs.Lists.{length-table, table-at}
 use Rattle.itemset.specs.Set.{has}
-use Rattle.layout.specs.Layout.{header, scalars, values, lastStamps, lastValues, at, messagesAt, versionsAt}
+use Rattle.layout.specs.Layout.{header, scalars, values, lastStamps, lastValues, at, messagesAt}
+use Rattle.layout.specs.Layout.{versionsAt}
 use Rattle.layout.specs.Layout.{modeAt, lastKindAt, lastSetAt, lastStampAt, setAt, itemAt}
-use Rattle.layout.specs.Decode.{sizesIn, modeOf, endedOf, clientIn, versionIn, messageIn, tablesOf, wellFormed}
-use Rattle.layout.specs.Encodes.{numberOfMode, word, HoldsVersion, HoldsMessage, HoldsEnded, HoldsClient, Encodes}
+use Rattle.layout.specs.Decode.{sizesIn, modeOf, endedOf, clientIn, versionIn, messageIn, tablesOf}
+use Rattle.layout.specs.Decode.{wellFormed}
+use Rattle.layout.specs.Encodes.{numberOfMode, word, HoldsVersion, HoldsMessage, HoldsEnded}
+use Rattle.layout.specs.Encodes.{HoldsClient, Encodes}
 use Rattle.layout.proofs.Held.{held-version, held-message}
 use Rattle.range.proofs.WellFormed.{client-test, tells-well-formed}
 
@@ -29,19 +32,29 @@ within-has : (s k v : ℕ) → has s k ≡ true → v ≡ cond (has s k) v 0
 within-has s k v e = rw e
 
 holds-ended : (b : List ℕ) (d n : ℕ) → at b scalars (lastKindAt d) ≡ n → n < 3
-    → HoldsEnded b d (endedOf n (at b scalars (lastSetAt d)) (at b scalars (lastStampAt d)) (λ j. at b lastStamps (itemAt d j))
+    → HoldsEnded b d (endedOf n (at b scalars (lastSetAt d)) (at b scalars (lastStampAt d))
+    (λ j. at b lastStamps (itemAt d j))
     (λ j. at b lastValues (itemAt d j)))
 unfolding endedOf
 holds-ended b d zero e l = e
 holds-ended b d (suc zero) e l =
-    let s = at b scalars (lastSetAt d) in
-    (e, refl, λ k. within-has s k (at b lastStamps (itemAt d k)), λ k. within-has s k (at b lastValues (itemAt d k)))
-holds-ended b d (suc (suc n)) e l =
-    (omega arith, refl, refl, λ k. within-has (at b scalars (lastSetAt d)) k (at b lastValues (itemAt d k)))
+    let s = at b scalars (lastSetAt d) in (
+      e,
+      refl,
+      λ k. within-has s k (at b lastStamps (itemAt d k)),
+      λ k. within-has s k (at b lastValues (itemAt d k)),
+    )
+holds-ended b d (suc (suc n)) e l = (
+  omega arith,
+  refl,
+  refl,
+  λ k. within-has (at b scalars (lastSetAt d)) k (at b lastValues (itemAt d k)),
+)
 
 -- ---- Fields
 
-holds-client : (b : List ℕ) (d : ℕ) → at b scalars (modeAt d) < 3 → at b scalars (lastKindAt d) < 3 → HoldsClient b d (clientIn b d)
+holds-client : (b : List ℕ) (d : ℕ) → at b scalars (modeAt d) < 3 → at b scalars (lastKindAt d) < 3
+    → HoldsClient b d (clientIn b d)
 unfolding clientIn
 holds-client b d m l =
     let s = at b scalars (setAt d) in
@@ -82,5 +95,6 @@ encodes-tables b e =
       view = λ d l h k m. rw (client-test (sizesIn b) d (l, h), lt-ltb k (sizesIn b .items) m) (record { stamp = refl; set = refl });
       client = λ d l h. rw (client-test (sizesIn b) d (l, h)) (holds-client b d (w .mode d (l, h)) (w .lastKind d (l, h)));
       versions = table-holds (HoldsVersion b) _ (versionIn b) (λ i l. held-version b i);
-      messages = table-holds (HoldsMessage b) _ (messageIn b) (λ i l. held-message b i (w .someKind i (omega arith)) (w .kind i (omega arith)));
+      messages = table-holds (HoldsMessage b) _ (messageIn b)
+          (λ i l. held-message b i (w .someKind i (omega arith)) (w .kind i (omega arith)));
     }

@@ -1,4 +1,5 @@
--- Tests and sums over the places of a table, of numbers below a bound and of clients: what they take from each place.
+-- Tests and sums over the places of a table, of numbers below a bound and of clients: what they
+-- take from each place.
 use mathlib.Core.Bool.{Bool, true, cond, _&&_}
 use mathlib.Core.List.{List, [], _∷_}
 use mathlib.Core.Path.{_≡_, refl, sym, ap, _∙_}
@@ -9,26 +10,31 @@ use lib.ListN.{length, getD}
 use lib.Seq.{ext-getD}
 use Rattle.basics.proofs.Cases.{test-ext, and-left, and-right, and-both}
 use Rattle.basics.specs.Lists.{all, counted, every, table}
-use Rattle.basics.proofs.Lists.{in-getD, all-in, in-all, counted-append, every-at, at-every, length-table, table-at}
+use Rattle.basics.proofs.Lists.{in-getD, all-in, in-all, counted-append, every-at, at-every}
+use Rattle.basics.proofs.Lists.{length-table, table-at}
 use Rattle.protocol.specs.Range.{total}
 use Rattle.protocol.proofs.Each.{Each, each-none, each-one, each-append}
 
 -- ---- Tables
 
 -- one that has a list's length and elements is the list
-pub table-of : {A : Type 0} (n : ℕ) (f : ℕ → A) (xs : List A) (none : A) → n ≡ length xs → ((i : ℕ) → i < length xs → f i ≡ getD xs i none)
+pub table-of : {A : Type 0} (n : ℕ) (f : ℕ → A) (xs : List A) (none : A) → n ≡ length xs
+    → ((i : ℕ) → i < length xs → f i ≡ getD xs i none)
     → table n f ≡ xs
 table-of n f xs none e h = ext-getD none (table n f) xs (length-table n f ∙ e) (λ i l.
     let below : i < n = omega (arith, length-table n f) in
     table-at n f i none below ∙ h i (omega arith))
 
-pub each-table : {A : Type 0} (P : A → Type 0) (n : ℕ) (f : ℕ → A) → ((i : ℕ) → i < n → P (f i)) → Each P (table n f)
+pub each-table : {A : Type 0} (P : A → Type 0) (n : ℕ) (f : ℕ → A) → ((i : ℕ) → i < n → P (f i))
+    → Each P (table n f)
 unfolding table
 each-table P zero f h = each-none P
 each-table P (suc n) f h =
-    each-append P (table n f) (f n ∷ []) (each-table P n f (λ i l. h i (omega arith))) (each-one P (f n) (h n (omega arith)))
+    each-append P (table n f) (f n ∷ []) (each-table P n f (λ i l. h i (omega arith)))
+    (each-one P (f n) (h n (omega arith)))
 
-pub all-table : {A : Type 0} (p : A → Bool) (n : ℕ) (f : ℕ → A) → all p (table n f) ≡ every n (λ i. p (f i))
+pub all-table : {A : Type 0} (p : A → Bool) (n : ℕ) (f : ℕ → A)
+    → all p (table n f) ≡ every n (λ i. p (f i))
 all-table p n f =
     test-ext _ _
     (λ e. at-every n _ (λ i l.
@@ -36,7 +42,8 @@ all-table p n f =
     rw (table-at n f i (f i) l) at (all-in p (table n f) e (getD (table n f) i (f i)) here)))
     (λ e. in-all p (table n f) (each-table (λ x. p x ≡ true) n f (λ i l. every-at n _ e i l)))
 
-pub counted-table : {A : Type 0} (p : A → Bool) (n : ℕ) (f : ℕ → A) → counted p (table (suc n) f) ≡ counted p (table n f) + cond (p (f n)) 1 0
+pub counted-table : {A : Type 0} (p : A → Bool) (n : ℕ) (f : ℕ → A)
+    → counted p (table (suc n) f) ≡ counted p (table n f) + cond (p (f n)) 1 0
 unfolding table counted
 counted-table p n f = counted-append p (table n f) (f n ∷ []) ∙ omega arith
 
@@ -44,36 +51,55 @@ pub counted-none : {A : Type 0} (p : A → Bool) (f : ℕ → A) → counted p (
 unfolding table counted
 counted-none p f = refl
 
-pub counted-next : {A : Type 0} (p : A → Bool) (f : ℕ → A) (i sum here : ℕ) → sum ≡ counted p (table i f) → here ≡ cond (p (f i)) 1 0
+pub counted-next : {A : Type 0} (p : A → Bool) (f : ℕ → A) (i sum here : ℕ)
+    → sum ≡ counted p (table i f) → here ≡ cond (p (f i)) 1 0
     → sum + here ≡ counted p (table (i + 1) f)
 counted-next p f i sum here e h = rw (e, h, add-one i) (sym (counted-table p i f))
 
 -- places that pass the same tests
-pub counted-same : {A : Type 0} (p : A → Bool) (n : ℕ) (f g : ℕ → A) → ((i : ℕ) → i < n → p (f i) ≡ p (g i))
+pub counted-same : {A : Type 0} (p : A → Bool) (n : ℕ) (f g : ℕ → A)
+    → ((i : ℕ) → i < n → p (f i) ≡ p (g i))
     → counted p (table n f) ≡ counted p (table n g)
 unfolding table
 counted-same p zero f g h = refl
 counted-same p (suc n) f g h =
     let last = ap {B = ℕ} (λ (b : Bool). cond b 1 0) (h n (omega arith)) in
-    omega (arith, counted-table p n f, counted-table p n g, counted-same p n f g (λ i l. h i (omega arith)), last)
+    omega (
+      arith,
+      counted-table p n f,
+      counted-table p n g,
+      counted-same p n f g
+          (λ i l. h i (omega arith)),
+      last,
+    )
 
-pub counted-list : {A : Type 0} (p : A → Bool) (n : ℕ) (f : ℕ → A) (xs : List A) (none : A) → n ≡ length xs
-    → ((i : ℕ) → i < length xs → p (f i) ≡ p (getD xs i none)) → counted p (table n f) ≡ counted p xs
+pub counted-list : {A : Type 0} (p : A → Bool) (n : ℕ) (f : ℕ → A) (xs : List A) (none : A)
+    → n ≡ length xs
+    → ((i : ℕ) → i < length xs → p (f i) ≡ p (getD xs i none))
+    → counted p (table n f) ≡ counted p xs
 counted-list p n f xs none e h =
-    counted-same p n f (λ i. getD xs i none) (λ i l. h i (omega arith)) ∙ ap (counted p) (table-of n (λ i. getD xs i none) xs none e (λ i l. refl))
+    counted-same p n f (λ i. getD xs i none) (λ i l. h i (omega arith))
+    ∙ ap (counted p) (table-of n (λ i. getD xs i none) xs none e (λ i l. refl))
 
 -- ---- Clients
 
-pub total-same : (n : ℕ) (f g : ℕ → ℕ) → ((d : ℕ) → 1 ≤ d → d ≤ n → f d ≡ g d) → total n f ≡ total n g
+pub total-same : (n : ℕ) (f g : ℕ → ℕ) → ((d : ℕ) → 1 ≤ d → d ≤ n → f d ≡ g d)
+    → total n f ≡ total n g
 unfolding total
 total-same zero f g h = refl
-total-same (suc n) f g h = omega (arith, total-same n f g (λ d l m. h d l (omega arith)), h (suc n) (omega arith) (omega arith))
+total-same (suc n) f g h = omega (
+  arith,
+  total-same n f g (λ d l m. h d l (omega arith)),
+  h (suc n)
+      (omega arith) (omega arith),
+)
 
 pub total-none : (f : ℕ → ℕ) → total 0 f ≡ 0
 unfolding total
 total-none f = refl
 
-pub total-next : (f : ℕ → ℕ) (i sum here : ℕ) → sum ≡ total i f → here ≡ f (i + 1) → sum + here ≡ total (i + 1) f
+pub total-next : (f : ℕ → ℕ) (i sum here : ℕ) → sum ≡ total i f → here ≡ f (i + 1)
+    → sum + here ≡ total (i + 1) f
 unfolding total
 total-next f i sum here e h = rw (e, h, add-one i)
 
@@ -93,12 +119,14 @@ module _ {n : ℕ} {p : ℕ → Bool} where
   unfolding every
   tested-none = record { within = zero-le; tested = refl }
 
-  pub tested-next : {k : ℕ} {ok here : Bool} → SoFar n p k ok → k < n → here ≡ p k → SoFar n p (k + 1) (ok && here)
+  pub tested-next : {k : ℕ} {ok here : Bool} → SoFar n p k ok → k < n → here ≡ p k
+      → SoFar n p (k + 1) (ok && here)
   unfolding every
   tested-next {k = k} s l h = record { within = omega arith; tested = rw (add-one k, s .tested, h) }
 
   pub tested-all : {k : ℕ} {ok : Bool} → SoFar n p k ok → n ≤ k → ok ≡ every n p
-  tested-all {k = k} s l = let whole : k ≡ n = omega arith in s .tested ∙ ap (λ (m : ℕ). every m p) whole
+  tested-all {k = k} s l = let whole : k ≡ n = omega arith in
+      s .tested ∙ ap (λ (m : ℕ). every m p) whole
 
 pub every-same : (n : ℕ) (p q : ℕ → Bool) → ((k : ℕ) → k < n → p k ≡ q k) → every n p ≡ every n q
 unfolding every
@@ -108,5 +136,7 @@ every-same (suc n) p q h = rw (every-same n p q (λ k l. h k (omega arith)), h n
 pub every-both : (n : ℕ) (p q : ℕ → Bool) → (every n p && every n q) ≡ every n (λ k. p k && q k)
 every-both n p q =
     test-ext _ _
-    (λ e. at-every n _ (λ k l. and-both (p k) (q k) (every-at n p (and-left _ _ e) k l) (every-at n q (and-right (every n p) _ e) k l)))
-    (λ e. and-both _ _ (at-every n p (λ k l. and-left (p k) (q k) (every-at n _ e k l))) (at-every n q (λ k l. and-right (p k) (q k) (every-at n _ e k l))))
+    (λ e. at-every n _ (λ k l. and-both (p k) (q k) (every-at n p (and-left _ _ e) k l)
+    (every-at n q (and-right (every n p) _ e) k l)))
+    (λ e. and-both _ _ (at-every n p (λ k l. and-left (p k) (q k) (every-at n _ e k l)))
+    (at-every n q (λ k l. and-right (p k) (q k) (every-at n _ e k l))))

@@ -1,4 +1,5 @@
--- Words gathered by `|` pass a test of their size exactly when each of them does, so that a loop tests them once, at its end.
+-- Words gathered by `|` pass a test of their size exactly when each of them does, so that a loop
+-- tests them once, at its end.
 use mathlib.Core.Bool.{Bool, true, false, not, cond, Bool·beq, _&&_, _||_}
 use mathlib.Core.Path.{_≡_, refl, sym, ap, ap₂, subst, _∙_}
 use Prim.Native.Nat.{ℕ, zero, suc, _+_, _^_, _<_}
@@ -24,12 +25,15 @@ or-below a b n =
     test-ext _ _
     (λ e.
     let l : bitOr a b < 2 ^ n = ltb-true (bitOr a b) (2 ^ n) e in
-    and-both _ _ (lt-ltb a (2 ^ n) (omega (arith, or-add-and a b, and-le-r a b))) (lt-ltb b (2 ^ n) (omega (arith, or-add-and a b, and-le-l a b))))
-    (λ e. lt-ltb _ _ (or-lt n a b (ltb-true a (2 ^ n) (and-left _ _ e)) (ltb-true b (2 ^ n) (and-right (allBelow a n) _ e))))
+    and-both _ _ (lt-ltb a (2 ^ n) (omega (arith, or-add-and a b, and-le-r a b)))
+    (lt-ltb b (2 ^ n) (omega (arith, or-add-and a b, and-le-l a b))))
+    (λ e. lt-ltb _ _ (or-lt n a b (ltb-true a (2 ^ n) (and-left _ _ e))
+    (ltb-true b (2 ^ n) (and-right (allBelow a n) _ e))))
 
 -- ---- What a loop keeps that gathers numbers of 32 bits and sets
 
-regroup : (ok here l m s t : Bool) → ((ok && l && s) && (here && m && t)) ≡ ((ok && here) && (l && m) && (s && t))
+regroup : (ok here l m s t : Bool)
+    → ((ok && l && s) && (here && m && t)) ≡ ((ok && here) && (l && m) && (s && t))
 regroup false here l m s t = refl
 regroup true false false m s t = refl
 regroup true false true m false t = refl
@@ -43,19 +47,24 @@ module _ {n : ℕ} {p : ℕ → Bool} (items : ℕ) where
   pub gather-none : SoFar n p 0 (true && fits 0 && allBelow 0 items)
   gather-none = subst (SoFar n p 0) (sym (lt-ltb 0 (2 ^ items) (pow-pos items))) tested-none
 
-  pub gather-next : (ok here : Bool) (numbers number sets set : ℕ) {k : ℕ} → SoFar n p k (ok && fits numbers && allBelow sets items) → k < n
+  pub gather-next : (ok here : Bool) (numbers number sets set : ℕ) {k : ℕ}
+      → SoFar n p k (ok && fits numbers && allBelow sets items) → k < n
       → (here && fits number && allBelow set items) ≡ p k
-      → SoFar n p (k + 1) ((ok && here) && fits (bitOr numbers number) && allBelow (bitOr sets set) items)
+      → SoFar n p (k + 1) ((ok && here) && fits (bitOr numbers number)
+      && allBelow (bitOr sets set) items)
   gather-next ok here numbers number sets set {k = k} s l e =
       subst (SoFar n p (k + 1))
       (regroup ok here (fits numbers) (fits number) (allBelow sets items) (allBelow set items)
-      ∙ ap₂ (λ (x y : Bool). (ok && here) && x && y) (sym (or-below numbers number 32)) (sym (or-below sets set items)))
+      ∙ ap₂ (λ (x y : Bool). (ok && here) && x && y) (sym (or-below numbers number 32))
+      (sym (or-below sets set items)))
       (tested-next s l e)
 
 -- and one that gathers numbers alone
-pub gather-numbers : {n : ℕ} {p : ℕ → Bool} (numbers number : ℕ) {k : ℕ} → SoFar n p k (fits numbers) → k < n → fits number ≡ p k
+pub gather-numbers : {n : ℕ} {p : ℕ → Bool} (numbers number : ℕ) {k : ℕ}
+    → SoFar n p k (fits numbers) → k < n → fits number ≡ p k
     → SoFar n p (k + 1) (fits (bitOr numbers number))
-gather-numbers {n = n} {p = p} numbers number {k = k} s l e = subst (SoFar n p (k + 1)) (sym (or-below numbers number 32)) (tested-next s l e)
+gather-numbers {n = n} {p = p} numbers number {k = k} s l e =
+    subst (SoFar n p (k + 1)) (sym (or-below numbers number 32)) (tested-next s l e)
 
 -- ---- A stamp by its parts
 
@@ -68,7 +77,12 @@ both-none stamp =
     test-ext _ _
     (λ e. rw (eqb-true stamp 0 e))
     (λ e. eq-eqb stamp 0
-    (omega (arith, eqb-true (writerOf stamp) 0 (and-left _ _ e), eqb-true (numberOf stamp) 0 (and-right (eqb (writerOf stamp) 0) _ e))))
+    (omega (
+      arith,
+      eqb-true (writerOf stamp) 0 (and-left _ _ e),
+      eqb-true (numberOf stamp) 0
+          (and-right (eqb (writerOf stamp) 0) _ e),
+    )))
 
 parts : (w n f l : Bool) → (w ≡ true → l ≡ true) → (n ≡ true → f ≡ true)
     → ((w && n) || (not n && f && (not w && l))) ≡ (Bool·beq w n && l && f)
@@ -81,19 +95,25 @@ parts false false true false p q = refl
 parts false false false true p q = refl
 parts false false false false p q = refl
 
-pub stamp-parts : (clients items stamp : ℕ) → stampInRange (sized clients items) stamp ≡ (partsTest clients stamp && fits (numberOf stamp))
+pub stamp-parts : (clients items stamp : ℕ)
+    → stampInRange (sized clients items) stamp ≡ (partsTest clients stamp && fits (numberOf stamp))
 unfolding stampInRange
 stamp-parts clients items stamp =
     rw (both-none stamp, not-one (numberOf stamp), not-one (writerOf stamp))
-    (parts (eqb (writerOf stamp) 0) (eqb (numberOf stamp) 0) (fits (numberOf stamp)) (leb (writerOf stamp) clients)
-    (λ e. le-leb (writerOf stamp) clients (omega (arith, eqb-true (writerOf stamp) 0 e))) (λ e. rw (eqb-true (numberOf stamp) 0 e)))
+    (parts (eqb (writerOf stamp) 0) (eqb (numberOf stamp) 0) (fits (numberOf stamp))
+    (leb (writerOf stamp) clients)
+    (λ e. le-leb (writerOf stamp) clients (omega (arith, eqb-true (writerOf stamp) 0 e)))
+    (λ e. rw (eqb-true (numberOf stamp) 0 e)))
 
 entry-parts : (clients items : ℕ) (e : Entry)
-    → (partsTest clients (e .stamp) && fits (numberOf (e .stamp)) && allBelow (e .set) items) ≡ entryInRange (sized clients items) e
+    → (partsTest clients (e .stamp) && fits (numberOf (e .stamp)) && allBelow (e .set) items)
+    ≡ entryInRange (sized clients items) e
 unfolding entryInRange
-entry-parts clients items e = ap (λ (x : Bool). x && allBelow (e .set) items) (sym (stamp-parts clients items (e .stamp)))
+entry-parts clients items e = ap (λ (x : Bool). x && allBelow (e .set) items)
+    (sym (stamp-parts clients items (e .stamp)))
 
-pub entry-words : (clients items : ℕ) (e : Entry) {stamp set : ℕ} {here : Bool} → here ≡ partsTest clients stamp → stamp ≡ e .stamp → set ≡ e .set
+pub entry-words : (clients items : ℕ) (e : Entry) {stamp set : ℕ} {here : Bool}
+    → here ≡ partsTest clients stamp → stamp ≡ e .stamp → set ≡ e .set
     → (here && fits (numberOf stamp) && allBelow set items) ≡ entryInRange (sized clients items) e
 entry-words clients items e p q r = rw (p, q, r) (entry-parts clients items e)
 
@@ -103,7 +123,8 @@ kept-value : (h : Bool) (word : ℕ) → fits (cond h word 0) ≡ (not h || fits
 kept-value true word = refl
 kept-value false word = refl
 
-pub value-words : (h : Bool) {word word′ kept : ℕ} → kept ≡ cond h word′ 0 → word′ ≡ word → fits kept ≡ (not h || fits word)
+pub value-words : (h : Bool) {word word′ kept : ℕ} → kept ≡ cond h word′ 0 → word′ ≡ word
+    → fits kept ≡ (not h || fits word)
 value-words h {word = word} p q = rw (p, q) (kept-value h word)
 
 -- ---- A version
@@ -116,11 +137,14 @@ later false true true false h = refl
 later false true false true h = refl
 later false true false false h = refl
 
-later-parts : (clients items stamp : ℕ) → (stampInRange (sized clients items) stamp && notInitial stamp)
-    ≡ (leb 1 (numberOf stamp) && (leb 1 (writerOf stamp) && leb (writerOf stamp) clients) && fits (numberOf stamp))
+later-parts : (clients items stamp : ℕ)
+    → (stampInRange (sized clients items) stamp && notInitial stamp)
+    ≡ (leb 1 (numberOf stamp) && (leb 1 (writerOf stamp) && leb (writerOf stamp) clients)
+    && fits (numberOf stamp))
 unfolding stampInRange
 later-parts clients items stamp =
-    later (eqb stamp 0) (leb 1 (numberOf stamp)) (fits (numberOf stamp)) (leb 1 (writerOf stamp) && leb (writerOf stamp) clients)
+    later (eqb stamp 0) (leb 1 (numberOf stamp)) (fits (numberOf stamp))
+    (leb 1 (writerOf stamp) && leb (writerOf stamp) clients)
     (λ e. rw (eqb-true stamp 0 e))
 
 regroup-version : (i v s n w f b h : Bool) → (s && n) ≡ (w && f) → (b ≡ true → h ≡ true → i ≡ true)
@@ -140,17 +164,23 @@ regroup-version i v s n w f b h e own =
     simp tells-and search)
 
 version-parts : (clients items : ℕ) (v : Version)
-    → (ownTest clients (v .item) (v .stamp) (v .set) && fits (bitOr (v .value) (numberOf (v .stamp))) && allBelow (v .set) items)
+    → (ownTest clients (v .item) (v .stamp) (v .set)
+    && fits (bitOr (v .value) (numberOf (v .stamp))) && allBelow (v .set) items)
     ≡ versionInRange (sized clients items) v
 unfolding versionInRange
 version-parts clients items v =
     rw (or-below (v .value) (numberOf (v .stamp)) 32)
-    (regroup-version (ltb (v .item) items) (fits (v .value)) (stampInRange (sized clients items) (v .stamp)) (notInitial (v .stamp))
-    (leb 1 (numberOf (v .stamp)) && (leb 1 (writerOf (v .stamp)) && leb (writerOf (v .stamp)) clients)) (fits (numberOf (v .stamp)))
+    (regroup-version (ltb (v .item) items) (fits (v .value))
+    (stampInRange (sized clients items) (v .stamp)) (notInitial (v .stamp))
+    (leb 1 (numberOf (v .stamp)) && (leb 1 (writerOf (v .stamp))
+    && leb (writerOf (v .stamp)) clients)) (fits (numberOf (v .stamp)))
     (allBelow (v .set) items) (has (v .set) (v .item)) (later-parts clients items (v .stamp))
-    (λ e f. lt-ltb (v .item) items (has-below (v .set) (v .item) items (ltb-true (v .set) (2 ^ items) e) f)))
+    (λ e f. lt-ltb (v .item) items
+    (has-below (v .set) (v .item) items (ltb-true (v .set) (2 ^ items) e) f)))
 
-pub version-words : (clients items : ℕ) (v : Version) {k value stamp set : ℕ} {here : Bool} → here ≡ ownTest clients k stamp set
+pub version-words : (clients items : ℕ) (v : Version) {k value stamp set : ℕ} {here : Bool}
+    → here ≡ ownTest clients k stamp set
     → k ≡ v .item → value ≡ v .value → stamp ≡ v .stamp → set ≡ v .set
-    → (here && fits (bitOr value (numberOf stamp)) && allBelow set items) ≡ versionInRange (sized clients items) v
+    → (here && fits (bitOr value (numberOf stamp)) && allBelow set items) ≡ versionInRange
+    (sized clients items) v
 version-words clients items v p q r s t = rw (p, q, r, s, t) (version-parts clients items v)

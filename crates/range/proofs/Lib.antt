@@ -1,4 +1,5 @@
--- Which tables a block holds, when it is valid, that calls keep tables masked; and the laws of the tests on words.
+-- Which tables a block holds, when it is valid, that calls keep tables masked; and the laws of the
+-- tests on words.
 pub mod Folds
 pub mod WellFormed
 pub mod Encoded

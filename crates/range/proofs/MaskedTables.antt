@@ -32,10 +32,18 @@ masked-client b d =
       last = masked-ended _ _ _ _ _;
     }
 
-pub masked-resting : (count : ℕ) (last : Ended) → MaskedEnded last → MaskedClient (resting count last)
+pub masked-resting : (count : ℕ) (last : Ended) → MaskedEnded last
+    → MaskedClient (resting count last)
 unfolding isWriting
 masked-resting count last m =
-    record { asked = λ k e. refl; values = λ k e. refl; writing = λ w k. refl; others = λ w. refl; last = m }
+    record {
+      asked = λ k e. refl;
+      values = λ k e. refl;
+      writing = λ w k. refl;
+      others =
+          λ w. refl;
+      last = m;
+    }
 
 pub masked-tables : (b : List ℕ) → Masked (tablesOf b)
 unfolding tablesOf

@@ -13,12 +13,14 @@ use Rattle.protocol.specs.Range.{capacities, isClient}
 use Rattle.protocol.proofs.Tells.{tells, tells-and}
 use Rattle.protocol.proofs.Ranges.Values.{SizesInRange, IsClient, tells-sizes}
 use Rattle.protocol.proofs.Ranges.Tables.{is-client, each-client, Valid, tells-valid}
-use Rattle.layout.specs.Layout.{header, scalars, needed, at, versionsAt, messagesAt, modeAt, lastKindAt}
+use Rattle.layout.specs.Layout.{header, scalars, needed, at, versionsAt, messagesAt, modeAt}
+use Rattle.layout.specs.Layout.{lastKindAt}
 use Rattle.layout.specs.Decode.{sizesIn, kindIn, tablesOf, wellFormed, validBlock}
 
 -- a client that exists passes its test
 pub client-test : (z : Sizes) (d : ℕ) → IsClient z d → isClient z d ≡ true
-client-test z d c = and-both (leb 1 d) (leb d (z .clients)) (le-leb 1 d (c .0)) (le-leb d (z .clients) (c .1))
+client-test z d c = and-both (leb 1 d) (leb d (z .clients)) (le-leb 1 d (c .0))
+    (le-leb d (z .clients) (c .1))
 
 pub record WellFormed (b : List ℕ) : Type 0 where
   pub long : needed ≤ length b
@@ -35,9 +37,12 @@ unfolding wellFormed
 tells-well-formed b = (
   λ e.
       let f = simp (tells, tells-sizes) at e in
-      let client = each-client (sizesIn b) (λ d. (at b scalars (modeAt d) < 3) × (at b scalars (lastKindAt d) < 3)) (f .0 .1) in
-      let mode : (d : ℕ) → IsClient (sizesIn b) d → at b scalars (modeAt d) < 3 = λ d c. client d c .0 in
-      let lastKind : (d : ℕ) → IsClient (sizesIn b) d → at b scalars (lastKindAt d) < 3 = λ d c. client d c .1 in
+      let client = each-client (sizesIn b)
+      (λ d. (at b scalars (modeAt d) < 3) × (at b scalars (lastKindAt d) < 3)) (f .0 .1) in
+      let mode : (d : ℕ) → IsClient (sizesIn b) d → at b scalars (modeAt d) < 3 =
+      λ d c. client d c .0 in
+      let lastKind : (d : ℕ) → IsClient (sizesIn b) d → at b scalars (lastKindAt d) < 3 =
+      λ d c. client d c .1 in
       let someKind : (i : ℕ) → i < at b header messagesAt → 1 ≤ kindIn b i = λ i l. f .1 i l .0 in
       let kind : (i : ℕ) → i < at b header messagesAt → kindIn b i ≤ 5 = λ i l. f .1 i l .1 in
       search,
@@ -51,4 +56,8 @@ pub record ValidBlock (b : List ℕ) : Type 0 where
 
 pub tells-valid-block : (b : List ℕ) → (validBlock b ≡ true) ↔ ValidBlock b
 unfolding validBlock
-tells-valid-block b = (λ e. let f = simp (tells-and, tells-well-formed, tells-valid) at e in search, λ r. simp (tells-and, tells-well-formed, tells-valid) search)
+tells-valid-block b = (
+  λ e. let f = simp (tells-and, tells-well-formed, tells-valid) at e in
+      search,
+  λ r. simp (tells-and, tells-well-formed, tells-valid) search,
+)

@@ -13,7 +13,8 @@ use Rattle.range.specs.Messages.{messageTest}
 unfoldable pub tablesTest : List ℕ → ℕ → ℕ → ℕ → ℕ → ℕ → Bool
 tablesTest b clients partitions items versions messages =
     every items (λ k. entryInRange (sized clients items) (latestIn b k))
-    && every clients (λ i. every items (λ k. entryInRange (sized clients items) (viewIn b (suc i) k)))
+    && every clients (λ i. every items (λ k. entryInRange (sized clients items)
+    (viewIn b (suc i) k)))
     && every clients (λ i. clientTest b (suc i) clients items)
     && every versions (λ i. versionInRange (sized clients items) (versionIn b i))
     && every messages (λ i. messageTest b i clients partitions items)

@@ -10,4 +10,5 @@ use Rattle.range.specs.Sized.{sizes}
 -- message i: the number of some kind, and in range
 abbrev pub messageTest : List ℕ → ℕ → ℕ → ℕ → ℕ → Bool
 messageTest b i clients partitions items =
-    leb 1 (kindIn b i) && leb (kindIn b i) 5 && messageInRange (sizes clients partitions items) (messageIn b i)
+    leb 1 (kindIn b i) && leb (kindIn b i) 5
+    && messageInRange (sizes clients partitions items) (messageIn b i)

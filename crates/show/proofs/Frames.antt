@@ -1,4 +1,5 @@
--- The frame that a block holds, by the kind of the client's last ended transaction; its length; and the same frame in the tables.
+-- The frame that a block holds, by the kind of the client's last ended transaction; its length; and
+-- the same frame in the tables.
 use mathlib.Core.Bool.{true}
 use mathlib.Core.List.{List, [], _++_}
 use mathlib.Core.Path.{_≡_, refl, sym, ap, _∙_}
@@ -18,7 +19,8 @@ use Rattle.protocol.specs.Range.{isClient}
 use Rattle.protocol.specs.Frame.{listed, shownEntry, frame}
 use Rattle.protocol.specs.Calls.{isNothing, shownFrame}
 use Rattle.protocol.proofs.Shown.{length-listed, length-frame-read, length-frame-write}
-use Rattle.layout.specs.Layout.{scalars, lastStamps, lastValues, at, lastKindAt, lastSetAt, lastStampAt, itemAt}
+use Rattle.layout.specs.Layout.{scalars, lastStamps, lastValues, at, lastKindAt, lastSetAt}
+use Rattle.layout.specs.Layout.{lastStampAt, itemAt}
 use Rattle.layout.specs.Decode.{within, endedOf, sizesIn, clientIn, tablesOf}
 use Rattle.show.specs.Show.{frameIn, head, readItem, writtenItem, readFrame, writeFrame}
 use Rattle.show.proofs.Listed.{listed-ext}
@@ -32,7 +34,8 @@ length-shownEntry : (stamp value : ℕ) → length (shownEntry stamp value) ≡ 
 length-shownEntry stamp value = simp (length-append, length-bigEndian)
 
 pub length-readItem : (b : List ℕ) (d k : ℕ) → length (readItem b d k) ≡ 9
-length-readItem b d k = length-shownEntry (at b lastStamps (itemAt d k)) (at b lastValues (itemAt d k))
+length-readItem b d k = length-shownEntry (at b lastStamps (itemAt d k))
+    (at b lastValues (itemAt d k))
 
 pub length-writtenItem : (b : List ℕ) (d k : ℕ) → length (writtenItem b d k) ≡ 4
 length-writtenItem b d k = length-bigEndian 4 (at b lastValues (itemAt d k))
@@ -46,7 +49,8 @@ ended-write zero s stamp stamps vs some other = absurd (some refl)
 ended-write (suc zero) s stamp stamps vs some other = absurd (other refl)
 ended-write (suc (suc n)) s stamp stamps vs some other = refl
 
-isNothing-ended : (kind s stamp : ℕ) (stamps vs : ℕ → ℕ) → isNothing (endedOf kind s stamp stamps vs) ≡ eqb kind 0
+isNothing-ended : (kind s stamp : ℕ) (stamps vs : ℕ → ℕ)
+    → isNothing (endedOf kind s stamp stamps vs) ≡ eqb kind 0
 unfolding endedOf isNothing
 isNothing-ended zero s stamp stamps vs = refl
 isNothing-ended (suc zero) s stamp stamps vs = refl
@@ -76,7 +80,8 @@ module _ (b : List ℕ) (d : ℕ) where
   unfolding clientIn endedOf
   last-read e = rw e
 
-  last-write : (kind ≡ 0 → ⊥) → (kind ≡ 1 → ⊥) → clientIn b d .last ≡ write set stamp (within set values)
+  last-write : (kind ≡ 0 → ⊥) → (kind ≡ 1 → ⊥)
+      → clientIn b d .last ≡ write set stamp (within set values)
   unfolding clientIn
   last-write some other = ended-write kind set stamp stamps values some other
 
@@ -96,9 +101,11 @@ module _ (b : List ℕ) (d : ℕ) where
   frameIn-read e =
       ap (frame d) (last-read e)
       ∙ ap (λ (l : List ℕ). head 0x21 d set ++ l)
-      (listed-ext (λ k. shownEntry (within set stamps k) (within set values k)) (readItem b d) set 64 (λ k h. rw h))
+      (listed-ext (λ k. shownEntry (within set stamps k) (within set values k))
+      (readItem b d) set 64 (λ k h. rw h))
 
-  pub frameIn-write : (kind ≡ 0 → ⊥) → (kind ≡ 1 → ⊥) → frameIn b d ≡ writeFrame b d set (numberOf stamp)
+  pub frameIn-write : (kind ≡ 0 → ⊥) → (kind ≡ 1 → ⊥)
+      → frameIn b d ≡ writeFrame b d set (numberOf stamp)
   unfolding frame
   frameIn-write some other =
       ap (frame d) (last-write some other)
@@ -115,7 +122,8 @@ module _ (b : List ℕ) (d : ℕ) where
       ap (λ (x : Ended). length (frame d x)) (last-read e)
       ∙ length-frame-read d set (within set stamps) (within set values) below
 
-  pub length-frameIn-write : set < 2 ^ 64 → (kind ≡ 0 → ⊥) → (kind ≡ 1 → ⊥) → length (frameIn b d) ≡ 14 + 4 * count set
+  pub length-frameIn-write : set < 2 ^ 64 → (kind ≡ 0 → ⊥) → (kind ≡ 1 → ⊥)
+      → length (frameIn b d) ≡ 14 + 4 * count set
   length-frameIn-write below some other =
       ap (λ (x : Ended). length (frame d x)) (last-write some other)
       ∙ length-frame-write d set stamp (within set values) below
@@ -136,10 +144,30 @@ unfolding frame
 length-frame-le d nothing = omega arith
 length-frame-le d (read s asked shown) =
     let entry : ℕ → List ℕ = λ k. shownEntry (asked k) (shown k) in
-    omega
-    (arith, length-append (head 0x21 d s) (listed entry (members 64 s)), length-head 0x21 d s, length-listed entry 9 (λ k. length-shownEntry (asked k) (shown k)) (members 64 s), length-members-rank s 64, rank-le-item s 64)
+    omega (
+      arith,
+      length-append (head 0x21 d s)
+          (listed entry (members 64 s)),
+      length-head 0x21 d s,
+      length-listed entry 9
+          (λ k. length-shownEntry (asked k) (shown k))
+          (members 64 s),
+      length-members-rank s 64,
+      rank-le-item s 64,
+    )
 length-frame-le d (write s own shown) =
     let number = bigEndian 4 (numberOf own) in
     let entry : ℕ → List ℕ = λ k. bigEndian 4 (shown k) in
-    omega
-    (arith, length-append (head 0x20 d s ++ number) (listed entry (members 64 s)), length-append (head 0x20 d s) number, length-head 0x20 d s, length-bigEndian 4 (numberOf own), length-listed entry 4 (λ k. length-bigEndian 4 (shown k)) (members 64 s), length-members-rank s 64, rank-le-item s 64)
+    omega (
+      arith,
+      length-append (head 0x20 d s ++ number) (listed entry (members 64 s)),
+      length-append
+          (head 0x20 d s) number,
+      length-head 0x20 d s,
+      length-bigEndian 4
+          (numberOf own),
+      length-listed entry 4 (λ k. length-bigEndian 4 (shown k))
+          (members 64 s),
+      length-members-rank s 64,
+      rank-le-item s 64,
+    )

@@ -36,4 +36,5 @@ abbrev pub readFrame : List ℕ → ℕ → ℕ → List ℕ
 readFrame b d s = head 0x21 d s ++ listed (readItem b d) (members 64 s)
 
 abbrev pub writeFrame : List ℕ → ℕ → ℕ → ℕ → List ℕ
-writeFrame b d s number = head 0x20 d s ++ bigEndian 4 number ++ listed (writtenItem b d) (members 64 s)
+writeFrame b d s number = head 0x20 d s ++ bigEndian 4 number ++ listed (writtenItem b d)
+    (members 64 s)

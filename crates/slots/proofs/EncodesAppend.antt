@@ -9,8 +9,10 @@ use Rattle.protocol.specs.declared.Version.{Version}
 use Rattle.protocol.specs.declared.Message.{Message}
 use Rattle.protocol.specs.declared.Message.the-variants.{Prepare, Prepared, Commit, Get, Got}
 use Rattle.protocol.specs.Tables.{Tables, withVersions, withMessages}
-use Rattle.layout.specs.Layout.{versions, messages, base, needed, at, versionsAt, messagesAt, versionAt, messageAt}
-use Rattle.layout.specs.Store.{wordsOfVersion, wordsOfMessage, storeVersion, storeMessage, appendVersion, appendMessage}
+use Rattle.layout.specs.Layout.{versions, messages, base, needed, at, versionsAt, messagesAt}
+use Rattle.layout.specs.Layout.{versionAt, messageAt}
+use Rattle.layout.specs.Store.{wordsOfVersion, wordsOfMessage, storeVersion, storeMessage}
+use Rattle.layout.specs.Store.{appendVersion, appendMessage}
 use Rattle.layout.specs.Encodes.{Encodes, HoldsVersion, HoldsMessage, word}
 use Rattle.layout.proofs.Room.{HasRoom}
 use Rattle.layout.proofs.Kept.{moved-version, moved-message}
@@ -22,10 +24,12 @@ use Rattle.slots.proofs.SameLists.{same-lists}
 -- ---- versions
 
 module _ (b : List ℕ) (n : ℕ) (v : Version) (long : needed ≤ length b) (room : n < 512) where
-  appended-version-word : (f : ℕ) → f < 4 → at (appendVersion b n v) versions (versionAt n f) ≡ getD (wordsOfVersion v) f 0
+  appended-version-word : (f : ℕ) → f < 4
+      → at (appendVersion b n v) versions (versionAt n f) ≡ getD (wordsOfVersion v) f 0
   unfolding appendVersion storeVersion
   appended-version-word f l =
-      run-within b (base versions + versionAt n 0) (wordsOfVersion v) versionsAt (n + 1) 0 (base versions + versionAt n f) f
+      run-within b (base versions + versionAt n 0) (wordsOfVersion v) versionsAt (n + 1) 0
+      (base versions + versionAt n f) f
       (omega arith) l (omega arith) (omega arith)
 
   appended-version : HoldsVersion (appendVersion b n v) n v
@@ -37,7 +41,8 @@ module _ (b : List ℕ) (n : ℕ) (v : Version) (long : needed ≤ length b) (ro
         set = appended-version-word 3 (omega arith);
       }
 
-pub encodes-append-version : {b : List ℕ} {t : Tables} (n : ℕ) (v : Version) → Encodes b t → HasRoom t → n ≡ length (t .versions) → n < 512
+pub encodes-append-version : {b : List ℕ} {t : Tables} (n : ℕ) (v : Version) → Encodes b t
+    → HasRoom t → n ≡ length (t .versions) → n < 512
     → Encodes (appendVersion b n v) (withVersions t (t .versions ++ v ∷ []))
 unfolding appendVersion storeVersion
 encodes-append-version {b} {t} n v e r k h =
@@ -46,15 +51,19 @@ encodes-append-version {b} {t} n v e r k h =
     let ws = wordsOfVersion v in
     encodes-lists (t .versions ++ v ∷ []) (t .messages) e r
     (same-lists b from ws versionsAt (n + 1) (omega arith) (omega arith) (omega arith))
-    (run-elsewhere b from ws versionsAt (n + 1) 0 (omega (arith, e .long)) ∙ omega (arith, length-append (t .versions) (v ∷ [])))
-    (run-before b from ws versionsAt (n + 1) 0 messagesAt (omega arith) (omega arith) ∙ e .messageCount)
+    (run-elsewhere b from ws versionsAt (n + 1) 0 (omega (arith, e .long))
+    ∙ omega (arith, length-append (t .versions) (v ∷ [])))
+    (run-before b from ws versionsAt (n + 1) 0 messagesAt (omega arith) (omega arith)
+    ∙ e .messageCount)
     (each-append (HoldsVersion c) (t .versions) v
     (λ i l none.
-    moved-version (λ f g. run-before b from ws versionsAt (n + 1) 0 (base versions + versionAt i f) (omega arith) (omega arith)) (e .versions i l none))
+    moved-version (λ f g. run-before b from ws versionsAt (n + 1) 0 (base versions + versionAt i f)
+    (omega arith) (omega arith)) (e .versions i l none))
     (subst (λ (m : ℕ). HoldsVersion c m v) k (appended-version b n v (e .long) h)))
     (λ i l none.
     moved-message b c i i (getD (t .messages) i none)
-    (λ f g. run-behind b from ws versionsAt (n + 1) 0 (base messages + messageAt i f) (omega arith) (omega arith)) (e .messages i l none))
+    (λ f g. run-behind b from ws versionsAt (n + 1) 0 (base messages + messageAt i f) (omega arith)
+    (omega arith)) (e .messages i l none))
 
 -- ---- messages
 
@@ -66,22 +75,37 @@ length-words (Get d k stamp) = refl
 length-words (Got d v e) = refl
 
 module _ (b : List ℕ) (n : ℕ) (long : needed ≤ length b) (room : n < 128) where
-  appended-word : (m : Message) (f : ℕ) → f < 8 → word (appendMessage b n m) n f ≡ getD (wordsOfMessage m) f 0
+  appended-word : (m : Message) (f : ℕ) → f < 8
+      → word (appendMessage b n m) n f ≡ getD (wordsOfMessage m) f 0
   unfolding appendMessage storeMessage
   appended-word m f l =
-      run-within b (base messages + messageAt n 0) (wordsOfMessage m) messagesAt (n + 1) 0 (base messages + messageAt n f) f
+      run-within b (base messages + messageAt n 0) (wordsOfMessage m) messagesAt (n + 1) 0
+      (base messages + messageAt n f) f
       (omega arith) (omega (arith, length-words m)) (omega (arith, length-words m)) (omega arith)
 
   appended-message : (m : Message) → HoldsMessage (appendMessage b n m) n m
-  appended-message (Prepare v) = let w = appended-word (Prepare v) in (w 0 (lit< tt), w 2 (lit< tt), w 3 (lit< tt), w 4 (lit< tt), w 5 (lit< tt))
-  appended-message (Prepared k stamp) = let w = appended-word (Prepared k stamp) in (w 0 (lit< tt), w 2 (lit< tt), w 4 (lit< tt))
-  appended-message (Commit p stamp) = let w = appended-word (Commit p stamp) in (w 0 (lit< tt), w 1 (lit< tt), w 4 (lit< tt))
-  appended-message (Get d k stamp) = let w = appended-word (Get d k stamp) in (w 0 (lit< tt), w 1 (lit< tt), w 2 (lit< tt), w 4 (lit< tt))
+  appended-message (Prepare v) = let w = appended-word (Prepare v) in
+      (w 0 (lit< tt), w 2 (lit< tt), w 3 (lit< tt), w 4 (lit< tt), w 5 (lit< tt))
+  appended-message (Prepared k stamp) = let w = appended-word (Prepared k stamp) in
+      (w 0 (lit< tt), w 2 (lit< tt), w 4 (lit< tt))
+  appended-message (Commit p stamp) = let w = appended-word (Commit p stamp) in
+      (w 0 (lit< tt), w 1 (lit< tt), w 4 (lit< tt))
+  appended-message (Get d k stamp) = let w = appended-word (Get d k stamp) in
+      (w 0 (lit< tt), w 1 (lit< tt), w 2 (lit< tt), w 4 (lit< tt))
   appended-message (Got d v e) =
-      let w = appended-word (Got d v e) in
-      (w 0 (lit< tt), w 1 (lit< tt), w 2 (lit< tt), w 3 (lit< tt), w 4 (lit< tt), w 6 (lit< tt), w 7 (lit< tt))
+      let w = appended-word (Got d v e) in (
+        w 0 (lit< tt),
+        w 1 (lit< tt),
+        w 2 (lit< tt),
+        w 3 (lit< tt),
+        w 4 (lit< tt),
+        w 6 (lit< tt),
+        w 7
+            (lit< tt),
+      )
 
-pub encodes-append-message : {b : List ℕ} {t : Tables} (n : ℕ) (m : Message) → Encodes b t → HasRoom t → n ≡ length (t .messages) → n < 128
+pub encodes-append-message : {b : List ℕ} {t : Tables} (n : ℕ) (m : Message) → Encodes b t
+    → HasRoom t → n ≡ length (t .messages) → n < 128
     → Encodes (appendMessage b n m) (withMessages t (t .messages ++ m ∷ []))
 unfolding appendMessage storeMessage
 encodes-append-message {b} {t} n m e r k h =
@@ -90,12 +114,16 @@ encodes-append-message {b} {t} n m e r k h =
     let ws = wordsOfMessage m in
     encodes-lists (t .versions) (t .messages ++ m ∷ []) e r
     (same-lists b from ws messagesAt (n + 1) (omega arith) (omega arith) (omega arith))
-    (run-before b from ws messagesAt (n + 1) 0 versionsAt (omega arith) (omega arith) ∙ e .versionCount)
-    (run-elsewhere b from ws messagesAt (n + 1) 0 (omega (arith, e .long)) ∙ omega (arith, length-append (t .messages) (m ∷ [])))
+    (run-before b from ws messagesAt (n + 1) 0 versionsAt (omega arith) (omega arith)
+    ∙ e .versionCount)
+    (run-elsewhere b from ws messagesAt (n + 1) 0 (omega (arith, e .long))
+    ∙ omega (arith, length-append (t .messages) (m ∷ [])))
     (λ i l none.
-    moved-version (λ f g. run-before b from ws messagesAt (n + 1) 0 (base versions + versionAt i f) (omega (arith, r .versions)) (omega arith)) (e .versions i l none))
+    moved-version (λ f g. run-before b from ws messagesAt (n + 1) 0 (base versions + versionAt i f)
+    (omega (arith, r .versions)) (omega arith)) (e .versions i l none))
     (each-append (HoldsMessage c) (t .messages) m
     (λ i l none.
     moved-message b c i i (getD (t .messages) i none)
-    (λ f g. run-before b from ws messagesAt (n + 1) 0 (base messages + messageAt i f) (omega arith) (omega arith)) (e .messages i l none))
+    (λ f g. run-before b from ws messagesAt (n + 1) 0 (base messages + messageAt i f) (omega arith)
+    (omega arith)) (e .messages i l none))
     (subst (λ (j : ℕ). HoldsMessage c j m) k (appended-message b n (e .long) h m)))

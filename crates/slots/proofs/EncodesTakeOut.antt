@@ -1,5 +1,5 @@
--- A block that holds tables holds them without a message after it is taken out: earlier messages stay, the words of each later one move
--- up by one message.
+-- A block that holds tables holds them without a message after it is taken out: earlier messages
+-- stay, the words of each later one move up by one message.
 use mathlib.Core.List.{List}
 use mathlib.Core.Path.{_≡_, ap, _∙_}
 use Prim.Native.Nat.{ℕ, suc, _+_, _-_, _*_, _<_, _≤_}
@@ -9,7 +9,8 @@ use lib.Seq.{length-take-le, getD-take, getD-drop}
 use Rattle.basics.specs.Lists.{without}
 use Rattle.basics.proofs.Lists.{length-without}
 use Rattle.protocol.specs.Tables.{Tables, withMessages}
-use Rattle.layout.specs.Layout.{versions, messages, base, versionsAt, messagesAt, versionAt, messageAt, needed}
+use Rattle.layout.specs.Layout.{versions, messages, base, versionsAt, messagesAt, versionAt}
+use Rattle.layout.specs.Layout.{messageAt, needed}
 use Rattle.layout.specs.Store.{takeOut}
 use Rattle.layout.specs.Encodes.{Encodes, HoldsMessage, word}
 use Rattle.layout.proofs.Room.{HasRoom}
@@ -34,12 +35,14 @@ module _ (b : List ℕ) (n i : ℕ) (long : needed ≤ length b) (some : i < n) 
   moved-word j f l h g =
       let from = base messages + messageAt i 0 in
       let k = 8 * (j - i) + f in
-      run-within b from (later b n i) messagesAt (n - 1) 0 (base messages + messageAt j f) k (omega arith) (omega (arith, length-later)) (omega (arith, length-later)) (omega arith)
+      run-within b from (later b n i) messagesAt (n - 1) 0 (base messages + messageAt j f) k
+      (omega arith) (omega (arith, length-later)) (omega (arith, length-later)) (omega arith)
       ∙ getD-take (8 * (n - (i + 1))) (drop (from + 8) b) k 0 (omega arith)
       ∙ getD-drop (from + 8) b k 0
       ∙ ap (λ (m : ℕ). getD b m 0) (omega arith)
 
-pub encodes-take-out : {b : List ℕ} {t : Tables} (n i : ℕ) → Encodes b t → HasRoom t → n ≡ length (t .messages) → i < n → n ≤ 128
+pub encodes-take-out : {b : List ℕ} {t : Tables} (n i : ℕ) → Encodes b t → HasRoom t
+    → n ≡ length (t .messages) → i < n → n ≤ 128
     → Encodes (takeOut b n i) (withMessages t (without i (t .messages)))
 unfolding takeOut
 encodes-take-out {b} {t} n i e r k some room =
@@ -48,11 +51,17 @@ encodes-take-out {b} {t} n i e r k some room =
     let ws = later b n i in
     encodes-lists (t .versions) (without i (t .messages)) e r
     (same-lists b from ws messagesAt (n - 1) (omega arith) (omega arith) (omega arith))
-    (run-before b from ws messagesAt (n - 1) 0 versionsAt (omega arith) (omega arith) ∙ e .versionCount)
-    (run-elsewhere b from ws messagesAt (n - 1) 0 (omega (arith, e .long)) ∙ omega (arith, length-without i (t .messages) (omega arith)))
+    (run-before b from ws messagesAt (n - 1) 0 versionsAt (omega arith) (omega arith)
+    ∙ e .versionCount)
+    (run-elsewhere b from ws messagesAt (n - 1) 0 (omega (arith, e .long))
+    ∙ omega (arith, length-without i (t .messages) (omega arith)))
     (λ j l none.
-    moved-version (λ f g. run-before b from ws messagesAt (n - 1) 0 (base versions + versionAt j f) (omega (arith, r .versions)) (omega arith)) (e .versions j l none))
+    moved-version (λ f g. run-before b from ws messagesAt (n - 1) 0 (base versions + versionAt j f)
+    (omega (arith, r .versions)) (omega arith)) (e .versions j l none))
     (each-without (HoldsMessage b) (HoldsMessage c) (t .messages) i (omega arith)
-    (λ j m l. moved-message b c j j m (λ f g. run-before b from ws messagesAt (n - 1) 0 (base messages + messageAt j f) (omega arith) (omega arith)))
-    (λ j m l h. moved-message b c (suc j) j m (λ f g. moved-word b n i (e .long) some room j f l (omega arith) g))
+    (λ j m l. moved-message b c j j m
+    (λ f g. run-before b from ws messagesAt (n - 1) 0 (base messages + messageAt j f)
+    (omega arith) (omega arith)))
+    (λ j m l h. moved-message b c (suc j) j m
+    (λ f g. moved-word b n i (e .long) some room j f l (omega arith) g))
     (e .messages))

@@ -18,11 +18,13 @@ use Rattle.slots.specs.Found.{orElse, first}
 
 -- ---- the first that passes
 
-pub first-next : (p : ℕ → Bool) (i : ℕ) → first p i ≡ Nothing → p i ≡ false → first p (suc i) ≡ Nothing
+pub first-next : (p : ℕ → Bool) (i : ℕ) → first p i ≡ Nothing → p i ≡ false
+    → first p (suc i) ≡ Nothing
 unfolding first
 first-next p i none e = rw (none, e) refl
 
-pub first-here : (p : ℕ → Bool) (i n : ℕ) → first p i ≡ Nothing → p i ≡ true → i < n → first p n ≡ At i
+pub first-here : (p : ℕ → Bool) (i n : ℕ) → first p i ≡ Nothing → p i ≡ true → i < n
+    → first p n ≡ At i
 unfolding first
 first-here p i zero none e h = absurd (not-suc-le-zero h)
 first-here p i (suc n) none e h =
@@ -80,7 +82,9 @@ pub stored-first : (n : ℕ) (f : ℕ → Version) (k stamp : ℕ)
 unfolding stored table first
 stored-first zero f k stamp = refl
 stored-first (suc n) f k stamp =
-    stored-append (table n f) (f n ∷ []) k stamp ∙ rw (stored-first n f k stamp, or-false) (next (first (λ i. alike k stamp (f i)) n) (alike k stamp (f n)))
+    stored-append (table n f) (f n ∷ []) k stamp
+    ∙ rw (stored-first n f k stamp, or-false)
+    (next (first (λ i. alike k stamp (f i)) n) (alike k stamp (f n)))
   where
     next : (r : Found) (t : Bool) → (isAt r || t) ≡ isAt (orElse r (cond t (At n) Nothing))
     next (At i) t = refl
@@ -93,10 +97,13 @@ unfolding found table first
 found-first zero f k stamp = refl
 found-first (suc n) f k stamp =
     found-append (table n f) (f n ∷ []) k stamp
-    ∙ rw (stored-first n f k stamp, found-first n f k stamp) (next (first (λ i. alike k stamp (f i)) n) (alike k stamp (f n)))
+    ∙ rw (stored-first n f k stamp, found-first n f k stamp)
+    (next (first (λ i. alike k stamp (f i)) n) (alike k stamp (f n)))
   where
     next : (r : Found) (t : Bool)
-        → cond (isAt r) (foundAt f k stamp r) (cond t (f n) (version k 0 stamp 0)) ≡ foundAt f k stamp (orElse r (cond t (At n) Nothing))
+        → cond (isAt r) (foundAt f k stamp r)
+        (cond t (f n) (version k 0 stamp 0)) ≡ foundAt f k stamp
+        (orElse r (cond t (At n) Nothing))
     next (At i) t = refl
     next Nothing true = refl
     next Nothing false = refl

@@ -8,7 +8,8 @@ use Rattle.protocol.specs.Steps.{version}
 use Rattle.layout.specs.Decode.{messageOf}
 
 -- from kind 5 on, a got
-pub kind-got : (kind who k v stamp s : ℕ) (e : Entry) → 5 ≤ kind → messageOf kind who k v stamp s e ≡ Got who (version k v stamp 0) e
+pub kind-got : (kind who k v stamp s : ℕ) (e : Entry) → 5 ≤ kind
+    → messageOf kind who k v stamp s e ≡ Got who (version k v stamp 0) e
 unfolding messageOf
 kind-got zero who k v stamp s e h = absurd (omega arith)
 kind-got (suc zero) who k v stamp s e h = absurd (omega arith)

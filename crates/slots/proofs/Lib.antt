@@ -1,4 +1,5 @@
--- Laws of the stored versions and of the messages in flight: runs of words, the search, and what each change does to the tables.
+-- Laws of the stored versions and of the messages in flight: runs of words, the search, and what
+-- each change does to the tables.
 pub mod Runs
 pub mod First
 pub mod Kind

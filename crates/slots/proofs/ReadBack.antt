@@ -14,20 +14,26 @@ use Rattle.layout.specs.Encodes.{Encodes}
 use Rattle.layout.proofs.Held.{version-held, message-held}
 use Rattle.slots.proofs.Each.{table-each}
 
-pub read-version : {b : List ℕ} {t : Tables} → Encodes b t → (i : ℕ) → i < length (t .versions) → (none : Version)
+pub read-version : {b : List ℕ} {t : Tables} → Encodes b t → (i : ℕ) → i < length (t .versions)
+    → (none : Version)
     → versionIn b i ≡ getD (t .versions) i none
-read-version {b} {t} e i l none = version-held b i (getD (t .versions) i none) (e .versions i l none)
+read-version {b} {t} e i l none = version-held b i (getD (t .versions) i none)
+    (e .versions i l none)
 
-pub table-versions : {b : List ℕ} {t : Tables} → Encodes b t → table (length (t .versions)) (versionIn b) ≡ t .versions
+pub table-versions : {b : List ℕ} {t : Tables} → Encodes b t
+    → table (length (t .versions)) (versionIn b) ≡ t .versions
 table-versions {b} {t} e = table-each (versionIn b) (t .versions) (read-version e)
 
 -- of messages, where a got's version has the empty set
-pub read-message : {b : List ℕ} {t : Tables} → Encodes b t → ((m : Message) → In m (t .messages) → MaskedMessage m)
-    → (i : ℕ) → i < length (t .messages) → (none : Message) → messageIn b i ≡ getD (t .messages) i none
+pub read-message : {b : List ℕ} {t : Tables} → Encodes b t
+    → ((m : Message) → In m (t .messages) → MaskedMessage m)
+    → (i : ℕ) → i < length (t .messages) → (none : Message)
+    → messageIn b i ≡ getD (t .messages) i none
 read-message {b} {t} e masked i l none =
     let m = getD (t .messages) i none in
     message-held b i m (e .messages i l none) (masked m (in-getD (t .messages) i none l))
 
-pub table-messages : {b : List ℕ} {t : Tables} → Encodes b t → ((m : Message) → In m (t .messages) → MaskedMessage m)
+pub table-messages : {b : List ℕ} {t : Tables} → Encodes b t
+    → ((m : Message) → In m (t .messages) → MaskedMessage m)
     → table (length (t .messages)) (messageIn b) ≡ t .messages
 table-messages {b} {t} e masked = table-each (messageIn b) (t .messages) (read-message e masked)

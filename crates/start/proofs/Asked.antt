@@ -16,10 +16,12 @@ use Rattle.layout.proofs.ClientWords.{Words, putAsked, putValue}
 use Rattle.layout.proofs.Changed.{changed-asked, changed-value}
 use Rattle.start.specs.Start.{askItem}
 use Rattle.start.proofs.Choice.{choice-ext}
-use Rattle.start.proofs.Filled.{Agree, agree-none, agree-put, agree-skip, Filled, filled-none}
+use Rattle.start.proofs.Filled.{Agree, agree-none, agree-put, agree-skip, Filled}
+use Rattle.start.proofs.Filled.{filled-none}
 
 -- the choice looks at the view alone
-kept-view : (b x : List ℕ) (d k : ℕ) → Kept views b x → 1 ≤ d → d ≤ 8 → k < 64 → viewIn x d k ≡ viewIn b d k
+kept-view : (b x : List ℕ) (d k : ℕ) → Kept views b x → 1 ≤ d → d ≤ 8 → k < 64
+    → viewIn x d k ≡ viewIn b d k
 kept-view b x d k h l g r =
     let stamp = h (viewAt d k) (omega arith) in
     let set = h (viewAt d k + 1) (omega arith) in
@@ -28,14 +30,16 @@ kept-view b x d k h l g r =
 kept-choice : (b x : List ℕ) (d k items : ℕ) → Kept views b x → 1 ≤ d → d ≤ 8 → k < 64 → items ≤ 64
     → choice (viewIn x d) k items ≡ choice (viewIn b d) k items
 kept-choice b x d k items h l g r m =
-    choice-ext (viewIn x d) (viewIn b d) k items (kept-view b x d k h l g r) (λ i n. kept-view b x d i h l g (omega arith))
+    choice-ext (viewIn x d) (viewIn b d) k items (kept-view b x d k h l g r)
+    (λ i n. kept-view b x d i h l g (omega arith))
 
 -- the items of s below k have been asked for
 pub record AskedFor (b : List ℕ) (d s items k : ℕ) (w : Words) : Type 0 where
   pub asked : Agree s k (w .asked) (λ j. choice (viewIn b d) j items)
   pub values : Agree s k (w .values) (λ j. 0)
 
-module _ (b : List ℕ) (d s items : ℕ) (first : 1 ≤ d) (last : d ≤ 8) (narrow : items ≤ 64) (long : needed ≤ length b) where
+module _ (b : List ℕ) (d s items : ℕ) (first : 1 ≤ d) (last : d ≤ 8) (narrow : items ≤ 64)
+    (long : needed ≤ length b) where
   abbrev Passed : ℕ → List ℕ → Type 0
   Passed k x = Filled d b x (AskedFor b d s items k)
 
@@ -48,13 +52,15 @@ module _ (b : List ℕ) (d s items : ℕ) (first : 1 ≤ d) (last : d ≤ 8) (na
       rw e
       (record {
         words = putValue (putAsked w k stamp) k 0;
-        changed = changed-value (changed-asked (f .changed) k stamp (omega arith)) k 0 (omega arith);
+        changed = changed-value (changed-asked (f .changed) k stamp (omega arith)) k 0
+            (omega arith);
         scalar = f .scalar;
         lastStamps = f .lastStamps;
         lastValues = f .lastValues;
         done = record {
           asked = agree-put s k (w .asked) (λ j. choice (viewIn b d) j items) stamp
-              (kept-choice b x d k items (f .changed .same .views) first last (omega arith) narrow) (f .done .asked);
+              (kept-choice b x d k items (f .changed .same .views) first last (omega arith) narrow)
+              (f .done .asked);
           values = agree-put s k (w .values) (λ j. 0) 0 refl (f .done .values);
         };
       }))
@@ -75,5 +81,6 @@ module _ (b : List ℕ) (d s items : ℕ) (first : 1 ≤ d) (last : d ≤ 8) (na
   pub asked-filled : Filled d b (upTo (askItem d s items) b items) (AskedFor b d s items items)
   asked-filled =
       upTo-all Passed (askItem d s items) b items
-      (filled-none d b (AskedFor b d s items 0) first last long (record { asked = agree-none s _ _; values = agree-none s _ _ }))
+      (filled-none d b (AskedFor b d s items 0) first last long
+      (record { asked = agree-none s _ _; values = agree-none s _ _ }))
       ask-turn

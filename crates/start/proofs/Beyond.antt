@@ -16,7 +16,9 @@ use Rattle.protocol.specs.Range.{capacities, load}
 use Rattle.protocol.specs.Steps.{version}
 use Rattle.protocol.proofs.Put.{by-cond}
 use Rattle.protocol.proofs.Refusals.{AcceptedStart, AcceptedWrite}
-use Rattle.layout.specs.Layout.{Section, scalars, asked, values, messages, base, needed, at, store, messagesAt, modeAt, countAt, setAt, awaitedAt, stampAt, itemAt, messageAt}
+use Rattle.layout.specs.Layout.{Section, scalars, asked, values, messages, base, needed, at, store}
+use Rattle.layout.specs.Layout.{messagesAt, modeAt, countAt, setAt, awaitedAt, stampAt, itemAt}
+use Rattle.layout.specs.Layout.{messageAt}
 use Rattle.layout.specs.Store.{wordsOfMessage, storeMessage, appendMessage}
 use Rattle.layout.specs.Encodes.{Encodes}
 use Rattle.layout.proofs.Room.{HasRoom, room-valid}
@@ -31,14 +33,16 @@ pub record SameBeyond (b x : List ℕ) : Type 0 where
 same-none : {b : List ℕ} → SameBeyond b b
 same-none = record { long = refl; past = λ i l. refl }
 
-same-store : {b x : List ℕ} (s : Section) (i v : ℕ) → base s + i < needed → SameBeyond b x → SameBeyond b (store x s i v)
+same-store : {b x : List ℕ} (s : Section) (i v : ℕ) → base s + i < needed → SameBeyond b x
+    → SameBeyond b (store x s i v)
 same-store {b} {x} s i v l h =
     record {
       long = length-set x (base s + i) v ∙ h .long;
       past = λ j g. getD-set-other x (base s + i) j v 0 (omega arith) ∙ h .past j g;
     }
 
-same-append : {b x : List ℕ} (n : ℕ) (m : Message) → n < 128 → length (wordsOfMessage m) ≡ 8 → SameBeyond b x → SameBeyond b (appendMessage x n m)
+same-append : {b x : List ℕ} (n : ℕ) (m : Message) → n < 128 → length (wordsOfMessage m) ≡ 8
+    → SameBeyond b x → SameBeyond b (appendMessage x n m)
 unfolding appendMessage storeMessage
 same-append {b} {x} n m l w h =
     let from = base messages + messageAt n 0 in
@@ -48,8 +52,10 @@ same-append {b} {x} n m l w h =
     }
 
 -- a pass of messages
-same-sends : {b : List ℕ} (x : List ℕ) (n s : ℕ) (made : List ℕ → ℕ → Message) (items : ℕ) → n + count s ≤ 128
-    → ((y : List ℕ) (k : ℕ) → length (wordsOfMessage (made y k)) ≡ 8) → SameBeyond b x → SameBeyond b (upTo (λ y k. sendItem n s (made y k) y k) x items)
+same-sends : {b : List ℕ} (x : List ℕ) (n s : ℕ) (made : List ℕ → ℕ → Message) (items : ℕ)
+    → n + count s ≤ 128
+    → ((y : List ℕ) (k : ℕ) → length (wordsOfMessage (made y k)) ≡ 8) → SameBeyond b x
+    → SameBeyond b (upTo (λ y k. sendItem n s (made y k) y k) x items)
 same-sends {b} x n s made items l w h =
     upTo-all (λ k y. SameBeyond b y) (λ y k. sendItem n s (made y k) y k) x items h
     (λ k y g p.
@@ -57,7 +63,8 @@ same-sends {b} x n s made items l w h =
     (λ e. same-append (n + rank s k) (made y k) (omega (arith, rank-lt s k e)) (w y k) p)
     (λ e. p))
 
-module _ (b : List ℕ) (t : Tables) (d s : ℕ) (n : Encodes b t) (a : AcceptedStart capacities t d s) where
+module _ (b : List ℕ) (t : Tables) (d s : ℕ) (n : Encodes b t)
+    (a : AcceptedStart capacities t d s) where
   abbrev items : ℕ
   items = t .sizes .items
 
@@ -77,7 +84,8 @@ module _ (b : List ℕ) (t : Tables) (d s : ℕ) (n : Encodes b t) (a : Accepted
   same-busy : (x : List ℕ) (mode : ℕ) → SameBeyond b x → SameBeyond b (busy x d mode s)
   same-busy x mode h =
       same-store scalars (awaitedAt d) s (omega (arith, last))
-      (same-store scalars (setAt d) s (omega (arith, last)) (same-store scalars (modeAt d) mode (omega (arith, last)) h))
+      (same-store scalars (setAt d) s (omega (arith, last))
+      (same-store scalars (modeAt d) mode (omega (arith, last)) h))
 
   pub beyond-read : SameBeyond b (readStarted b d s)
   beyond-read =
@@ -90,10 +98,12 @@ module _ (b : List ℕ) (t : Tables) (d s : ℕ) (n : Encodes b t) (a : Accepted
       (λ k x l h.
       by-cond (SameBeyond b) (has s k) _ x
       (λ e.
-      same-store values (itemAt d k) 0 (omega (arith, last, room .items)) (same-store asked (itemAt d k) _ (omega (arith, last, room .items)) h))
+      same-store values (itemAt d k) 0 (omega (arith, last, room .items))
+      (same-store asked (itemAt d k) _ (omega (arith, last, room .items)) h))
       (λ e. h)))))
 
-module _ (b : List ℕ) (t : Tables) (d s : ℕ) (bytes : List ℕ) (n : Encodes b t) (w : AcceptedWrite capacities t d s bytes) where
+module _ (b : List ℕ) (t : Tables) (d s : ℕ) (bytes : List ℕ) (n : Encodes b t)
+    (w : AcceptedWrite capacities t d s bytes) where
   pub beyond-write : SameBeyond b (writeStarted b d s bytes)
   beyond-write =
       let a = w .start in
@@ -101,9 +111,11 @@ module _ (b : List ℕ) (t : Tables) (d s : ℕ) (bytes : List ℕ) (n : Encodes
       let number = suc (at b scalars (countAt d)) in
       let stamp = stampOf number d in
       let small : d ≤ 8 = last b t d s n a in
-      let made : List ℕ → ℕ → Message = λ x k. Prepare (version k (at x values (itemAt d k)) stamp s) in
+      let made : List ℕ → ℕ → Message =
+      λ x k. Prepare (version k (at x values (itemAt d k)) stamp s) in
       subst (SameBeyond b)
-      (write-started b d s z (length (t .messages)) (sym (n .items)) (sym (n .messageCount)) bytes number _ _ _ _ _ refl refl refl refl refl refl)
+      (write-started b d s z (length (t .messages)) (sym (n .items))
+      (sym (n .messageCount)) bytes number _ _ _ _ _ refl refl refl refl refl refl)
       (same-sends _ (length (t .messages)) s made z (fits b t d s n a) (λ y k. refl)
       (same-store scalars (stampAt d) stamp (omega arith)
       (same-store scalars (countAt d) number (omega arith)

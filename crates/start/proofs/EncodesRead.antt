@@ -1,5 +1,5 @@
--- A block that holds tables, after the start of a read, holds the tables after that start: the client's words are those of the reader,
--- and a get joins for each item of the set.
+-- A block that holds tables, after the start of a read, holds the tables after that start: the
+-- client's words are those of the reader, and a get joins for each item of the set.
 use mathlib.Core.Bool.{true}
 use mathlib.Core.List.{List}
 use mathlib.Core.Path.{_≡_, refl, sym, ap, _∙_, subst}
@@ -33,7 +33,8 @@ use Rattle.start.proofs.Asked.{AskedFor, asked-filled}
 use Rattle.start.proofs.Sent.{encodes-sent}
 use Rattle.start.proofs.Started.{read-started}
 
-module _ (b : List ℕ) (t : Tables) (d s : ℕ) (n : Encodes b t) (a : AcceptedStart capacities t d s) where
+module _ (b : List ℕ) (t : Tables) (d s : ℕ) (n : Encodes b t)
+    (a : AcceptedStart capacities t d s) where
   abbrev items : ℕ
   items = t .sizes .items
 
@@ -50,13 +51,15 @@ module _ (b : List ℕ) (t : Tables) (d s : ℕ) (n : Encodes b t) (a : Accepted
   askedBlock = upTo (askItem d s items) b items
 
   filled : Filled d b askedBlock (AskedFor b d s items items)
-  filled = asked-filled b d s items (a .client .0) (omega (arith, a .client .1, room .clients)) (room .items) (n .long)
+  filled = asked-filled b d s items (a .client .0) (omega (arith, a .client .1, room .clients))
+      (room .items) (n .long)
 
   abbrev readerWords : Words
   readerWords = putScalar (putScalar (putScalar (filled .words) 0 1) 2 s) 3 s
 
   reader-changed : Changed d b (busy askedBlock d 1 s) readerWords
-  reader-changed = changed-scalar (changed-scalar (changed-scalar (filled .changed) 0 1 (lit< tt)) 2 s (lit< tt)) 3 s (lit< tt)
+  reader-changed = changed-scalar (changed-scalar (changed-scalar (filled .changed) 0 1 (lit< tt)) 2
+      s (lit< tt)) 3 s (lit< tt)
 
   reader-hold : WordsHold readerWords (reader t d s)
   unfolding isWriting
@@ -68,7 +71,8 @@ module _ (b : List ℕ) (t : Tables) (d s : ℕ) (n : Encodes b t) (a : Accepted
         set = refl;
         awaited = refl;
         stamp = λ e. not-both e refl;
-        asked = λ e k i. let l : k < items = has-below s k items (a .set) i in rw i (filled .done .asked k l i ∙ chosen k l);
+        asked = λ e k i. let l : k < items = has-below s k items (a .set) i in
+            rw i (filled .done .asked k l i ∙ chosen k l);
         values = λ k i. filled .done .values k (has-below s k items (a .set) i) i;
         last = filled-last filled (t .client d .last) (held .last);
       }
@@ -87,11 +91,14 @@ module _ (b : List ℕ) (t : Tables) (d s : ℕ) (n : Encodes b t) (a : Accepted
   encodes-reader = encodes-changed n room (a .client .1) reader-changed narrow-reader reader-hold
 
   -- what a turn of the send reads is what the reader asks for
-  get-made : (x : List ℕ) (ms : List Message) → Encodes x (withMessages busyTables ms) → (k : ℕ) → k < items → has s k ≡ true
+  get-made : (x : List ℕ) (ms : List Message) → Encodes x (withMessages busyTables ms) → (k : ℕ)
+      → k < items → has s k ≡ true
       → _≡_ {A = Message} (Get d k (at x asked (itemAt d k))) (Get d k (asks t d k))
   unfolding isWriting
   get-made x ms h k l i =
-      let held : HoldsClient x d (reader t d s) = subst (HoldsClient x d) (put-same (t .client) d (reader t d s)) (h .client d (a .client .0) (a .client .1)) in
+      let held : HoldsClient x d (reader t d s) =
+      subst (HoldsClient x d) (put-same (t .client) d (reader t d s))
+      (h .client d (a .client .0) (a .client .1)) in
       let stamp : at x asked (itemAt d k) ≡ asks t d k = rw i at (held .asked refl k i) in
       ap (Get d k) stamp
 
@@ -99,6 +106,9 @@ module _ (b : List ℕ) (t : Tables) (d s : ℕ) (n : Encodes b t) (a : Accepted
   unfolding load
   encodes-read =
       subst (λ (x : List ℕ). Encodes x (startedRead t d s))
-      (read-started b d s items (length (t .messages)) (sym (n .items)) (sym (n .messageCount)) _ _ _ refl refl refl)
-      (encodes-sent (busy askedBlock d 1 s) busyTables s items (λ x k. Get d k (at x asked (itemAt d k))) (λ k. Get d k (asks t d k))
-      encodes-reader (room-client t d (reader t d s) room narrow-reader) (omega (arith, a .load)) get-made)
+      (read-started b d s items (length (t .messages)) (sym (n .items))
+      (sym (n .messageCount)) _ _ _ refl refl refl)
+      (encodes-sent (busy askedBlock d 1 s) busyTables s items
+      (λ x k. Get d k (at x asked (itemAt d k))) (λ k. Get d k (asks t d k))
+      encodes-reader (room-client t d (reader t d s) room narrow-reader)
+      (omega (arith, a .load)) get-made)

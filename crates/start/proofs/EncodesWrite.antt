@@ -1,5 +1,5 @@
--- A block that holds tables, after the start of a write, holds the tables after that start: the client's words are those of the writer,
--- and a prepare joins for each item of the set.
+-- A block that holds tables, after the start of a write, holds the tables after that start: the
+-- client's words are those of the writer, and a prepare joins for each item of the set.
 use mathlib.Core.Bool.{true}
 use mathlib.Core.List.{List}
 use mathlib.Core.Path.{_≡_, refl, sym, ap, _∙_, subst}
@@ -31,10 +31,12 @@ use Rattle.start.proofs.Sent.{encodes-sent}
 use Rattle.start.proofs.Started.{write-started}
 
 -- an item's bytes are its value
-value-bytes : (s : ℕ) (bytes : List ℕ) (k : ℕ) → has s k ≡ true → bytesOf s bytes k ≡ valueOf s bytes k
+value-bytes : (s : ℕ) (bytes : List ℕ) (k : ℕ) → has s k ≡ true
+    → bytesOf s bytes k ≡ valueOf s bytes k
 value-bytes s bytes k i = rw i refl
 
-module _ (b : List ℕ) (t : Tables) (d s : ℕ) (bytes : List ℕ) (n : Encodes b t) (w : AcceptedWrite capacities t d s bytes) where
+module _ (b : List ℕ) (t : Tables) (d s : ℕ) (bytes : List ℕ) (n : Encodes b t)
+    (w : AcceptedWrite capacities t d s bytes) where
   abbrev a : AcceptedStart capacities t d s
   a = w .start
 
@@ -52,19 +54,23 @@ module _ (b : List ℕ) (t : Tables) (d s : ℕ) (bytes : List ℕ) (n : Encodes
   valuedBlock = upTo (valueItem d s bytes) b items
 
   filled : Filled d b valuedBlock (ValuesKept s bytes items)
-  filled = values-filled b d s bytes items (a .client .0) (omega (arith, a .client .1, room .clients)) (room .items) (n .long)
+  filled = values-filled b d s bytes items (a .client .0)
+      (omega (arith, a .client .1, room .clients)) (room .items) (n .long)
 
   abbrev writerWords : Words
-  writerWords = putScalar (putScalar (putScalar (putScalar (putScalar (filled .words) 0 2) 2 s) 3 s) 1 number) 4 (nextStamp t d)
+  writerWords = putScalar (putScalar (putScalar (putScalar (putScalar (filled .words) 0 2) 2 s) 3 s)
+      1 number) 4 (nextStamp t d)
 
   abbrev writerBlock : List ℕ
-  writerBlock = store (store (busy valuedBlock d 2 s) scalars (countAt d) number) scalars (stampAt d) (nextStamp t d)
+  writerBlock = store (store (busy valuedBlock d 2 s) scalars (countAt d) number) scalars
+      (stampAt d) (nextStamp t d)
 
   writer-changed : Changed d b writerBlock writerWords
   writer-changed =
       changed-scalar
       (changed-scalar
-      (changed-scalar (changed-scalar (changed-scalar (filled .changed) 0 2 (lit< tt)) 2 s (lit< tt)) 3 s (lit< tt))
+      (changed-scalar (changed-scalar (changed-scalar (filled .changed) 0 2 (lit< tt)) 2 s
+      (lit< tt)) 3 s (lit< tt))
       1 number (lit< tt))
       4 (nextStamp t d) (lit< tt)
 
@@ -100,17 +106,23 @@ module _ (b : List ℕ) (t : Tables) (d s : ℕ) (bytes : List ℕ) (n : Encodes
   prepareOf value k = Prepare (version k value (nextStamp t d) s)
 
   -- what a turn of the send reads is what the writer keeps
-  prepare-made : (x : List ℕ) (ms : List Message) → Encodes x (withMessages busyTables ms) → (k : ℕ) → k < items → has s k ≡ true
+  prepare-made : (x : List ℕ) (ms : List Message) → Encodes x (withMessages busyTables ms) → (k : ℕ)
+      → k < items → has s k ≡ true
       → prepareOf (at x values (itemAt d k)) k ≡ prepareOf (valueOf s bytes k) k
   prepare-made x ms h k l i =
-      let held : HoldsClient x d (writer t d s bytes) = subst (HoldsClient x d) (put-same (t .client) d (writer t d s bytes)) (h .client d (a .client .0) (a .client .1)) in
+      let held : HoldsClient x d (writer t d s bytes) =
+      subst (HoldsClient x d) (put-same (t .client) d (writer t d s bytes))
+      (h .client d (a .client .0) (a .client .1)) in
       ap (λ (v : ℕ). prepareOf v k) (held .values k i)
 
   pub encodes-write : Encodes (writeStarted b d s bytes) (startedWrite t d s bytes)
   unfolding load
   encodes-write =
       subst (λ (x : List ℕ). Encodes x (startedWrite t d s bytes))
-      (write-started b d s items (length (t .messages)) (sym (n .items)) (sym (n .messageCount)) bytes number _ _ _ _ _
+      (write-started b d s items (length (t .messages)) (sym (n .items))
+      (sym (n .messageCount)) bytes number _ _ _ _ _
       (ap suc (sym (n .client d (a .client .0) (a .client .1) .count))) refl refl refl refl refl)
-      (encodes-sent writerBlock busyTables s items (λ x k. prepareOf (at x values (itemAt d k)) k) (λ k. prepareOf (valueOf s bytes k) k)
-      encodes-writer (room-client t d (writer t d s bytes) room narrow-writer) (omega (arith, a .load)) prepare-made)
+      (encodes-sent writerBlock busyTables s items (λ x k. prepareOf (at x values (itemAt d k)) k)
+      (λ k. prepareOf (valueOf s bytes k) k)
+      encodes-writer (room-client t d (writer t d s bytes) room narrow-writer)
+      (omega (arith, a .load)) prepare-made)

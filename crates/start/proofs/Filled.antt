@@ -1,5 +1,5 @@
--- A pass over the items of a set that changes words of one client alone, and of these none but the words for each item of its
--- transaction under way.
+-- A pass over the items of a set that changes words of one client alone, and of these none but the
+-- words for each item of its transaction under way.
 use mathlib.Core.Bool.{true, false}
 use mathlib.Core.List.{List}
 use mathlib.Core.Path.{_≡_, refl, subst}
@@ -25,7 +25,8 @@ pub agree-none : (s : ℕ) (f g : ℕ → ℕ) → Agree s 0 f g
 agree-none s f g j l e = absurd (omega arith)
 
 -- one member more, and a number that is no member
-pub agree-put : (s k : ℕ) (f g : ℕ → ℕ) (v : ℕ) → v ≡ g k → Agree s k f g → Agree s (suc k) (put f k v) g
+pub agree-put : (s k : ℕ) (f g : ℕ → ℕ) (v : ℕ) → v ≡ g k → Agree s k f g
+    → Agree s (suc k) (put f k v) g
 agree-put s k f g v e h j l i =
     by-test (eqb j k)
     (λ t. rw (t, eqb-true j k t) e)
@@ -47,13 +48,25 @@ pub record Filled (d : ℕ) (b x : List ℕ) (Done : Words → Type 0) : Type 0 
   pub lastValues : words .lastValues ≡ wordsOf b d .lastValues
   pub done : Done words
 
-pub filled-none : (d : ℕ) (b : List ℕ) (Done : Words → Type 0) → 1 ≤ d → d ≤ 8 → needed ≤ length b → Done (wordsOf b d) → Filled d b b Done
+pub filled-none : (d : ℕ) (b : List ℕ) (Done : Words → Type 0) → 1 ≤ d → d ≤ 8 → needed ≤ length b
+    → Done (wordsOf b d) → Filled d b b Done
 filled-none d b Done l h long f =
-    record { words = wordsOf b d; changed = changed-none d b l h long; scalar = refl; lastStamps = refl; lastValues = refl; done = f }
+    record {
+      words = wordsOf b d;
+      changed = changed-none d b l h long;
+      scalar = refl;
+      lastStamps =
+          refl;
+      lastValues = refl;
+      done = f;
+    }
 
 -- the last ended transaction stays
-pub filled-last : {d : ℕ} {b x : List ℕ} {Done : Words → Type 0} (f : Filled d b x Done) (e : Ended) → WordsEnded (wordsOf b d) e → WordsEnded (f .words) e
-filled-last {d} {b} f e h = same (f .words .scalar) (wordsOf b d .scalar) _ _ _ _ (f .scalar) (f .lastStamps) (f .lastValues) h
+pub filled-last : {d : ℕ} {b x : List ℕ} {Done : Words → Type 0} (f : Filled d b x Done) (e : Ended)
+    → WordsEnded (wordsOf b d) e → WordsEnded (f .words) e
+filled-last {d} {b} f e h = same (f .words .scalar) (wordsOf b d .scalar) _ _ _ _ (f .scalar)
+    (f .lastStamps) (f .lastValues) h
   where
-    same : (p p′ q q′ r r′ : ℕ → ℕ) → p ≡ p′ → q ≡ q′ → r ≡ r′ → EndedHold (p′ 5) (p′ 6) (p′ 7) q′ r′ e → EndedHold (p 5) (p 6) (p 7) q r e
+    same : (p p′ q q′ r r′ : ℕ → ℕ) → p ≡ p′ → q ≡ q′ → r ≡ r′
+        → EndedHold (p′ 5) (p′ 6) (p′ 7) q′ r′ e → EndedHold (p 5) (p 6) (p 7) q r e
     same p p′ q q′ r r′ a c g k = rw (a, c, g) k

@@ -1,4 +1,5 @@
--- The laws of the starts: the choice of a stamp, the passes over the items, and that each start is the protocol's change of the tables.
+-- The laws of the starts: the choice of a stamp, the passes over the items, and that each start is
+-- the protocol's change of the tables.
 pub mod Choice
 pub mod Started
 pub mod Ready

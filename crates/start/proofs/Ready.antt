@@ -21,7 +21,8 @@ pub record ReadyWrite (b : List ℕ) (d s : ℕ) (bytes : List ℕ) : Type 0 whe
   pub countFits : at b scalars (countAt d) < 2 ^ 32
   pub values : 4 * count s ≤ length bytes
 
-pub ready-start : (b : List ℕ) (t : Tables) (d s : ℕ) → Encodes b t → AcceptedStart capacities t d s → ReadyStart b d s
+pub ready-start : (b : List ℕ) (t : Tables) (d s : ℕ) → Encodes b t → AcceptedStart capacities t d s
+    → ReadyStart b d s
 unfolding load
 ready-start b t d s n a =
     let z = a .valid .inRange .sizes in
@@ -32,11 +33,17 @@ ready-start b t d s n a =
       messages = omega (arith, n .messageCount, a .load);
     }
 
-pub ready-write : (b : List ℕ) (t : Tables) (d s : ℕ) (bytes : List ℕ) → Encodes b t → AcceptedWrite capacities t d s bytes → ReadyWrite b d s bytes
+pub ready-write : (b : List ℕ) (t : Tables) (d s : ℕ) (bytes : List ℕ) → Encodes b t
+    → AcceptedWrite capacities t d s bytes → ReadyWrite b d s bytes
 ready-write b t d s bytes n w =
     let a = w .start in
     record {
       start = ready-start b t d s n a;
-      countFits = omega (arith, n .client d (a .client .0) (a .client .1) .count, a .valid .inRange .client d (a .client) .count);
+      countFits = omega (
+        arith,
+        n .client d (a .client .0)
+            (a .client .1) .count,
+        a .valid .inRange .client d (a .client) .count,
+      );
       values = omega (arith, w .values);
     }

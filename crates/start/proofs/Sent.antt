@@ -1,4 +1,5 @@
--- The pass that sends: one message for each item of the set, ascending, joins those that the tables have.
+-- The pass that sends: one message for each item of the set, ascending, joins those that the tables
+-- have.
 use mathlib.Core.Bool.{true, false}
 use mathlib.Core.List.{List, [], _∷_, _++_, map, append-nil, append-assoc}
 use mathlib.Core.Path.{_≡_, refl, sym, ap, _∙_, subst}
@@ -30,18 +31,29 @@ messages-none g s = refl
 messages-more : (g : ℕ → Message) (s k : ℕ) (ms : List Message) → has s k ≡ true
     → ms ++ messagesOf g s (suc k) ≡ (ms ++ messagesOf g s k) ++ g k ∷ []
 messages-more g s k ms e =
-    rw (upto-suc k (has s), e, map-append g (members k s) (k ∷ [])) (sym (append-assoc ms (messagesOf g s k) (g k ∷ [])))
+    rw (upto-suc k (has s), e, map-append g (members k s) (k ∷ []))
+    (sym (append-assoc ms (messagesOf g s k) (g k ∷ [])))
 
-messages-skip : (g : ℕ → Message) (s k : ℕ) → has s k ≡ false → messagesOf g s (suc k) ≡ messagesOf g s k
+messages-skip : (g : ℕ → Message) (s k : ℕ) → has s k ≡ false
+    → messagesOf g s (suc k) ≡ messagesOf g s k
 messages-skip g s k e = rw (upto-suc k (has s), e, append-nil (members k s))
 
-length-messages : (g : ℕ → Message) (s k : ℕ) (ms : List Message) → length (ms ++ messagesOf g s k) ≡ length ms + rank s k
-length-messages g s k ms = omega (arith, length-append ms (messagesOf g s k), length-map (members k s) g, length-members-rank s k)
+length-messages : (g : ℕ → Message) (s k : ℕ) (ms : List Message)
+    → length (ms ++ messagesOf g s k) ≡ length ms + rank s k
+length-messages g s k ms = omega (
+  arith,
+  length-append ms (messagesOf g s k),
+  length-map
+      (members k s) g,
+  length-members-rank s k,
+)
 
 -- the message for item k, as made from the block at its turn, is g k
-module _ (b : List ℕ) (t : Tables) (s items : ℕ) (made : List ℕ → ℕ → Message) (g : ℕ → Message) (n : Encodes b t) (r : HasRoom t)
+module _ (b : List ℕ) (t : Tables) (s items : ℕ) (made : List ℕ → ℕ → Message) (g : ℕ → Message)
+    (n : Encodes b t) (r : HasRoom t)
     (room : length (t .messages) + count s ≤ 128)
-    (same : (x : List ℕ) (ms : List Message) → Encodes x (withMessages t ms) → (k : ℕ) → k < items → has s k ≡ true → made x k ≡ g k) where
+    (same : (x : List ℕ) (ms : List Message) → Encodes x (withMessages t ms) → (k : ℕ) → k < items
+    → has s k ≡ true → made x k ≡ g k) where
   abbrev Sent : ℕ → List ℕ → Type 0
   Sent k x = Encodes x (withMessages t (t .messages ++ messagesOf g s k))
 
@@ -56,12 +68,21 @@ module _ (b : List ℕ) (t : Tables) (s items : ℕ) (made : List ℕ → ℕ �
       (λ e.
       rw (e, messages-more g s k (t .messages) e)
       (rw (same x ms h k l e)
-      (encodes-append-message place (g k) h (room-messages t ms r (omega (arith, length-messages g s k (t .messages), rank-count s k)))
+      (encodes-append-message place (g k) h
+      (room-messages t ms r (omega (
+        arith,
+        length-messages g s k
+            (t .messages),
+        rank-count s k,
+      )))
       (sym (length-messages g s k (t .messages))) (omega (arith, rank-lt s k e)))))
       (λ e. rw (e, messages-skip g s k e) h)
 
-  pub encodes-sent : Encodes (upTo sends b items) (withMessages t (t .messages ++ messagesOf g s items))
+  pub encodes-sent : Encodes (upTo sends b items)
+      (withMessages t (t .messages ++ messagesOf g s items))
   encodes-sent =
       upTo-all Sent sends b items
-      (subst (λ (ms : List Message). Encodes b (withMessages t ms)) (sym (append-nil (t .messages)) ∙ ap (λ (l : List Message). t .messages ++ l) (sym (messages-none g s))) n)
+      (subst (λ (ms : List Message). Encodes b (withMessages t ms))
+      (sym (append-nil (t .messages))
+      ∙ ap (λ (l : List Message). t .messages ++ l) (sym (messages-none g s))) n)
       send-turn

@@ -13,7 +13,8 @@ use Rattle.layout.specs.Layout.{needed}
 use Rattle.layout.proofs.ClientWords.{Words, putValue}
 use Rattle.layout.proofs.Changed.{changed-value}
 use Rattle.start.specs.Start.{valueItem}
-use Rattle.start.proofs.Filled.{Agree, agree-none, agree-put, agree-skip, Filled, filled-none}
+use Rattle.start.proofs.Filled.{Agree, agree-none, agree-put, agree-skip, Filled}
+use Rattle.start.proofs.Filled.{filled-none}
 
 -- the four bytes of item k
 abbrev pub bytesOf : ℕ → List ℕ → ℕ → ℕ
@@ -23,11 +24,13 @@ bytesOf s bytes k = numberAt 4 bytes (4 * rank s k) % 2 ^ 32
 abbrev pub ValuesKept : ℕ → List ℕ → ℕ → Words → Type 0
 ValuesKept s bytes k w = Agree s k (w .values) (bytesOf s bytes)
 
-module _ (b : List ℕ) (d s : ℕ) (bytes : List ℕ) (items : ℕ) (first : 1 ≤ d) (last : d ≤ 8) (narrow : items ≤ 64) (long : needed ≤ length b) where
+module _ (b : List ℕ) (d s : ℕ) (bytes : List ℕ) (items : ℕ) (first : 1 ≤ d) (last : d ≤ 8)
+    (narrow : items ≤ 64) (long : needed ≤ length b) where
   abbrev Passed : ℕ → List ℕ → Type 0
   Passed k x = Filled d b x (ValuesKept s bytes k)
 
-  value-turn : (k : ℕ) (x : List ℕ) → k < items → Passed k x → Passed (suc k) (valueItem d s bytes x k)
+  value-turn : (k : ℕ) (x : List ℕ) → k < items → Passed k x
+      → Passed (suc k) (valueItem d s bytes x k)
   value-turn k x l f =
       let w = f .words in
       by-test (has s k)

@@ -9,15 +9,18 @@ use Rattle.protocol.specs.declared.Message.{Message}
 use Rattle.protocol.specs.declared.Message.the-variants.{Prepare, Get}
 use Rattle.protocol.specs.Tables.{stampOf}
 use Rattle.protocol.specs.Steps.{choice, version}
-use Rattle.layout.specs.Layout.{header, scalars, asked, values, at, store, itemsAt, messagesAt, modeAt, countAt, setAt, awaitedAt, stampAt, itemAt}
+use Rattle.layout.specs.Layout.{header, scalars, asked, values, at, store, itemsAt, messagesAt}
+use Rattle.layout.specs.Layout.{modeAt, countAt, setAt, awaitedAt, stampAt, itemAt}
 use Rattle.layout.specs.Decode.{viewIn}
 use Rattle.layout.specs.Store.{appendMessage}
 
 -- a transaction of client d: its mode, and its set, all of it awaited
 abbrev pub busy : List ℕ → ℕ → ℕ → ℕ → List ℕ
-busy b d mode s = store (store (store b scalars (modeAt d) mode) scalars (setAt d) s) scalars (awaitedAt d) s
+busy b d mode s = store (store (store b scalars (modeAt d) mode) scalars (setAt d) s) scalars
+    (awaitedAt d) s
 
--- of n messages and set s, one more message for item k: those of the set's items below k have joined
+-- of n messages and set s, one more message for item k: those of the set's items below k have
+-- joined
 abbrev pub sendItem : ℕ → ℕ → Message → List ℕ → ℕ → List ℕ
 sendItem n s m b k = cond (has s k) (appendMessage b (n + rank s k) m) b
 
@@ -26,7 +29,8 @@ sendItem n s m b k = cond (has s k) (appendMessage b (n + rank s k) m) b
 -- item k: the stamp asked for, no value yet
 abbrev pub askItem : ℕ → ℕ → ℕ → List ℕ → ℕ → List ℕ
 askItem d s items b k =
-    cond (has s k) (store (store b asked (itemAt d k) (choice (viewIn b d) k items)) values (itemAt d k) 0) b
+    cond (has s k) (store (store b asked (itemAt d k) (choice (viewIn b d) k items)) values
+    (itemAt d k) 0) b
 
 abbrev pub sendGet : ℕ → ℕ → ℕ → List ℕ → ℕ → List ℕ
 sendGet n d s b k = sendItem n s (Get d k (at b asked (itemAt d k))) b k
@@ -34,15 +38,18 @@ sendGet n d s b k = sendItem n s (Get d k (at b asked (itemAt d k))) b k
 unfoldable pub readStarted : List ℕ → ℕ → ℕ → List ℕ
 readStarted b d s =
     let items = at b header itemsAt in
-    upTo (sendGet (at b header messagesAt) d s) (busy (upTo (askItem d s items) b items) d 1 s) items
+    upTo (sendGet (at b header messagesAt) d s)
+    (busy (upTo (askItem d s items) b items) d 1 s) items
 
 -- ---- a write
 
 abbrev pub valueItem : ℕ → ℕ → List ℕ → List ℕ → ℕ → List ℕ
-valueItem d s bytes b k = cond (has s k) (store b values (itemAt d k) (numberAt 4 bytes (4 * rank s k) % 2 ^ 32)) b
+valueItem d s bytes b k = cond (has s k)
+    (store b values (itemAt d k) (numberAt 4 bytes (4 * rank s k) % 2 ^ 32)) b
 
 abbrev pub sendPrepare : ℕ → ℕ → ℕ → ℕ → List ℕ → ℕ → List ℕ
-sendPrepare n d s stamp b k = sendItem n s (Prepare (version k (at b values (itemAt d k)) stamp s)) b k
+sendPrepare n d s stamp b k = sendItem n s
+    (Prepare (version k (at b values (itemAt d k)) stamp s)) b k
 
 unfoldable pub writeStarted : List ℕ → ℕ → ℕ → List ℕ → List ℕ
 writeStarted b d s bytes =
@@ -50,4 +57,5 @@ writeStarted b d s bytes =
     let count = suc (at b scalars (countAt d)) in
     let stamp = stampOf count d in
     upTo (sendPrepare (at b header messagesAt) d s stamp)
-    (store (store (busy (upTo (valueItem d s bytes) b items) d 2 s) scalars (countAt d) count) scalars (stampAt d) stamp) items
+    (store (store (busy (upTo (valueItem d s bytes) b items) d 2 s) scalars (countAt d) count)
+    scalars (stampAt d) stamp) items

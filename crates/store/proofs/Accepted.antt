@@ -1,5 +1,5 @@
--- What a call gives, by its refusal: accepted, the protocol's answer and the changed block; refused, the refusal alone and the block as it was.
--- And the tables after either.
+-- What a call gives, by its refusal: accepted, the protocol's answer and the changed block;
+-- refused, the refusal alone and the block as it was. And the tables after either.
 use mathlib.Core.Bool.{true, false}
 use mathlib.Core.List.{List}
 use mathlib.Core.Path.{_≡_, refl, sym, ap, _∙_}
@@ -39,7 +39,8 @@ holds-tables b v =
       isValid = valid-tables b v;
     }
 
-pub refusal-valid : (b : List ℕ) (c : Call) → validBlock b ≡ true → refusalOn b c ≡ refusal capacities (tablesOf b) c
+pub refusal-valid : (b : List ℕ) (c : Call) → validBlock b ≡ true
+    → refusalOn b c ≡ refusal capacities (tablesOf b) c
 unfolding refusalOn
 refusal-valid b c v = rw v
 
@@ -49,7 +50,8 @@ never : _≡_ {A = ℕ} 1 0 → ⊥
 never e = omega arith
 
 pub accepted-valid : (b : List ℕ) (c : Call) → refusalOn b c ≡ 0 → validBlock b ≡ true
-accepted-valid b c e = by-test (validBlock b) (λ v. v) (λ v. absurd (never (sym (refused-invalid b c v) ∙ e)))
+accepted-valid b c e = by-test (validBlock b) (λ v. v)
+    (λ v. absurd (never (sym (refused-invalid b c v) ∙ e)))
 
 module _ (b : List ℕ) (c : Call) (e : refusalOn b c ≡ 0) where
   isValid : validBlock b ≡ true
@@ -76,7 +78,8 @@ module _ (b : List ℕ) (c : Call) (e : refusalOn b c ≡ 0) where
   -- the messages that the changed block counts
   pub count-accepted : at (changed b c) header messagesAt ≡ length (effect (tablesOf b) c .messages)
   count-accepted =
-      encodes-changed b (tablesOf b) c (accepted-holds .encodes) (accepted-holds .masked) (accepted-holds .isValid) accepted-tables .messageCount
+      encodes-changed b (tablesOf b) c (accepted-holds .encodes) (accepted-holds .masked)
+      (accepted-holds .isValid) accepted-tables .messageCount
 
 -- ---- refused
 
@@ -90,7 +93,8 @@ module _ (b : List ℕ) (c : Call) (r : ℕ) (e : refusalOn b c ≡ suc r) where
 
   pub output-refused : outputOn b c ≡ lent c
   unfolding outputOn step
-  output-refused = by-test (validBlock b) (λ v. rw (v, sym (refusal-valid b c v) ∙ e) refl) (λ v. rw v)
+  output-refused = by-test (validBlock b) (λ v. rw (v, sym (refusal-valid b c v) ∙ e) refl)
+      (λ v. rw v)
 
   pub block-refused : blockAfter b c ≡ b
   unfolding blockAfter

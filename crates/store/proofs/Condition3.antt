@@ -1,5 +1,5 @@
--- Condition 3 about blocks, proved: of every list of calls, each handed the block whole as the last one left it, from any block long enough on
--- which a fresh start was accepted.
+-- Condition 3 about blocks, proved: of every list of calls, each handed the block whole as the last
+-- one left it, from any block long enough on which a fresh start was accepted.
 use mathlib.Core.Bool.{true}
 use mathlib.Core.List.{List, [], _∷_, _++_, append-assoc, append-nil}
 use mathlib.Core.Path.{_≡_, refl, sym, ap, _∙_}
@@ -16,10 +16,12 @@ use Rattle.store.proofs.Holds.{Holds, tables-are, answer-is, output-is,
 
 -- ---- from a block that holds tables
 
-pub holds-run : (b : List ℕ) (t : Tables) → Holds b t → (calls : List Call) → Holds (blocksAfter b calls) (ran t calls)
+pub holds-run : (b : List ℕ) (t : Tables) → Holds b t → (calls : List Call)
+    → Holds (blocksAfter b calls) (ran t calls)
 unfolding blocksAfter ran
 holds-run b t h [] = h
-holds-run b t h (c ∷ cs) = holds-run (blockAfter b c) (step capacities t c .tables) (holds-after b t h c) cs
+holds-run b t h (c ∷ cs) = holds-run (blockAfter b c) (step capacities t c .tables)
+    (holds-after b t h c) cs
 
 -- ---- the protocol's run on the calls alone is its world's
 
@@ -27,10 +29,13 @@ module _ (z : Sizes) (ok : sizesInRange z ≡ true) where
   abbrev w : World
   w = begin z
 
-  one-more : (before : List Call) (c : Call) → after capacities w (before ++ c ∷ []) .tables ≡ step capacities (after capacities w before .tables) c .tables
+  one-more : (before : List Call) (c : Call)
+      → after capacities w (before ++ c ∷ []) .tables ≡ step capacities
+      (after capacities w before .tables) c .tables
   one-more before c = condition-3 capacities z ok (before ++ c ∷ []) .steps before [] c refl
 
-  run-on : (before cs : List Call) → after capacities w (before ++ cs) .tables ≡ ran (after capacities w before .tables) cs
+  run-on : (before cs : List Call)
+      → after capacities w (before ++ cs) .tables ≡ ran (after capacities w before .tables) cs
   unfolding ran
   run-on before [] = ap (λ (l : List Call). after capacities w l .tables) (append-nil before)
   run-on before (c ∷ cs) =
@@ -43,13 +48,18 @@ module _ (z : Sizes) (ok : sizesInRange z ≡ true) where
 
 -- ---- the theorem
 
-pub block-condition-3 : (b : List ℕ) (z : Sizes) → freshRefusalOn b z ≡ 0 → (calls : List Call) → BlockCondition3 (freshAfter b z) z calls
+pub block-condition-3 : (b : List ℕ) (z : Sizes) → freshRefusalOn b z ≡ 0 → (calls : List Call)
+    → BlockCondition3 (freshAfter b z) z calls
 block-condition-3 b z e calls =
     let ok : sizesInRange z ≡ true = fresh-accepted b z e .0 in
-    let holds : (before : List Call) → Holds (blocksAfter (freshAfter b z) before) (ran (fresh z) before) = holds-run (freshAfter b z) (fresh z) (fresh-holds b z e) in
+    let holds : (before : List Call)
+    → Holds (blocksAfter (freshAfter b z) before) (ran (fresh z) before) =
+    holds-run (freshAfter b z) (fresh z) (fresh-holds b z e) in
     record {
-      answers = λ before rest c s. answer-is (blocksAfter (freshAfter b z) before) (ran (fresh z) before) (holds before) c;
-      outputs = λ before rest c s. output-is (blocksAfter (freshAfter b z) before) (ran (fresh z) before) (holds before) c;
+      answers =
+          λ before rest c s. answer-is (blocksAfter (freshAfter b z) before) (ran (fresh z) before) (holds before) c;
+      outputs =
+          λ before rest c s. output-is (blocksAfter (freshAfter b z) before) (ran (fresh z) before) (holds before) c;
       tables = λ before rest s. tables-are (blocksAfter (freshAfter b z) before) (ran (fresh z) before) (holds before);
       holds = λ before rest s. holds before .encodes;
       clauses = condition-3 capacities z ok calls;

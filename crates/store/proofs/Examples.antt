@@ -1,4 +1,5 @@
--- Fresh starts on blocks of this and that length, and the number of each case of an answer: one table, computed.
+-- Fresh starts on blocks of this and that length, and the number of each case of an answer: one
+-- table, computed.
 use mathlib.Core.List.{List, [], _∷_}
 use mathlib.Core.Path.{_≡_, refl}
 use Prim.Native.Nat.{ℕ}
@@ -10,11 +11,14 @@ use Rattle.protocol.specs.Calls.{first, numberOfAnswer}
 use Rattle.range.specs.Sized.{sizes}
 use Rattle.store.specs.Calls.{freshRefusalOn, freshAnswerOn}
 
--- answers in the order of the rows: 2 whatever the length, 1 for a word too few, none at the needed 6,352 words
+-- answers in the order of the rows: 2 whatever the length, 1 for a word too few, none at the needed
+-- 6,352 words
 abbrev made : List Answer
 made =
-    freshAnswerOn [] (sizes 9 8 64) ∷ freshAnswerOn [] (sizes 8 8 64) ∷ freshAnswerOn (replicate 6351 0) (sizes 8 8 64)
-    ∷ freshAnswerOn (replicate 6352 0) (sizes 8 8 64) ∷ freshAnswerOn (replicate 6352 7) (sizes 1 1 65) ∷ []
+    freshAnswerOn [] (sizes 9 8 64) ∷ freshAnswerOn [] (sizes 8 8 64)
+    ∷ freshAnswerOn (replicate 6351 0) (sizes 8 8 64)
+    ∷ freshAnswerOn (replicate 6352 0) (sizes 8 8 64)
+    ∷ freshAnswerOn (replicate 6352 7) (sizes 1 1 65) ∷ []
 
 pub fresh-rows : made ≡ Refused 2 ∷ Refused 1 ∷ Refused 1 ∷ Made ∷ Refused 2 ∷ []
 unfolding freshAnswerOn freshRefusalOn first sizesInRange
@@ -23,7 +27,8 @@ fresh-rows = refl
 -- bits 8..23 of a start and of a showing; 8..15, 16..31 and 32..39 of a delivery
 abbrev numbers : List ℕ
 numbers =
-    numberOfAnswer (Refused 14) ∷ numberOfAnswer Made ∷ numberOfAnswer (Started 258) ∷ numberOfAnswer (Delivered 4 3 1)
+    numberOfAnswer (Refused 14) ∷ numberOfAnswer Made ∷ numberOfAnswer (Started 258)
+    ∷ numberOfAnswer (Delivered 4 3 1)
     ∷ numberOfAnswer (Shown 586) ∷ []
 
 pub number-rows : numbers ≡ 14 ∷ 0 ∷ 0x10200 ∷ 0x100030400 ∷ 0x24a00 ∷ []

@@ -11,7 +11,9 @@ use Rattle.protocol.specs.declared.Answer.{Answer}
 use Rattle.protocol.specs.declared.Answer.the-variants.{Refused, Made, Started, Delivered, Shown}
 use Rattle.protocol.specs.Tables.{Tables, Sizes, writerOf}
 use Rattle.protocol.specs.Steps.{messageAt, isLast}
-use Rattle.protocol.specs.Calls.{Call, startRead, startWrite, deliver, show, Test, test, first, refusal, effect, reply, step, pick, kindOf, outcomeOf, numberOfAnswer}
+use Rattle.protocol.specs.Calls.{Call, startRead, startWrite, deliver, show, Test, test, first}
+use Rattle.protocol.specs.Calls.{refusal, effect, reply, step, pick, kindOf, outcomeOf}
+use Rattle.protocol.specs.Calls.{numberOfAnswer}
 use Rattle.protocol.proofs.Valid.{valid-kept}
 use Rattle.protocol.specs.Range.{capacities}
 use Rattle.layout.specs.Decode.{tablesOf, validBlock}
@@ -36,16 +38,20 @@ none = omega arith
 pub refusal-le : (t : Tables) (c : Call) → refusal capacities t c ≤ 14
 unfolding refusal
 refusal-le t (startRead d s) =
-    more 1 _ _ (omega arith) (more 3 _ _ (omega arith) (more 4 _ _ (omega arith) (more 5 _ _ (omega arith) (more 8 _ _ (omega arith) none))))
+    more 1 _ _ (omega arith) (more 3 _ _ (omega arith)
+    (more 4 _ _ (omega arith) (more 5 _ _ (omega arith) (more 8 _ _ (omega arith) none))))
 refusal-le t (startWrite d s bytes) =
     more 1 _ _ (omega arith)
     (more 3 _ _ (omega arith)
     (more 4 _ _ (omega arith)
     (more 5 _ _ (omega arith)
-    (more 6 _ _ (omega arith) (more 7 _ _ (omega arith) (more 8 _ _ (omega arith) (more 9 _ _ (omega arith) none)))))))
-refusal-le t (deliver i) = more 1 _ _ (omega arith) (more 10 _ _ (omega arith) (more 11 _ _ (omega arith) (more 12 _ _ (omega arith) none)))
+    (more 6 _ _ (omega arith) (more 7 _ _ (omega arith)
+    (more 8 _ _ (omega arith) (more 9 _ _ (omega arith) none)))))))
+refusal-le t (deliver i) = more 1 _ _ (omega arith)
+    (more 10 _ _ (omega arith) (more 11 _ _ (omega arith) (more 12 _ _ (omega arith) none)))
 refusal-le t (show d output) =
-    more 1 _ _ (omega arith) (more 3 _ _ (omega arith) (more 4 _ _ (omega arith) (more 13 _ _ (omega arith) (more 14 _ _ (omega arith) none))))
+    more 1 _ _ (omega arith) (more 3 _ _ (omega arith)
+    (more 4 _ _ (omega arith) (more 13 _ _ (omega arith) (more 14 _ _ (omega arith) none))))
 
 fresh-refusal-le : (b : List ℕ) (z : Sizes) → freshRefusalOn b z ≤ 14
 unfolding freshRefusalOn
@@ -68,10 +74,12 @@ either false n m k x y = y
 outcome-le : (t : Tables) (m : Message) → outcomeOf t m < 2 ^ 8
 unfolding outcomeOf
 outcome-le t (Prepare v) = omega arith
-outcome-le t (Prepared k stamp) = either (isLast (t .client (writerOf stamp)) k) 2 0 (2 ^ 8) (omega arith) (omega arith)
+outcome-le t (Prepared k stamp) = either (isLast (t .client (writerOf stamp)) k) 2 0 (2 ^ 8)
+    (omega arith) (omega arith)
 outcome-le t (Commit p stamp) = omega arith
 outcome-le t (Get d k stamp) = omega arith
-outcome-le t (Got d v latest) = either (isLast (t .client d) (v .item)) 1 0 (2 ^ 8) (omega arith) (omega arith)
+outcome-le t (Got d v latest) = either (isLast (t .client d) (v .item)) 1 0 (2 ^ 8) (omega arith)
+    (omega arith)
 
 -- ---- answers
 
@@ -85,11 +93,20 @@ refusalOf (Shown n) = 0
 
 reply-fits : (t : Tables) (c : Call) → refusal capacities t c ≡ 0 → Fits (reply t c)
 unfolding reply
-reply-fits t (startRead d s) e = omega (arith, few-messages (effect t (startRead d s)) (valid-kept capacities t (startRead d s) e))
+reply-fits t (startRead d s) e = omega
+    (arith, few-messages (effect t (startRead d s)) (valid-kept capacities t (startRead d s) e))
 reply-fits t (startWrite d s bytes) e =
-    omega (arith, few-messages (effect t (startWrite d s bytes)) (valid-kept capacities t (startWrite d s bytes) e))
-reply-fits t (deliver i) e =
-    (kind-le (messageAt t i), omega (arith, few-messages (effect t (deliver i)) (valid-kept capacities t (deliver i) e)), outcome-le t (messageAt t i))
+    omega (
+      arith,
+      few-messages (effect t (startWrite d s bytes))
+          (valid-kept capacities t (startWrite d s bytes) e),
+    )
+reply-fits t (deliver i) e = (
+  kind-le (messageAt t i),
+  omega
+      (arith, few-messages (effect t (deliver i)) (valid-kept capacities t (deliver i) e)),
+  outcome-le t (messageAt t i),
+)
 reply-fits t (show d output) e = omega (arith, length-frame-le d (t .client d .last))
 
 step-fits : (t : Tables) (c : Call) → Fits (step capacities t c .answer)
@@ -102,7 +119,8 @@ step-fits t c = by-refusal (refusal capacities t c) refl
 
 pub answer-fits : (b : List ℕ) (c : Call) → Fits (answerOn b c)
 unfolding answerOn
-answer-fits b c = by-test (validBlock b) (λ v. rw v (step-fits (tablesOf b) c)) (λ v. rw v (omega arith))
+answer-fits b c = by-test (validBlock b) (λ v. rw v (step-fits (tablesOf b) c))
+    (λ v. rw v (omega arith))
 
 pub fresh-fits : (b : List ℕ) (z : Sizes) → Fits (freshAnswerOn b z)
 unfolding freshAnswerOn
@@ -142,7 +160,8 @@ lowest-byte b c = low-byte (answerOn b c) (answer-fits b c) ∙ tells-refusal b 
 pub fits-started : (a : Answer) (n : ℕ) → a ≡ Started n → Fits a → n < 2 ^ 16
 fits-started a n e f = subst Fits e f
 
-pub fits-delivered : (a : Answer) (kind n outcome : ℕ) → a ≡ Delivered kind n outcome → Fits a → (kind < 2 ^ 8) × (n < 2 ^ 16) × (outcome < 2 ^ 8)
+pub fits-delivered : (a : Answer) (kind n outcome : ℕ) → a ≡ Delivered kind n outcome → Fits a
+    → (kind < 2 ^ 8) × (n < 2 ^ 16) × (outcome < 2 ^ 8)
 fits-delivered a kind n outcome e f = subst Fits e f
 
 pub fits-shown : (a : Answer) (n : ℕ) → a ≡ Shown n → Fits a → n < 2 ^ 16

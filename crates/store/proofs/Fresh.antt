@@ -24,7 +24,8 @@ use Rattle.store.specs.Calls.{freshRefusalOn, freshAnswerOn, freshAfter,
 use Rattle.store.proofs.Holds.{Holds, tables-are}
 
 -- sizes in range, and a block long enough
-pub fresh-accepted : (b : List ℕ) (z : Sizes) → freshRefusalOn b z ≡ 0 → (sizesInRange z ≡ true) × (needed ≤ length b)
+pub fresh-accepted : (b : List ℕ) (z : Sizes) → freshRefusalOn b z ≡ 0 → (sizesInRange z ≡ true)
+    × (needed ≤ length b)
 unfolding freshRefusalOn first
 fresh-accepted b z e =
     by-test (sizesInRange z)
@@ -62,11 +63,18 @@ module _ (b : List ℕ) (z : Sizes) (e : freshRefusalOn b z ≡ 0) where
       → (Made ≡ freshAnswerOn b z) × ((after ≡ freshAfter b z) × (tablesOf after ≡ freshTables b z))
   unfolding freshAnswerOn freshAfter freshTables
   fresh-given after a =
-      let same : after ≡ freshAfter b z = rw e a in
-      (rw e refl, (rw e a, rw e (ap tablesOf same ∙ tables-are (freshAfter b z) (fresh z) fresh-holds)))
+      let same : after ≡ freshAfter b z = rw e a in (
+        rw e refl,
+        (
+          rw e a,
+          rw e (ap tablesOf same ∙ tables-are (freshAfter b z)
+              (fresh z) fresh-holds),
+        ),
+      )
 
 module _ (b : List ℕ) (z : Sizes) where
-  pub fresh-refused : (r : ℕ) → r ≡ freshRefusalOn b z → r ≢ 0 → (Refused r ≡ freshAnswerOn b z) × ((b ≡ freshAfter b z) × (tablesOf b ≡ freshTables b z))
+  pub fresh-refused : (r : ℕ) → r ≡ freshRefusalOn b z → r ≢ 0 → (Refused r ≡ freshAnswerOn b z)
+      × ((b ≡ freshAfter b z) × (tablesOf b ≡ freshTables b z))
   unfolding freshAnswerOn freshAfter freshTables
   fresh-refused zero e some = absurd (some refl)
   fresh-refused (suc r) e some = (rw (sym e) refl, (rw (sym e) refl, rw (sym e) refl))

@@ -1,4 +1,5 @@
--- A block that holds valid tables is read as those tables, and after a call it holds the tables that the protocol's step gives.
+-- A block that holds valid tables is read as those tables, and after a call it holds the tables
+-- that the protocol's step gives.
 use mathlib.Core.Bool.{true}
 use mathlib.Core.List.{List}
 use mathlib.Core.Path.{_≡_, refl, sym, ap, subst}
@@ -32,7 +33,8 @@ module _ (b : List ℕ) (t : Tables) (h : Holds b t) where
 
   pub tables-are : tablesOf b ≡ t
   unfolding load occupied
-  tables-are = tables-of b t (h .encodes) (h .masked) (omega (arith, facts .occupied)) (omega (arith, facts .load))
+  tables-are = tables-of b t (h .encodes) (h .masked) (omega (arith, facts .occupied))
+      (omega (arith, facts .load))
 
   -- what the calls give on the block is what the steps give on the tables
   refusal-is : (c : Call) → refusalOn b c ≡ refusal capacities t c
@@ -58,9 +60,11 @@ module _ (b : List ℕ) (t : Tables) (h : Holds b t) where
   pub holds-after : (c : Call) → Holds (blockAfter b c) (step capacities t c .tables)
   unfolding blockAfter step
   holds-after c =
-      subst (λ (r : ℕ). Holds (pick r (changed b c) b) (pick (refusal capacities t c) (effect t c) t)) (sym (refusal-is c))
+      subst (λ (r : ℕ). Holds (pick r (changed b c) b)
+      (pick (refusal capacities t c) (effect t c) t)) (sym (refusal-is c))
       (by-refusal (refusal capacities t c) refl)
     where
-      by-refusal : (r : ℕ) → refusal capacities t c ≡ r → Holds (pick r (changed b c) b) (pick r (effect t c) t)
+      by-refusal : (r : ℕ) → refusal capacities t c ≡ r
+          → Holds (pick r (changed b c) b) (pick r (effect t c) t)
       by-refusal zero e = accepted-holds c e
       by-refusal (suc r) e = h

@@ -1,4 +1,5 @@
--- A block that holds tables holds those of the steps after every call; what a call gives, from the words of the block; condition 3 about blocks.
+-- A block that holds tables holds those of the steps after every call; what a call gives, from the
+-- words of the block; condition 3 about blocks.
 pub mod Changed
 pub mod Holds
 pub mod Fresh

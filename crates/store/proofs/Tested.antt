@@ -46,15 +46,18 @@ module _ (b : List ℕ) (d : ℕ) (c : isClient (sizesIn b) d ≡ true) where
 -- ---- 3, 4 and what follows them
 
 module _ (b : List ℕ) (d : ℕ) (v : validBlock b ≡ true) where
-  pub read-nobody : (s : ℕ) → isClient (sizesIn b) d ≡ false → refusal capacities (tablesOf b) (startRead d s) ≡ 3
+  pub read-nobody : (s : ℕ) → isClient (sizesIn b) d ≡ false
+      → refusal capacities (tablesOf b) (startRead d s) ≡ 3
   unfolding refusal first
   read-nobody s c = rw (valid-tables b v, sizes-read b, c) refl
 
-  pub write-nobody : (s : ℕ) (bytes : List ℕ) → isClient (sizesIn b) d ≡ false → refusal capacities (tablesOf b) (startWrite d s bytes) ≡ 3
+  pub write-nobody : (s : ℕ) (bytes : List ℕ) → isClient (sizesIn b) d ≡ false
+      → refusal capacities (tablesOf b) (startWrite d s bytes) ≡ 3
   unfolding refusal first
   write-nobody s bytes c = rw (valid-tables b v, sizes-read b, c) refl
 
-  pub show-nobody : (output : List ℕ) → isClient (sizesIn b) d ≡ false → refusal capacities (tablesOf b) (show d output) ≡ 3
+  pub show-nobody : (output : List ℕ) → isClient (sizesIn b) d ≡ false
+      → refusal capacities (tablesOf b) (show d output) ≡ 3
   unfolding refusal first
   show-nobody output c = rw (valid-tables b v, sizes-read b, c) refl
 
@@ -65,7 +68,8 @@ module _ (b : List ℕ) (d : ℕ) (v : validBlock b ≡ true) where
   bad s = eqb s 0 || not (allBelow s (at b header itemsAt))
 
   pub read-tests : (s : ℕ) → isClient (sizesIn b) d ≡ true
-      → refusal capacities (tablesOf b) (startRead d s) ≡ cond busy 4 (cond (bad s) 5 (cond (ltb 128 (load (tablesOf b) + count s)) 8 0))
+      → refusal capacities (tablesOf b) (startRead d s) ≡ cond busy 4
+      (cond (bad s) 5 (cond (ltb 128 (load (tablesOf b) + count s)) 8 0))
   unfolding refusal first
   read-tests s c = rw (valid-tables b v, idle-read b d c, sizes-read b, c) refl
 
@@ -75,13 +79,23 @@ module _ (b : List ℕ) (d : ℕ) (v : validBlock b ≡ true) where
       (cond (bad s) 5
       (cond (not (eqb (length bytes) (4 * count s))) 6
       (cond (eqb (at b scalars (countAt d)) 4294967295) 7
-      (cond (ltb 128 (load (tablesOf b) + count s)) 8 (cond (ltb 512 (occupied (tablesOf b) + count s)) 9 0)))))
+      (cond (ltb 128 (load (tablesOf b) + count s)) 8
+      (cond (ltb 512 (occupied (tablesOf b) + count s)) 9 0)))))
   unfolding refusal first
-  write-tests s bytes c = rw (valid-tables b v, idle-read b d c, count-read b d c, sizes-read b, c) refl
+  write-tests s bytes c = rw (valid-tables b v, idle-read b d c, count-read b d c, sizes-read b, c)
+      refl
 
   pub show-tests : (output : List ℕ) → isClient (sizesIn b) d ≡ true
       → refusal capacities (tablesOf b) (show d output)
-      ≡ cond busy 4 (cond (eqb (at b scalars (lastKindAt d)) 0) 13 (cond (ltb (length output) (length (frameIn b d))) 14 0))
+      ≡ cond busy 4 (cond (eqb (at b scalars (lastKindAt d)) 0) 13
+      (cond (ltb (length output) (length (frameIn b d))) 14 0))
   unfolding refusal first
   show-tests output c =
-      rw (valid-tables b v, idle-read b d c, nothing-read b d c, shownFrame-tablesOf b d c, sizes-read b, c) refl
+      rw (
+        valid-tables b v,
+        idle-read b d c,
+        nothing-read b d c,
+        shownFrame-tablesOf b d c,
+        sizes-read b,
+        c,
+      ) refl

@@ -1,5 +1,6 @@
--- What a call gives on a block, whatever its words: the answer, the output, and every word after it; and which tables it then holds. The
--- protocol's definitions give them on the tables that the block holds; a block that holds none is refused by 1.
+-- What a call gives on a block, whatever its words: the answer, the output, and every word after
+-- it; and which tables it then holds. The protocol's definitions give them on the tables that the
+-- block holds; a block that holds none is refused by 1.
 use mathlib.Core.Bool.{cond, not}
 use mathlib.Core.List.{List, [], _∷_}
 use Prim.Native.Nat.{ℕ, _^_, _<_}
@@ -9,7 +10,8 @@ use Rattle.protocol.specs.declared.Answer.{Answer}
 use Rattle.protocol.specs.declared.Answer.the-variants.{Refused, Made, Started, Delivered, Shown}
 use Rattle.protocol.specs.Tables.{Sizes, Tables, fresh}
 use Rattle.protocol.specs.Range.{capacities, sizesInRange}
-use Rattle.protocol.specs.Calls.{Call, startRead, startWrite, deliver, show, test, first, pick, refusal, step, lent}
+use Rattle.protocol.specs.Calls.{Call, startRead, startWrite, deliver, show, test, first, pick}
+use Rattle.protocol.specs.Calls.{refusal, step, lent}
 use Rattle.layout.specs.Layout.{needed}
 use Rattle.layout.specs.Decode.{tablesOf, validBlock}
 use Rattle.layout.specs.Store.{freshBlock}

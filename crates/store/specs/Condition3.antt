@@ -1,5 +1,6 @@
--- Condition 3 about blocks: a list of calls, each handed the block whole as the last one left it, refused or not, from a block long enough on
--- which a fresh start was accepted. It iterates `answerOn`, `outputOn` and `blockAfter`, the very definitions of the calls' promises.
+-- Condition 3 about blocks: a list of calls, each handed the block whole as the last one left it,
+-- refused or not, from a block long enough on which a fresh start was accepted. It iterates
+-- `answerOn`, `outputOn` and `blockAfter`, the very definitions of the calls' promises.
 use mathlib.Core.List.{List, [], _∷_, _++_}
 use mathlib.Core.Path.{_≡_}
 use Prim.Native.Nat.{ℕ}
@@ -17,7 +18,8 @@ unfoldable pub blocksAfter : List ℕ → List Call → List ℕ
 blocksAfter b [] = b
 blocksAfter b (c ∷ cs) = blocksAfter (blockAfter b c) cs
 
--- the tables of document 01's steps and refusal table, run from the same fresh tables on the calls alone
+-- the tables of document 01's steps and refusal table, run from the same fresh tables on the calls
+-- alone
 unfoldable pub ran : Tables → List Call → Tables
 ran t [] = t
 ran t (c ∷ cs) = ran (step capacities t c .tables) cs
@@ -28,9 +30,13 @@ pub record BlockCondition3 (b : List ℕ) (z : Sizes) (calls : List Call) : Type
       → answerOn (blocksAfter b before) c ≡ step capacities (ran (begin z .tables) before) c .answer
   pub outputs : (before rest : List Call) (c : Call) → calls ≡ before ++ c ∷ rest
       → outputOn (blocksAfter b before) c ≡ step capacities (ran (begin z .tables) before) c .output
-  pub tables : (before rest : List Call) → calls ≡ before ++ rest → tablesOf (blocksAfter b before) ≡ ran (begin z .tables) before
+  pub tables : (before rest : List Call) → calls ≡ before ++ rest
+      → tablesOf (blocksAfter b before) ≡ ran (begin z .tables) before
   -- word by word, with no mention of the decoder
-  pub holds : (before rest : List Call) → calls ≡ before ++ rest → Encodes (blocksAfter b before) (ran (begin z .tables) before)
-  -- every other clause, of those calls, answers, outputs and tables: those of the protocol's world, whose tables are the run's
+  pub holds : (before rest : List Call) → calls ≡ before ++ rest
+      → Encodes (blocksAfter b before) (ran (begin z .tables) before)
+  -- every other clause, of those calls, answers, outputs and tables: those of the protocol's world,
+  -- whose tables are the run's
   pub clauses : Condition3 capacities (begin z) calls
-  pub sameRun : (before rest : List Call) → calls ≡ before ++ rest → after capacities (begin z) before .tables ≡ ran (begin z .tables) before
+  pub sameRun : (before rest : List Call) → calls ≡ before ++ rest
+      → after capacities (begin z) before .tables ≡ ran (begin z .tables) before

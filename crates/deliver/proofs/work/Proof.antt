@@ -16,7 +16,8 @@ enum-known-m-2 : tie.Need-enum-known-m-2
 enum-known-m-2 c = search needs
 
 prepared-requires : tie.Need-prepared-requires
-prepared-requires c κs = let p = c .before .before .before .before .before .pre in let x = subst Bounded (c .before .before .m2 .given .1) (p .4) in (p .0, p .2, x .0, x .1)
+prepared-requires c κs = let p = c .before .before .before .before .before .pre in let x =
+    subst Bounded (c .before .before .m2 .given .1) (p .4) in (p .0, p .2, x .0, x .1)
 
 enum-known-m-3 : tie.Need-enum-known-m-3
 enum-known-m-3 c = search needs
@@ -28,48 +29,55 @@ enum-known-m-4 : tie.Need-enum-known-m-4
 enum-known-m-4 c = search needs
 
 get-requires : tie.Need-get-requires
-get-requires c κs = subst Bounded (c .before .before .m4 .given .1) (c .before .before .before .before .before .pre .4)
+get-requires c κs = subst Bounded (c .before .before .m4 .given .1)
+    (c .before .before .before .before .before .pre .4)
 
 enum-known-m-5 : tie.Need-enum-known-m-5
 enum-known-m-5 c = search needs
 
 got-requires : tie.Need-got-requires
-got-requires c κs = let p = c .before .before .before .before .before .pre in let x = subst Bounded (c .before .before .m5 .given .1) (p .4) in (p .2, x .0, x .1, x .2)
+got-requires c κs = let p = c .before .before .before .before .before .pre in let x =
+    subst Bounded (c .before .before .m5 .given .1) (p .4) in (p .2, x .0, x .1, x .2)
 
 same-length : tie.Need-same-length
 same-length c = search needs
 
 returns : tie.Need-returns
 unfolding messageDelivered
-returns c = rw (c .before .before .before .before .before .m .given .1) (c .before .before .prepare .ensures)
+returns c = rw (c .before .before .before .before .before .m .given .1)
+    (c .before .before .prepare .ensures)
 
 same-length-2 : tie.Need-same-length-2
 same-length-2 c = search needs
 
 returns-2 : tie.Need-returns-2
 unfolding messageDelivered
-returns-2 c = rw (c .before .before .before .before .before .m2 .given .1) (c .before .before .prepared .ensures)
+returns-2 c = rw (c .before .before .before .before .before .m2 .given .1)
+    (c .before .before .prepared .ensures)
 
 same-length-3 : tie.Need-same-length-3
 same-length-3 c = search needs
 
 returns-3 : tie.Need-returns-3
 unfolding messageDelivered
-returns-3 c = rw (c .before .before .before .before .before .m3 .given .1) (c .before .before .commit .ensures)
+returns-3 c = rw (c .before .before .before .before .before .m3 .given .1)
+    (c .before .before .commit .ensures)
 
 same-length-4 : tie.Need-same-length-4
 same-length-4 c = search needs
 
 returns-4 : tie.Need-returns-4
 unfolding messageDelivered
-returns-4 c = rw (c .before .before .before .before .before .m4 .given .1) (c .before .before .get .ensures)
+returns-4 c = rw (c .before .before .before .before .before .m4 .given .1)
+    (c .before .before .get .ensures)
 
 same-length-5 : tie.Need-same-length-5
 same-length-5 c = search needs
 
 returns-5 : tie.Need-returns-5
 unfolding messageDelivered
-returns-5 c = rw (c .before .before .before .before .before .m5 .given .1) (c .before .before .got .ensures)
+returns-5 c = rw (c .before .before .before .before .before .m5 .given .1)
+    (c .before .before .got .ensures)
 
 pub work-spec : {M : Type 1} → statement M
 work-spec =

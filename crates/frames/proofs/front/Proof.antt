@@ -28,12 +28,14 @@ part-result-end-2 : tie.Need-part-result-end-2
 part-result-end-2 c = search needs
 
 returns : tie.Need-returns
-returns c = ap (λ (k : ℕ). take k (c .before .before .args .s .now)) (sub-zero (c .before .before .args .n))
+returns c = ap (λ (k : ℕ). take k (c .before .before .args .s .now))
+    (sub-zero (c .before .before .args .n))
 
 returns-2 : tie.Need-returns-2
 returns-2 c =
     let s = c .before .before .args .s .now in
-    take-all (length s - 0) s (omega arith) ∙ sym (take-all (c .before .before .args .n) s (omega arith))
+    take-all (length s - 0) s (omega arith)
+    ∙ sym (take-all (c .before .before .args .n) s (omega arith))
 
 pub front-spec : {M : Type 1} → statement M
 front-spec =

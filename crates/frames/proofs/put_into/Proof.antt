@@ -7,7 +7,8 @@ use native.Mathlib.Omega.{arith}
 use lib.ListN.{length}
 use Rattle.protocol.specs.declared.Answer.{Answer}
 use Rattle.frames.specs.Answers.{lineOf, answerLine}
-use Rattle.frames.proofs.Writing.{length-take-most, answer-refused, answer-made, answer-started, answer-delivered, answer-shown, written}
+use Rattle.frames.proofs.Writing.{length-take-most, answer-refused, answer-made}
+use Rattle.frames.proofs.Writing.{answer-started, answer-delivered, answer-shown, written}
 use Rattle.frames.proofs.put_into.Statement.{statement}
 use Rattle.frames.proofs.put_into.Tie as tie
 
@@ -54,37 +55,58 @@ front-requires : tie.Need-front-requires
 front-requires c κs = search needs
 
 put-shown-requires : tie.Need-put-shown-requires
-put-shown-requires c κs = omega (arith, ap length (c .front .ensures), length-take-most (c .before .before .before .a4 .given .0 .0) (c .before .before .before .before .before .before .before .args .shown .now))
+put-shown-requires c κs = omega (
+  arith,
+  ap length (c .front .ensures),
+  length-take-most
+      (c .before .before .before .a4 .given .0 .0)
+      (c .before .before .before .before .before .before .before .args .shown .now),
+)
 
 same-length : tie.Need-same-length
 same-length c = search needs
 
 returns : tie.Need-returns
-returns c = written (c .before .before .before .before .before .before .before .before .before .args .out .now) (answer-refused _ (c .before .before .before .before .before .before .before .before .before .args .shown .now) ∙ sym (ap (λ (a : Answer). answerLine a (c .before .before .before .before .before .before .before .before .before .args .shown .now)) (c .before .before .before .before .before .a .given .1))) (c .before .before .put-line .ensures)
+returns c = written
+    (c .before .before .before .before .before .before .before .before .before .args .out .now)
+    (answer-refused _
+    (c .before .before .before .before .before .before .before .before .before .args .shown .now) ∙ sym (ap (λ (a : Answer). answerLine a (c .before .before .before .before .before .before .before .before .before .args .shown .now)) (c .before .before .before .before .before .a .given .1))) (c .before .before .put-line .ensures)
 
 same-length-2 : tie.Need-same-length-2
 same-length-2 c = search needs
 
 returns-2 : tie.Need-returns-2
-returns-2 c = written (c .before .before .before .before .before .before .before .before .args .out .now) (answer-made (c .before .before .before .before .before .before .before .before .args .shown .now) ∙ sym (ap (λ (a : Answer). answerLine a (c .before .before .before .before .before .before .before .before .args .shown .now)) (c .before .before .before .before .enum-told .given .1))) (c .before .before .put-line2 .ensures)
+returns-2 c = written
+    (c .before .before .before .before .before .before .before .before .args .out .now)
+    (answer-made
+    (c .before .before .before .before .before .before .before .before .args .shown .now)
+    ∙ sym (ap (λ (a : Answer). answerLine a
+    (c .before .before .before .before .before .before .before .before .args .shown .now)) (c .before .before .before .before .enum-told .given .1))) (c .before .before .put-line2 .ensures)
 
 same-length-3 : tie.Need-same-length-3
 same-length-3 c = search needs
 
 returns-3 : tie.Need-returns-3
-returns-3 c = written (c .before .before .before .before .before .before .before .before .before .args .out .now) (answer-started _ (c .before .before .before .before .before .before .before .before .before .args .shown .now) ∙ sym (ap (λ (a : Answer). answerLine a (c .before .before .before .before .before .before .before .before .before .args .shown .now)) (c .before .before .before .before .before .a2 .given .1))) (c .before .before .put-line3 .ensures)
+returns-3 c = written
+    (c .before .before .before .before .before .before .before .before .before .args .out .now)
+    (answer-started _
+    (c .before .before .before .before .before .before .before .before .before .args .shown .now) ∙ sym (ap (λ (a : Answer). answerLine a (c .before .before .before .before .before .before .before .before .before .args .shown .now)) (c .before .before .before .before .before .a2 .given .1))) (c .before .before .put-line3 .ensures)
 
 same-length-4 : tie.Need-same-length-4
 same-length-4 c = search needs
 
 returns-4 : tie.Need-returns-4
-returns-4 c = written (c .before .before .before .before .before .before .before .before .before .args .out .now) (answer-delivered _ _ _ (c .before .before .before .before .before .before .before .before .before .args .shown .now) ∙ sym (ap (λ (a : Answer). answerLine a (c .before .before .before .before .before .before .before .before .before .args .shown .now)) (c .before .before .before .before .before .a3 .given .1))) (c .before .before .put-line4 .ensures)
+returns-4 c = written
+    (c .before .before .before .before .before .before .before .before .before .args .out .now)
+    (answer-delivered _ _ _
+    (c .before .before .before .before .before .before .before .before .before .args .shown .now) ∙ sym (ap (λ (a : Answer). answerLine a (c .before .before .before .before .before .before .before .before .before .args .shown .now)) (c .before .before .before .before .before .a3 .given .1))) (c .before .before .put-line4 .ensures)
 
 same-length-5 : tie.Need-same-length-5
 same-length-5 c = search needs
 
 returns-5 : tie.Need-returns-5
-returns-5 c = written (c .before .before .before .before .before .before .before .before .before .before .args .out .now) (ap (λ (l : List ℕ). lineOf (0 ∷ l)) (c .before .before .before .front .ensures) ∙ answer-shown _ (c .before .before .before .before .before .before .before .before .before .before .args .shown .now) ∙ sym (ap (λ (a : Answer). answerLine a (c .before .before .before .before .before .before .before .before .before .before .args .shown .now)) (c .before .before .before .before .before .before .a4 .given .1))) (c .before .before .put-shown .ensures)
+returns-5 c = written
+    (c .before .before .before .before .before .before .before .before .before .before .args .out .now) (ap (λ (l : List ℕ). lineOf (0 ∷ l)) (c .before .before .before .front .ensures) ∙ answer-shown _ (c .before .before .before .before .before .before .before .before .before .before .args .shown .now) ∙ sym (ap (λ (a : Answer). answerLine a (c .before .before .before .before .before .before .before .before .before .before .args .shown .now)) (c .before .before .before .before .before .before .a4 .given .1))) (c .before .before .put-shown .ensures)
 
 pub put-into-spec : {M : Type 1} → statement M
 put-into-spec =

@@ -35,7 +35,8 @@ returns c =
     let bytes = bigEndian (a .size) (a .number) in
     let size = length-bigEndian (a .size) (a .number) in (
       omega (arith, length-lineOf bytes),
-      ap (λ (l : List ℕ). set l (2 * a .size) 10) (c .before .before .put-number .ensures) ∙ line-stored bytes (a .out .now) (a .size) size,
+      ap (λ (l : List ℕ). set l (2 * a .size) 10) (c .before .before .put-number .ensures)
+          ∙ line-stored bytes (a .out .now) (a .size) size,
     )
 
 pub put-line-spec : {M : Type 1} → statement M

@@ -1,4 +1,5 @@
--- `frames::put_shown` meets its contract: 00, the bytes' digits and the 0a lie one behind the other.
+-- `frames::put_shown` meets its contract: 00, the bytes' digits and the 0a lie one behind the
+-- other.
 use borrow.Author.Needs.{needs}
 use mathlib.Core.List.{List, _∷_}
 use mathlib.Core.Path.{ap, _∙_}
@@ -33,14 +34,20 @@ add-result : tie.Need-add-result
 add-result c = search needs
 
 same-length : tie.Need-same-length
-same-length c = simp length-set (ap length (c .before .before .encode .ensures) ∙ simp length-sets (ap length (c .before .before .before .before .before .before .put-byte .ensures) ∙ simp length-sets))
+same-length c = simp length-set (ap length (c .before .before .encode .ensures)
+    ∙ simp length-sets (ap length
+    (c .before .before .before .before .before .before .put-byte .ensures) ∙ simp length-sets))
 
 returns : tie.Need-returns
 returns c =
     let a = c .before .before .before .before .before .before .before .before .before .before .args in
     let n = length (a .bytes .now) in (
       omega (arith, length-lineOf (0 ∷ a .bytes .now)),
-      ap (λ (l : List ℕ). set l (2 * n + 2) 10) (c .before .before .encode .ensures ∙ ap (λ (l : List ℕ). sets l 2 (hexText (a .bytes .now))) (c .before .before .before .before .before .before .put-byte .ensures)) ∙ shown-stored (a .bytes .now) (a .out .now),
+      ap (λ (l : List ℕ). set l (2 * n + 2) 10)
+          (c .before .before .encode .ensures
+          ∙ ap (λ (l : List ℕ). sets l 2 (hexText (a .bytes .now)))
+          (c .before .before .before .before .before .before .put-byte .ensures))
+          ∙ shown-stored (a .bytes .now) (a .out .now),
     )
 
 pub put-shown-spec : {M : Type 1} → statement M

@@ -1,4 +1,5 @@
--- `frames::read_into` meets its contract: a line that isn't decoded is malformed, and of one that is the bytes stored are the frame's.
+-- `frames::read_into` meets its contract: a line that isn't decoded is malformed, and of one that
+-- is the bytes stored are the frame's.
 use borrow.Author.Needs.{needs}
 use mathlib.Core.Path.{sym, ap, _∙_}
 use Prim.Native.Nat.{ℕ, _-_}
@@ -26,7 +27,8 @@ same-length c = search needs
 returns : tie.Need-returns
 returns c =
     let line = c .before .before .before .before .before .before .before .before .args .line .now in (
-      sym (frameOf-malformed line (sym (c .enum-told .given .1) ∙ c .before .before .before .before .decode-line .ensures .0)),
+      sym (frameOf-malformed line (sym (c .enum-told .given .1)
+          ∙ c .before .before .before .before .decode-line .ensures .0)),
       c .before .before .before .before .decode-line .ensures .1,
     )
 
@@ -38,8 +40,16 @@ part-parse-start c = search needs
 
 part-parse-end : tie.Need-part-parse-end
 part-parse-end c =
-    let s = stored-bytes (c .before .before .before .before .before .before .before .before .before .before .args .line .now) (c .before .before .text .given .0 .0) (sym (c .before .before .text .given .1) ∙ c .before .before .before .before .before .before .decode-line .ensures .0) in
-    omega (arith, s .fits, ap length (c .before .before .before .before .before .before .decode-line .ensures .1), length-sets (c .before .before .before .before .before .before .before .before .before .before .args .bytes .now) 0 (storedBytes (c .before .before .before .before .before .before .before .before .before .before .args .line .now)))
+    let s = stored-bytes
+    (c .before .before .before .before .before .before .before .before .before .before .args .line .now) (c .before .before .text .given .0 .0) (sym (c .before .before .text .given .1) ∙ c .before .before .before .before .before .before .decode-line .ensures .0) in
+    omega (
+      arith,
+      s .fits,
+      ap length
+          (c .before .before .before .before .before .before .decode-line .ensures .1),
+      length-sets
+          (c .before .before .before .before .before .before .before .before .before .before .args .bytes .now) 0 (storedBytes (c .before .before .before .before .before .before .before .before .before .before .args .line .now)),
+    )
 
 parse-requires : tie.Need-parse-requires
 parse-requires c κs = search needs
@@ -49,10 +59,14 @@ same-length-2 c = search needs
 
 returns-2 : tie.Need-returns-2
 returns-2 c =
-    let line = c .before .before .before .before .before .before .before .before .before .before .before .before .args .line .now in
+    let line =
+    c .before .before .before .before .before .before .before .before .before .before .before .before .args .line .now in
     let n = c .before .before .before .before .text .given .0 .0 in
-    let s = stored-bytes line n (sym (c .before .before .before .before .text .given .1) ∙ c .before .before .before .before .before .before .before .before .decode-line .ensures .0) in (
-      c .parse .ensures ∙ ap parsed (ap (λ (k : ℕ). take k (c .before .before .before .before .before .before .before .before .decode-line .last .1 .0)) (sub-zero (c .before .before .before .before .text .given .0 .0)) ∙ stored-front line (c .before .before .before .before .before .before .before .before .before .before .before .before .args .bytes .now) n s (c .before .before .before .before .before .before .before .before .decode-line .ensures .1) (omega arith)),
+    let s = stored-bytes line n (sym (c .before .before .before .before .text .given .1)
+    ∙ c .before .before .before .before .before .before .before .before .decode-line .ensures .0) in (
+      c .parse .ensures ∙ ap parsed
+          (ap (λ (k : ℕ). take k
+          (c .before .before .before .before .before .before .before .before .decode-line .last .1 .0)) (sub-zero (c .before .before .before .before .text .given .0 .0)) ∙ stored-front line (c .before .before .before .before .before .before .before .before .before .before .before .before .args .bytes .now) n s (c .before .before .before .before .before .before .before .before .decode-line .ensures .1) (omega arith)),
       c .before .before .before .before .before .before .before .before .decode-line .ensures .1,
     )
 

@@ -1,5 +1,6 @@
--- `hex::decode` meets its contract. The invariant: from pair k on the line is hex where the whole is, and storing what is left of its bytes
--- from k on makes `out` what storing all of them makes it. The measure is the pairs that are left.
+-- `hex::decode` meets its contract. The invariant: from pair k on the line is hex where the whole
+-- is, and storing what is left of its bytes from k on makes `out` what storing all of them makes
+-- it. The measure is the pairs that are left.
 use mathlib.Core.Bool.{true, false}
 use mathlib.Core.List.{List}
 use mathlib.Core.Path.{_≡_, refl, sym, _∙_}
@@ -11,7 +12,8 @@ use lib.Seq.{sets}
 use Rattle.hex.specs.declared.Decoded.the-variants.{Bytes, Malformed}
 use Rattle.hex.specs.Decode.{decoded}
 use Rattle.hex.specs.Text.{isHex, bytesOf}
-use Rattle.hex.proofs.Pairs.{isHex-digits, isHex-other, isHex-even, isHex-odd, bytesOf-digits, bytesOf-other, bytesOf-even, bytesOf-odd}
+use Rattle.hex.proofs.Pairs.{isHex-digits, isHex-other, isHex-even, isHex-odd}
+use Rattle.hex.proofs.Pairs.{bytesOf-digits, bytesOf-other, bytesOf-even, bytesOf-odd}
 use Rattle.hex.proofs.decode.Statement.{statement}
 use Rattle.hex.proofs.decode.Tie as tie
 
@@ -35,7 +37,8 @@ abbrev line : tie.At-loop Inv-loop μ-loop → List ℕ
 line c = c .before .before .before .args .line .now
 
 -- pair k lies in the line while k is below half
-pair-lies : (c : tie.In-loop Inv-loop μ-loop) → 2 * (c .before .loop .k) + 1 < length (line (c .before))
+pair-lies : (c : tie.In-loop Inv-loop μ-loop)
+    → 2 * (c .before .loop .k) + 1 < length (line (c .before))
 pair-lies c = omega arith
 
 loop-holds : tie.Need-loop-holds Inv-loop μ-loop
@@ -65,8 +68,12 @@ same-length c = c .before .before .before .before .before .loop .inv .2
 returns : tie.Need-returns Inv-loop μ-loop
 returns c =
     let in-loop = c .before .before .before .before in
-    let at-loop = in-loop .before in
-    (malformed _ (sym (at-loop .loop .inv .0) ∙ isHex-other _ _ _ (pair-lies in-loop) (c .before .pair .ensures) (c .if1 .taken)), bytesOf-other _ _ _ (pair-lies in-loop) (c .before .pair .ensures) _ (c .if1 .taken) ∙ at-loop .loop .inv .1)
+    let at-loop = in-loop .before in (
+      malformed _ (sym (at-loop .loop .inv .0) ∙ isHex-other _ _ _ (pair-lies in-loop)
+          (c .before .pair .ensures) (c .if1 .taken)),
+      bytesOf-other _ _ _ (pair-lies in-loop)
+          (c .before .pair .ensures) _ (c .if1 .taken) ∙ at-loop .loop .inv .1,
+    )
 
 cast-out : tie.Need-cast-out Inv-loop μ-loop
 cast-out c = search needs
@@ -83,8 +90,15 @@ loop-less c = search needs
 loop-again : tie.Need-loop-again Inv-loop μ-loop
 loop-again c =
     let in-loop = c .before .before .before .before in
-    let at-loop = in-loop .before in
-    (isHex-digits _ _ _ (pair-lies in-loop) (c .before .pair .ensures) (c .if1 .left) ∙ at-loop .loop .inv .0, bytesOf-digits _ _ _ (pair-lies in-loop) (c .before .pair .ensures) _ (c .if1 .left) ∙ at-loop .loop .inv .1, simp length-set (at-loop .loop .inv .2), omega arith)
+    let at-loop = in-loop .before in (
+      isHex-digits _ _ _ (pair-lies in-loop) (c .before .pair .ensures) (c .if1 .left)
+          ∙ at-loop .loop .inv .0,
+      bytesOf-digits _ _ _ (pair-lies in-loop)
+          (c .before .pair .ensures) _ (c .if1 .left)
+          ∙ at-loop .loop .inv .1,
+      simp length-set (at-loop .loop .inv .2),
+      omega arith,
+    )
 
 same-length-2 : tie.Need-same-length-2 Inv-loop μ-loop
 same-length-2 c = c .before .before .loop .inv .2
@@ -92,8 +106,11 @@ same-length-2 c = c .before .before .loop .inv .2
 returns-2 : tie.Need-returns-2 Inv-loop μ-loop
 returns-2 c =
     let at-loop = c .before .before in
-    let past : length (line at-loop) ≤ 2 * (at-loop .loop .k) = omega arith in
-    (whole _ (sym (at-loop .loop .inv .0) ∙ isHex-even _ _ past), bytesOf-even _ _ _ past ∙ at-loop .loop .inv .1)
+    let past : length (line at-loop) ≤ 2 * (at-loop .loop .k) = omega arith in (
+      whole _ (sym (at-loop .loop .inv .0) ∙ isHex-even _ _ past),
+      bytesOf-even _ _ _ past
+          ∙ at-loop .loop .inv .1,
+    )
 
 same-length-3 : tie.Need-same-length-3 Inv-loop μ-loop
 same-length-3 c = c .before .before .loop .inv .2
@@ -101,8 +118,11 @@ same-length-3 c = c .before .before .loop .inv .2
 returns-3 : tie.Need-returns-3 Inv-loop μ-loop
 returns-3 c =
     let at-loop = c .before .before in
-    let last : length (line at-loop) ≡ 2 * (at-loop .loop .k) + 1 = omega arith in
-    (malformed _ (sym (at-loop .loop .inv .0) ∙ isHex-odd _ _ last), bytesOf-odd _ _ _ last ∙ at-loop .loop .inv .1)
+    let last : length (line at-loop) ≡ 2 * (at-loop .loop .k) + 1 = omega arith in (
+      malformed _ (sym (at-loop .loop .inv .0) ∙ isHex-odd _ _ last),
+      bytesOf-odd _ _ _ last
+          ∙ at-loop .loop .inv .1,
+    )
 
 pub decode-spec : {M : Type 1} → statement M
 decode-spec =

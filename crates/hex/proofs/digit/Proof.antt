@@ -1,4 +1,5 @@
--- `hex::digit` meets its contract: the two tests are those of `digit`, and each bounds the byte that is lessened.
+-- `hex::digit` meets its contract: the two tests are those of `digit`, and each bounds the byte
+-- that is lessened.
 use native.Mathlib.Omega.{arith}
 use Rattle.basics.proofs.Cases.{between}
 use Rattle.hex.specs.Digit.{digit}

@@ -1,5 +1,5 @@
--- `hex::encode` meets its contract. The invariant: storing the digits of the bytes from k on makes `out` what storing all of them makes it.
--- The measure is the bytes that are left.
+-- `hex::encode` meets its contract. The invariant: storing the digits of the bytes from k on makes
+-- `out` what storing all of them makes it. The measure is the bytes that are left.
 use mathlib.Core.List.{List}
 use mathlib.Core.Path.{_≡_, refl, ap, _∙_}
 use Prim.Native.Nat.{ℕ, suc, _+_, _-_, _*_, _≤_, _<_}
@@ -28,15 +28,22 @@ unfolding hexText
 ends out bytes i k h = rw (drop-of-length-le bytes h)
 
 -- a turn writes the next byte's digits, and what is left to write is the rest
-turn : (out written bytes : List ℕ) (at k : ℕ) → k < length bytes → written ≡ sets out (at + 2 * k) (hexByte (getD bytes k 0)) → sets written (at + 2 * (k + 1)) (hexText (drop (k + 1) bytes)) ≡ sets out (at + 2 * k) (hexText (drop k bytes))
+turn : (out written bytes : List ℕ) (at k : ℕ) → k < length bytes
+    → written ≡ sets out (at + 2 * k) (hexByte (getD bytes k 0))
+    → sets written (at + 2 * (k + 1)) (hexText (drop (k + 1) bytes)) ≡ sets out (at + 2 * k)
+    (hexText (drop k bytes))
 unfolding hexText
 turn out written bytes at k h e =
     let next : at + 2 * (k + 1) ≡ suc (suc (at + 2 * k)) = omega arith in
     rw (next, add-one, e, drop-cons bytes k 0 h)
 
 loop-holds : tie.Need-loop-holds Inv-loop μ-loop
-loop-holds c =
-    (ap (λ (i : ℕ). sets (c .before .before .args .out .now) i (hexText (c .before .before .args .bytes .now))) (add-zero (c .before .before .args .at)), refl)
+loop-holds c = (
+  ap (λ (i : ℕ). sets (c .before .before .args .out .now) i
+      (hexText (c .before .before .args .bytes .now)))
+      (add-zero (c .before .before .args .at)),
+  refl,
+)
 
 mul-put-byte : tie.Need-mul-put-byte Inv-loop μ-loop
 mul-put-byte c = search needs
@@ -60,8 +67,12 @@ loop-again : tie.Need-loop-again Inv-loop μ-loop
 loop-again c =
     let wrote = c .before .before in
     let in-loop = wrote .before .before .before in
-    let at-loop = in-loop .before in
-    (turn _ _ _ _ _ (in-loop .loop-test .taken) (wrote .put-byte .ensures) ∙ at-loop .loop .inv .0, ap length (wrote .put-byte .ensures) ∙ simp length-set (at-loop .loop .inv .1))
+    let at-loop = in-loop .before in (
+      turn _ _ _ _ _ (in-loop .loop-test .taken) (wrote .put-byte .ensures)
+          ∙ at-loop .loop .inv .0,
+      ap length (wrote .put-byte .ensures)
+          ∙ simp length-set (at-loop .loop .inv .1),
+    )
 
 same-length : tie.Need-same-length Inv-loop μ-loop
 same-length c = c .before .loop .inv .1

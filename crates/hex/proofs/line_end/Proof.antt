@@ -1,5 +1,5 @@
--- `hex::line_end` meets its contract. The invariant: from `i` on the line ends where it ends from `at` on, since no byte passed is 0a.
--- The measure is what is left of the text.
+-- `hex::line_end` meets its contract. The invariant: from `i` on the line ends where it ends from
+-- `at` on, since no byte passed is 0a. The measure is what is left of the text.
 use mathlib.Core.Path.{_≡_, refl, sym, _∙_}
 use Prim.Native.Nat.{_-_}
 use borrow.Author.Needs.{needs}

@@ -1,5 +1,5 @@
--- `hex::number_at` meets its contract. The invariant: `number` is the number of the k bytes read, so that it is below 256 ^ k.
--- The measure is what is left of n.
+-- `hex::number_at` meets its contract. The invariant: `number` is the number of the k bytes read,
+-- so that it is below 256 ^ k. The measure is what is left of n.
 use mathlib.Core.Path.{_≡_, refl, sym, ap, _∙_}
 use mathlib.Core.List.{List}
 use Prim.Native.Nat.{ℕ, _+_, _-_, _*_, _^_, _≤_, _<_}
@@ -40,8 +40,14 @@ module _ (c : tie.After-shared-slice-known Inv-loop μ-loop) where
 
   fits : number * 256 + getD bytes (at + k) 0 < 256 ^ 8
   fits =
-      omega
-      (arith, turn, numberAt-lt (k + 1) bytes at (λ i. c .shared-slice-known .given i .fits), pow-le-pow-right {n = 256} (lit< tt) {i = k + 1} {j = 8} (omega arith))
+      omega (
+        arith,
+        turn,
+        numberAt-lt (k + 1) bytes at
+            (λ i. c .shared-slice-known .given i .fits),
+        pow-le-pow-right {n = 256}
+            (lit< tt) {i = k + 1} {j = 8} (omega arith),
+      )
 
 loop-holds : tie.Need-loop-holds Inv-loop μ-loop
 unfolding numberAt

@@ -1,4 +1,5 @@
--- `hex::pair` meets its contract: its test is that of `pair` on what `digit` returns, and two digits' byte is below 256.
+-- `hex::pair` meets its contract: its test is that of `pair` on what `digit` returns, and two
+-- digits' byte is below 256.
 use Prim.Native.Nat.{_<_}
 use native.Mathlib.Omega.{arith}
 use borrow.Author.Needs.{needs}
@@ -7,7 +8,8 @@ use Rattle.hex.specs.Digit.{pair}
 use Rattle.hex.proofs.pair.Statement.{statement}
 use Rattle.hex.proofs.pair.Tie as tie
 
-both-digits : (c : tie.Then1) → (c .before .before .digit .result < 16) × (c .before .digit2 .result < 16)
+both-digits : (c : tie.Then1) → (c .before .before .digit .result < 16)
+    × (c .before .digit2 .result < 16)
 both-digits c =
     both-below 16 (c .before .before .digit .result) (c .before .digit2 .result) (c .if1 .taken)
 

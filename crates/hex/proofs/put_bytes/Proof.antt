@@ -1,5 +1,5 @@
--- `hex::put_bytes` meets its contract. The last byte is written first; the invariant: storing the `left` bytes of `upper` makes `out` what
--- storing all of them makes it. The measure is `left`.
+-- `hex::put_bytes` meets its contract. The last byte is written first; the invariant: storing the
+-- `left` bytes of `upper` makes `out` what storing all of them makes it. The measure is `left`.
 use mathlib.Core.List.{List, [], _∷_}
 use mathlib.Core.Path.{_≡_, refl, sym, ap, _∙_}
 use Prim.Native.Nat.{ℕ, zero, suc, _+_, _-_, _/_, _%_, _≤_, _<_}
@@ -17,7 +17,8 @@ use Rattle.hex.proofs.put_bytes.Tie as tie
 
 abbrev Inv-loop : tie.InvT-loop
 Inv-loop out₀ at n x left₀ upper₀ out left upper =
-    (sets out at (bigEndian left upper) ≡ sets out₀ at (bigEndian n x)) × (length out ≡ length out₀) × (left ≤ n)
+    (sets out at (bigEndian left upper) ≡ sets out₀ at (bigEndian n x)) × (length out ≡ length out₀)
+    × (left ≤ n)
 
 abbrev μ-loop : tie.MeasureT-loop
 μ-loop out₀ at n x left₀ upper₀ out left upper = left
@@ -29,7 +30,8 @@ ends out at left upper h = rw (le-zero h)
 
 -- a turn writes the last byte, and what is left to write is the bytes before it
 turn : (out : List ℕ) (at left upper : ℕ) → 0 < left
-    → sets (set out (at + (left - 1)) (upper % 256)) at (bigEndian (left - 1) (upper / 256)) ≡ sets out at (bigEndian left upper)
+    → sets (set out (at + (left - 1)) (upper % 256)) at
+    (bigEndian (left - 1) (upper / 256)) ≡ sets out at (bigEndian left upper)
 unfolding bigEndian
 turn out at zero upper h = absurd (not-suc-le-zero h)
 turn out at (suc m) upper h =
@@ -60,8 +62,12 @@ loop-less : tie.Need-loop-less Inv-loop μ-loop
 loop-less c = search needs
 
 loop-again : tie.Need-loop-again Inv-loop μ-loop
-loop-again c =
-    (turn _ _ _ _ (c .loop-test .taken) ∙ c .before .loop .inv .0, simp length-set (c .before .loop .inv .1), omega arith)
+loop-again c = (
+  turn _ _ _ _ (c .loop-test .taken)
+      ∙ c .before .loop .inv .0,
+  simp length-set (c .before .loop .inv .1),
+  omega arith,
+)
 
 same-length : tie.Need-same-length Inv-loop μ-loop
 same-length c = c .before .loop .inv .1

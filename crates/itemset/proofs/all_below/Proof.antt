@@ -1,4 +1,5 @@
--- `itemset::all_below` meets its contract: nothing is left above the n lowest digits, and from 64 on nothing is above.
+-- `itemset::all_below` meets its contract: nothing is left above the n lowest digits, and from 64
+-- on nothing is above.
 use borrow.Author.Needs.{needs}
 use borrow.Author.Tests.{lt-ltb}
 use mathlib.Core.Path.{sym}

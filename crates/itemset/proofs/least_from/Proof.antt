@@ -1,4 +1,5 @@
--- `itemset::least_from` meets its contract: past `item`, the zeros below the lowest digit that is set are the items that are no members.
+-- `itemset::least_from` meets its contract: past `item`, the zeros below the lowest digit that is
+-- set are the items that are no members.
 use borrow.Author.Needs.{needs}
 use native.Mathlib.Omega.{arith}
 use Prim.Native.Nat.{_-_, _/_, _^_}
@@ -18,10 +19,18 @@ add-least : tie.Need-add-least
 add-least c = omega (arith, trailing-le 64 (c .before .args .set / 2 ^ (c .before .args .item)))
 
 returns : tie.Need-returns
-returns c = omega (arith, least-trailing 64 (c .before .before .args .set) (c .before .before .args .item) (omega arith))
+returns c = omega (
+  arith,
+  least-trailing 64 (c .before .before .args .set)
+      (c .before .before .args .item) (omega arith),
+)
 
 returns-2 : tie.Need-returns-2
-returns-2 c = omega (arith, least-trailing 64 (c .before .before .args .set) (c .before .before .args .item) (omega arith))
+returns-2 c = omega (
+  arith,
+  least-trailing 64 (c .before .before .args .set)
+      (c .before .before .args .item) (omega arith),
+)
 
 returns-3 : tie.Need-returns-3
 returns-3 c =

@@ -1,4 +1,5 @@
--- `itemset::rank` meets its contract: the mask keeps the digits below `item`, and from 64 on those are all.
+-- `itemset::rank` meets its contract: the mask keeps the digits below `item`, and from 64 on those
+-- are all.
 use borrow.Author.Needs.{needs}
 use mathlib.Core.Path.{sym, ap, _∙_}
 use Prim.Native.Nat.{ℕ, _-_}
@@ -15,7 +16,8 @@ shl-count : tie.Need-shl-count
 shl-count c = search needs
 
 sub-count : tie.Need-sub-count
-sub-count c = rw (one-shifted (c .before .args .item) 64 (search needs)) (pow-pos (c .before .args .item))
+sub-count c = rw (one-shifted (c .before .args .item) 64 (search needs))
+    (pow-pos (c .before .args .item))
 
 count-requires : tie.Need-count-requires
 count-requires c κs = search needs
@@ -26,14 +28,17 @@ count-requires-2 c κs = search needs
 returns : tie.Need-returns
 returns c =
     c .count .ensures
-    ∙ ap (λ (bit : ℕ). count (bitAnd (c .before .before .args .set) (bit - 1))) (one-shifted (c .before .before .args .item) 64 (search needs))
+    ∙ ap (λ (bit : ℕ). count (bitAnd (c .before .before .args .set) (bit - 1)))
+    (one-shifted (c .before .before .args .item) 64 (search needs))
     ∙ sym (rank-and (c .before .before .args .set) (c .before .before .args .item))
 
 returns-2 : tie.Need-returns-2
 returns-2 c =
     c .count2 .ensures
     ∙ sym (rank-all (c .before .before .args .set) (c .before .before .args .item)
-    (below-le (c .before .before .args .set) 64 (c .before .before .args .item) (search needs) (search needs)))
+    (below-le (c .before .before .args .set) 64 (c .before .before .args .item) (search needs)
+    (search needs)))
 
 pub rank-spec : {M : Type 1} → statement M
-rank-spec = tie.close (tie.spec shl-count sub-count count-requires count-requires-2 returns returns-2)
+rank-spec = tie.close (tie.spec shl-count sub-count count-requires count-requires-2 returns
+    returns-2)

@@ -1,4 +1,5 @@
--- `itemset::remove` meets its contract: what `&` finds of the digit worth 2 ^ item is taken off, and a 64-bit set has no item from 64 on.
+-- `itemset::remove` meets its contract: what `&` finds of the digit worth 2 ^ item is taken off,
+-- and a 64-bit set has no item from 64 on.
 use borrow.Author.Needs.{needs}
 use lib.Bits.{bitAnd, and-le-l}
 use mathlib.Core.Path.{sym, ap, _∙_}
@@ -16,7 +17,8 @@ sub-result c = and-le-l (c .before .args .set) _
 
 returns : tie.Need-returns
 returns c =
-    ap (λ (bit : ℕ). c .before .args .set - bitAnd (c .before .args .set) bit) (one-shifted (c .before .args .item) 64 (search needs))
+    ap (λ (bit : ℕ). c .before .args .set - bitAnd (c .before .args .set) bit)
+    (one-shifted (c .before .args .item) 64 (search needs))
     ∙ sym (remove-and (c .before .args .set) (c .before .args .item))
 
 returns-2 : tie.Need-returns-2

@@ -15,11 +15,14 @@ long : (c : tie.Then1) → Verdict.TooLong ≡ verdict (c .before .before .befor
 unfolding verdict
 long c = rw (sym (c .before .too-long .ensures) ∙ c .if1 .taken)
 
-within : (c : tie.After-judge-within) → c .judge-within .result ≡ verdict (c .before .before .before .before .args .log .now)
+within : (c : tie.After-judge-within)
+    → c .judge-within .result ≡ verdict (c .before .before .before .before .args .log .now)
 unfolding verdict
-within c = rw (sym (c .before .before .too-long .ensures) ∙ c .before .if1 .left) (c .judge-within .ensures)
+within c = rw (sym (c .before .before .too-long .ensures) ∙ c .before .if1 .left)
+    (c .judge-within .ensures)
 
-promised : (log : List ℕ) (answer : Verdict) → answer ≡ verdict log → (answer ≡ verdict log) × Says log answer
+promised : (log : List ℕ) (answer : Verdict) → answer ≡ verdict log → (answer ≡ verdict log)
+    × Says log answer
 promised log answer e = (e, subst (λ (v : Verdict). Says log v) (sym e) (says log))
 
 too-long-requires : tie.Need-too-long-requires

@@ -11,13 +11,17 @@ use Rattle.judge.proofs.judge_into.Statement.{statement}
 use Rattle.judge.proofs.judge_into.Tie as tie
 
 -- what scanning told, in each case
-lines : (c : tie.After-scanned) → ScannedOf (c .before .before .before .before .before .before .before .before .before .before .before .before .args .log .now) (c .before .before .before .before .before .before .scan .last .1 .0) (c .before .before .before .before .before .before .scan .last .1 .1 .0) (Lines (c .scanned .given .0 .0))
+lines : (c : tie.After-scanned) → ScannedOf
+    (c .before .before .before .before .before .before .before .before .before .before .before .before .args .log .now) (c .before .before .before .before .before .before .scan .last .1 .0) (c .before .before .before .before .before .before .scan .last .1 .1 .0) (Lines (c .scanned .given .0 .0))
 lines c =
-    subst (λ (s : Scanned). ScannedOf (c .before .before .before .before .before .before .before .before .before .before .before .before .args .log .now) (c .before .before .before .before .before .before .scan .last .1 .0) (c .before .before .before .before .before .before .scan .last .1 .1 .0) s) (c .scanned .given .1) (c .before .before .before .before .before .before .scan .ensures)
+    subst (λ (s : Scanned). ScannedOf
+    (c .before .before .before .before .before .before .before .before .before .before .before .before .args .log .now) (c .before .before .before .before .before .before .scan .last .1 .0) (c .before .before .before .before .before .before .scan .last .1 .1 .0) s) (c .scanned .given .1) (c .before .before .before .before .before .before .scan .ensures)
 
-bad : (c : tie.After-scanned2) → ScannedOf (c .before .before .before .before .before .before .before .before .before .before .before .before .args .log .now) (c .before .before .before .before .before .before .scan .last .1 .0) (c .before .before .before .before .before .before .scan .last .1 .1 .0) (Bad (c .scanned2 .given .0 .0))
+bad : (c : tie.After-scanned2) → ScannedOf
+    (c .before .before .before .before .before .before .before .before .before .before .before .before .args .log .now) (c .before .before .before .before .before .before .scan .last .1 .0) (c .before .before .before .before .before .before .scan .last .1 .1 .0) (Bad (c .scanned2 .given .0 .0))
 bad c =
-    subst (λ (s : Scanned). ScannedOf (c .before .before .before .before .before .before .before .before .before .before .before .before .args .log .now) (c .before .before .before .before .before .before .scan .last .1 .0) (c .before .before .before .before .before .before .scan .last .1 .1 .0) s) (c .scanned2 .given .1) (c .before .before .before .before .before .before .scan .ensures)
+    subst (λ (s : Scanned). ScannedOf
+    (c .before .before .before .before .before .before .before .before .before .before .before .before .args .log .now) (c .before .before .before .before .before .before .scan .last .1 .0) (c .before .before .before .before .before .before .scan .last .1 .1 .0) s) (c .scanned2 .given .1) (c .before .before .before .before .before .before .scan .ensures)
 
 scan-requires : tie.Need-scan-requires
 scan-requires c κs = search needs
@@ -44,7 +48,8 @@ same-length-2 : tie.Need-same-length-2
 same-length-2 c = search needs
 
 returns : tie.Need-returns
-returns c = c .judge-lines .ensures ∙ checked-lines _ _ _ _ (lines (c .before .before .before .before))
+returns c = c .judge-lines .ensures
+    ∙ checked-lines _ _ _ _ (lines (c .before .before .before .before))
 
 same-length-3 : tie.Need-same-length-3
 same-length-3 c = search needs

@@ -19,12 +19,14 @@ cast-t10 c = search needs
 returns : tie.Need-returns
 returns c =
     let a = c .before .before .before .before .before .before .args in
-    judged-fault (a .bytes .now) (a .starts .now) (a .n) (c .before .before .first-fault .result) (c .before .before .first-fault .ensures) _ (c .before .if1 .taken) (c .lowest .ensures)
+    judged-fault (a .bytes .now) (a .starts .now) (a .n) (c .before .before .first-fault .result)
+    (c .before .before .first-fault .ensures) _ (c .before .if1 .taken) (c .lowest .ensures)
 
 returns-2 : tie.Need-returns-2
 returns-2 c =
     let a = c .before .before .before .before .before .args in
-    judged-clean (a .bytes .now) (a .starts .now) (a .n) (c .before .first-fault .result) (c .before .first-fault .ensures) (c .if1 .left)
+    judged-clean (a .bytes .now) (a .starts .now) (a .n) (c .before .first-fault .result)
+    (c .before .first-fault .ensures) (c .if1 .left)
 
 pub judge-marked-spec : {M : Type 1} → statement M
 judge-marked-spec =

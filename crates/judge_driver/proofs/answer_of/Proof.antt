@@ -43,10 +43,18 @@ unfolding bigEndian
 returns c = (sym (ap bytesOf (c .enum-told .given .1)), search needs)
 
 returns-2 : tie.Need-returns-2
-returns-2 c = (malformed-number _ (omega arith) ∙ sym (ap bytesOf (c .before .v .given .1)), search needs)
+returns-2 c = (
+  malformed-number _ (omega arith) ∙ sym
+      (ap bytesOf (c .before .v .given .1)),
+  search needs,
+)
 
 returns-3 : tie.Need-returns-3
-returns-3 c = (judged-number _ _ (omega arith) (omega arith) ∙ sym (ap bytesOf (c .before .v2 .given .1)), search needs)
+returns-3 c = (
+  judged-number _ _ (omega arith) (omega arith)
+      ∙ sym (ap bytesOf (c .before .v2 .given .1)),
+  search needs,
+)
 
 pub answer-of-spec : {M : Type 1} → statement M
 answer-of-spec =

@@ -1,4 +1,5 @@
--- `judge_driver::fill` meets its contract. The invariant: what was read lies within the buffer. The measure is what is left of it.
+-- `judge_driver::fill` meets its contract. The invariant: what was read lies within the buffer. The
+-- measure is what is left of it.
 use mathlib.Core.Path.{_≡_, subst}
 use Prim.Native.Nat.{_+_, _-_, _≤_}
 use native.Mathlib.Omega.{arith}
@@ -17,9 +18,14 @@ Inv-loop buf₀ done₀ buf done = (done ≤ length buf) × (length buf ≡ leng
 abbrev μ-loop : tie.MeasureT-loop
 μ-loop buf₀ done₀ buf done = length buf - done
 
-more : (c : tie.After-known-told Inv-loop μ-loop) → (1 ≤ c .before .got .given .0 .0) × (c .before .before .before .before .before .before .before .before .loop .done + c .before .got .given .0 .0 ≤ length (c .before .before .before .before .before .before .before .before .loop .buf))
+more : (c : tie.After-known-told Inv-loop μ-loop) → (1 ≤ c .before .got .given .0 .0)
+    × (c .before .before .before .before .before .before .before .before .loop .done + c .before .got .given .0 .0 ≤ length (c .before .before .before .before .before .before .before .before .loop .buf))
 more c =
-    subst (λ (g : Got). GotWithin (length (c .before .before .before .before .before .before .before .before .loop .buf)) (c .before .before .before .before .before .before .before .before .loop .done) g) (c .before .got .given .1) (c .before .before .before .before .before .read-more .ensures)
+    subst (λ (g : Got). GotWithin (length
+    (c .before .before .before .before .before .before .before .before .loop .buf))
+    (c .before .before .before .before .before .before .before .before .loop .done) g)
+    (c .before .got .given .1)
+    (c .before .before .before .before .before .read-more .ensures)
 
 loop-holds : tie.Need-loop-holds Inv-loop μ-loop
 loop-holds c = search needs

@@ -10,10 +10,16 @@ use borrow.Author.Needs.{needs}
 use Rattle.judge_driver.proofs.judge_input.Statement.{statement}
 use Rattle.judge_driver.proofs.judge_input.Tie as tie
 
-inside : (c : tie.After-filled) → c .filled .given .0 .0 ≤ length (c .before .before .before .before .fill .last .0)
+inside : (c : tie.After-filled) → c .filled .given .0 .0 ≤ length
+    (c .before .before .before .before .fill .last .0)
 inside c =
-    omega
-    (arith, subst (λ (f : Filled). FilledWithin (length (c .before .before .before .before .before .before .before .args .buf .now)) f) (c .filled .given .1) (c .before .before .before .before .fill .ensures), c .before .before .before .before .fill .kept .0)
+    omega (
+      arith,
+      subst (λ (f : Filled). FilledWithin (length
+          (c .before .before .before .before .before .before .before .args .buf .now)) f)
+          (c .filled .given .1) (c .before .before .before .before .fill .ensures),
+      c .before .before .before .before .fill .kept .0,
+    )
 
 fill-requires : tie.Need-fill-requires
 fill-requires c κs = search needs
@@ -49,7 +55,12 @@ array-share-prefix-out : tie.Need-array-share-prefix-out
 array-share-prefix-out c = search needs
 
 slice-aggregate-write-all : tie.Need-slice-aggregate-write-all
-slice-aggregate-write-all c = sym (length-take-le _ _ (omega (arith, c .before .before .write-line .ensures .1, c .before .before .write-line .kept .1 .0)))
+slice-aggregate-write-all c = sym (length-take-le _ _
+    (omega (
+      arith,
+      c .before .before .write-line .ensures .1,
+      c .before .before .write-line .kept .1 .0,
+    )))
 
 write-all-requires : tie.Need-write-all-requires
 write-all-requires c κs = search needs

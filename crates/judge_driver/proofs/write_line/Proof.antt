@@ -39,9 +39,17 @@ returns c =
     let s = c .before .before .before .before .before .before in
     let a = c .before .before .before .before .answer-of in
     let bytes = bigEndian (a .result .size) (a .result .number) in
-    let long : length (hexText bytes) ≡ 2 * a .result .size = omega (arith, length-hexText bytes, length-bigEndian (a .result .size) (a .result .number)) in (
-      ap (λ (l : List ℕ). take (2 * a .result .size + 1) (set l (2 * a .result .size) 10)) (c .before .before .put-number .ensures)
-          ∙ line-stored (hexText bytes) (s .args .out .now) (2 * a .result .size) 10 long (omega arith)
+    let long : length (hexText bytes) ≡ 2 * a .result .size =
+    omega (
+      arith,
+      length-hexText bytes,
+      length-bigEndian (a .result .size)
+          (a .result .number),
+    ) in (
+      ap (λ (l : List ℕ). take (2 * a .result .size + 1) (set l (2 * a .result .size) 10))
+          (c .before .before .put-number .ensures)
+          ∙ line-stored (hexText bytes) (s .args .out .now) (2 * a .result .size) 10 long
+          (omega arith)
           ∙ ap (λ (l : List ℕ). hexText l ++ 0x0a ∷ []) (a .ensures .0),
       omega arith,
     )

@@ -1,5 +1,5 @@
--- `layout::clear` meets its contract. The invariant: the first `i` words are 0, the others as they were. The measure is what is left
--- of n.
+-- `layout::clear` meets its contract. The invariant: the first `i` words are 0, the others as they
+-- were. The measure is what is left of n.
 use mathlib.Core.List.{List}
 use mathlib.Core.Path.{_≡_, ap, _∙_}
 use Prim.Native.Nat.{ℕ, _-_, _≤_}
@@ -35,14 +35,19 @@ loop-less c = search needs
 
 loop-again : tie.Need-loop-again Inv-loop μ-loop
 loop-again c =
-    let at = c .before .loop in
-    (ap (λ (l : List ℕ). set l (at .i) 0) (at .inv .0) ∙ blank-more (at .i) _ (omega arith), search needs, simp length-set (at .inv .2))
+    let at = c .before .loop in (
+      ap (λ (l : List ℕ). set l (at .i) 0) (at .inv .0)
+          ∙ blank-more (at .i) _ (omega arith),
+      search needs,
+      simp length-set (at .inv .2),
+    )
 
 same-length : tie.Need-same-length Inv-loop μ-loop
 same-length c = search needs
 
 returns : tie.Need-returns Inv-loop μ-loop
-returns c = rw (le-antisymm (c .before .loop .inv .1) (c .loop-test .left)) at (c .before .loop .inv .0)
+returns c = rw (le-antisymm (c .before .loop .inv .1) (c .loop-test .left)) at
+    (c .before .loop .inv .0)
 
 pub clear-spec : {M : Type 1} → statement M
 clear-spec =

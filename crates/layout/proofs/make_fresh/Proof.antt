@@ -29,7 +29,8 @@ returns c =
     let cleared = c .before .before .before .before .before .before in
     let a = cleared .before .before .before .args in
     c .before .before .put-sizes .ensures
-    ∙ ap (λ (b : List ℕ). storeSizes b (a .clients) (a .partitions) (a .items)) (cleared .clear .ensures)
+    ∙ ap (λ (b : List ℕ). storeSizes b (a .clients) (a .partitions) (a .items))
+    (cleared .clear .ensures)
 
 pub make-fresh-spec : {M : Type 1} → statement M
 make-fresh-spec = tie.close (tie.spec clear-requires put-sizes-requires same-length returns)

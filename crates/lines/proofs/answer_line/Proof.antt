@@ -31,13 +31,15 @@ returns c =
     let a = c .before .before .before .before .before .before .before .before .before .before .before .before .args in
     let b = a .b .now in
     let line = a .line .now in
-    let made = c .before .before .before .before .before .before .before .before .before .blank-output in
+    let made =
+    c .before .before .before .before .before .before .before .before .before .blank-output in
     let done = c .before .before .before .before .before .before .carry-out .ensures in
     let reply = replied b line (made .result) (made .ensures) (done .0) (done .1 .1) in (
       c .put-answer .ensures .0 ∙ ap length reply,
       (
         c .put-answer .ensures .1 ∙ ap (sets (a .output .now) 0) reply,
-        done .1 .0 ∙ ap (λ (x : List ℕ). parsedBlock b (frameBytes line) x (frameOf line)) (made .ensures),
+        done .1 .0 ∙ ap (λ (x : List ℕ). parsedBlock b (frameBytes line) x (frameOf line))
+            (made .ensures),
       ),
     )
 

@@ -1,4 +1,5 @@
--- `lines::call` meets its contract, frame by frame; the values of a write are the rest of its bytes.
+-- `lines::call` meets its contract, frame by frame; the values of a write are the rest of its
+-- bytes.
 use borrow.Author.Needs.{needs}
 use mathlib.Core.Path.{sym, ap, _∙_}
 use mathlib.Core.List.{List}
@@ -31,10 +32,28 @@ enum-known-frame-3 : tie.Need-enum-known-frame-3
 enum-known-frame-3 c = search needs
 
 sub-start-write : tie.Need-sub-start-write
-sub-start-write c = omega (arith, parsed-write (c .before .before .before .before .before .before .before .args .f .now) _ _ (length (c .before .before .before .before .before .before .before .args .f .now)) (ap (λ (g : StoreFrame). Frame g (length (c .before .before .before .before .before .before .before .args .f .now))) (sym (c .before .before .frame3 .given .1)) ∙ c .before .before .before .before .before .before .before .pre))
+sub-start-write c = omega (
+  arith,
+  parsed-write
+      (c .before .before .before .before .before .before .before .args .f .now) _ _
+      (length (c .before .before .before .before .before .before .before .args .f .now))
+      (ap (λ (g : StoreFrame). Frame g
+      (length (c .before .before .before .before .before .before .before .args .f .now)))
+      (sym (c .before .before .frame3 .given .1))
+      ∙ c .before .before .before .before .before .before .before .pre),
+)
 
 part-start-write-start : tie.Need-part-start-write-start
-part-start-write-start c = omega (arith, parsed-write (c .before .before .before .before .before .before .before .args .f .now) _ _ (length (c .before .before .before .before .before .before .before .args .f .now)) (ap (λ (g : StoreFrame). Frame g (length (c .before .before .before .before .before .before .before .args .f .now))) (sym (c .before .before .frame3 .given .1)) ∙ c .before .before .before .before .before .before .before .pre))
+part-start-write-start c = omega (
+  arith,
+  parsed-write
+      (c .before .before .before .before .before .before .before .args .f .now) _ _
+      (length (c .before .before .before .before .before .before .before .args .f .now))
+      (ap (λ (g : StoreFrame). Frame g
+      (length (c .before .before .before .before .before .before .before .args .f .now)))
+      (sym (c .before .before .frame3 .given .1))
+      ∙ c .before .before .before .before .before .before .before .pre),
+)
 
 part-start-write-end : tie.Need-part-start-write-end
 part-start-write-end c = search needs

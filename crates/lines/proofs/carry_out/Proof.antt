@@ -1,4 +1,5 @@
--- `lines::carry_out` meets its contract: of a line with a frame the bytes read are the frame's, so that its call is the line's.
+-- `lines::carry_out` meets its contract: of a line with a frame the bytes read are the frame's, so
+-- that its call is the line's.
 use borrow.Author.Needs.{needs}
 use mathlib.Core.List.{List}
 use mathlib.Core.Path.{_≡_, sym, ap, _∙_}
@@ -46,16 +47,19 @@ module _ (p : tie.After-parsed) where
 
   wide : length bytes ≡ 266
   wide =
-      ap length (p .before .before .read-frame .ensures .1) ∙ length-sets room 0 (storedBytes line) ∙ sym (p .before .before .before .before .blank-frame .ensures)
+      ap length (p .before .before .read-frame .ensures .1) ∙ length-sets room 0 (storedBytes line)
+      ∙ sym (p .before .before .before .before .blank-frame .ensures)
 
   its-bytes : take (n - 0) bytes ≡ frameBytes line
   its-bytes =
       ap (λ (k : ℕ). take k bytes) (sub-zero n)
-      ∙ stored-front line room n stored (p .before .before .read-frame .ensures .1) (omega (arith, p .before .before .before .before .blank-frame .ensures))
+      ∙ stored-front line room n stored (p .before .before .read-frame .ensures .1)
+      (omega (arith, p .before .before .before .before .blank-frame .ensures))
 
   its-frame : Frame frame (length (take (n - 0) bytes)) ≡ parsed (take (n - 0) bytes)
   its-frame =
-      ap (Frame frame) (ap length its-bytes ∙ sym (parsed-length (frameBytes line) frame n is-frame))
+      ap (Frame frame) (ap length its-bytes ∙ sym (parsed-length
+      (frameBytes line) frame n is-frame))
       ∙ is-frame
       ∙ ap parsed (sym its-bytes)
 

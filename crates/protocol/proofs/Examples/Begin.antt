@@ -5,21 +5,36 @@ use lib.ListN.{replicate}
 use Rattle.protocol.specs.declared.Version.{Version}
 use Rattle.protocol.specs.declared.Entry.{Entry}
 use Rattle.protocol.specs.declared.Message.the-variants.{Prepare, Prepared, Commit, Get, Got}
-use Rattle.protocol.specs.Tables.{Sizes, Tables, Client, Mode, idle, reading, writing, nothing, fresh, initial, resting, stampOf, put, withClient, withView, withVersions, withMessages}
+use Rattle.protocol.specs.Tables.{Sizes, Tables, Client, Mode, idle, reading, writing}
+use Rattle.protocol.specs.Tables.{nothing, fresh, initial, resting, stampOf, put, withClient}
+use Rattle.protocol.specs.Tables.{withView, withVersions, withMessages}
 
 abbrev pub sizes : ℕ → ℕ → ℕ → Sizes
-sizes clients partitions items = record { clients = clients; partitions = partitions; items = items }
+sizes clients partitions items = record
+    { clients = clients; partitions = partitions; items = items }
 
 abbrev pub entry : ℕ → ℕ → ℕ → Entry
 entry number writer set = record { stamp = stampOf number writer; set = set }
 
 abbrev pub version : ℕ → ℕ → ℕ → ℕ → ℕ → Version
-version k value number writer set = record { item = k; value = value; stamp = stampOf number writer; set = set }
+version k value number writer set =
+    record { item = k; value = value; stamp = stampOf number writer; set = set }
 
--- a client after five writes: its items, those awaited, the stamps asked for, the stamp written, and the value of each item
+-- a client after five writes: its items, those awaited, the stamps asked for, the stamp written,
+-- and the value of each item
 abbrev pub busy : Mode → ℕ → ℕ → ℕ → ℕ → ℕ → Client
 busy mode set awaited asked stamp value =
-    record { mode = mode; count = 5; set = set; awaited = awaited; asked = λ k. asked; stamp = stamp; values = λ k. value; last = nothing }
+    record {
+      mode = mode;
+      count = 5;
+      set = set;
+      awaited = awaited;
+      asked = λ k. asked;
+      stamp =
+          stamp;
+      values = λ k. value;
+      last = nothing;
+    }
 
 abbrev pub reader : ℕ → ℕ → ℕ → ℕ → Client
 reader set awaited asked value = busy reading set awaited asked 0 value
@@ -32,8 +47,9 @@ writer set awaited stamp value = busy writing set awaited 0 stamp value
 abbrev pub storedBy : ℕ → List Version
 storedBy d = version 0 7 1 d 15 ∷ version 1 7 1 d 15 ∷ version 2 7 1 d 15 ∷ version 3 7 1 d 15 ∷ []
 
--- Of eight clients 1 to 7 write {0, 1, 2, 3} and still await the reply for 3: 21 replies have come, the other 7 are in flight. Beside those
--- there are n commits of client 8, which is idle; that it has a set adds nothing. The load is 28 + n.
+-- Of eight clients 1 to 7 write {0, 1, 2, 3} and still await the reply for 3: 21 replies have come,
+-- the other 7 are in flight. Beside those there are n commits of client 8, which is idle; that it
+-- has a set adds nothing. The load is 28 + n.
 abbrev pub loaded : ℕ → Tables
 loaded n =
     record {
@@ -41,8 +57,10 @@ loaded n =
       latest = λ k. initial;
       view = λ d k. initial;
       client = put (λ d. writer 15 8 (stampOf 1 d) 7) 8 (busy idle 15 0 0 0 0);
-      versions = storedBy 1 ++ storedBy 2 ++ storedBy 3 ++ storedBy 4 ++ storedBy 5 ++ storedBy 6 ++ storedBy 7;
-      messages = map (λ d. Prepared 3 (stampOf 1 d)) (1 ∷ 2 ∷ 3 ∷ 4 ∷ 5 ∷ 6 ∷ 7 ∷ []) ++ replicate n (Commit 0 (stampOf 1 8));
+      versions = storedBy 1 ++ storedBy 2 ++ storedBy 3 ++ storedBy 4 ++ storedBy 5 ++ storedBy
+          6 ++ storedBy 7;
+      messages = map (λ d. Prepared 3 (stampOf 1 d)) (1 ∷ 2 ∷ 3 ∷ 4 ∷ 5 ∷ 6 ∷ 7 ∷ []) ++ replicate n
+          (Commit 0 (stampOf 1 8));
     }
 
 -- ---- Versions
@@ -74,12 +92,14 @@ spent = withClient (fresh (sizes 2 2 2)) 1 (resting 4294967295 nothing)
 
 -- nor can client 2 here, with 511 versions stored and 127 commits in flight
 abbrev pub crowded : Tables
-crowded = withMessages (withClient (holding 511) 2 (resting 4294967295 nothing)) (replicate 127 (Commit 0 (stampOf 1 1)))
+crowded = withMessages (withClient (holding 511) 2 (resting 4294967295 nothing))
+    (replicate 127 (Commit 0 (stampOf 1 1)))
 
 -- ---- Strays
 
--- Client 1 writes {0, 1} and still awaits the reply for 1; client 2 reads {0}. Two versions are alike, an entry's set lacks its item, an
--- initial entry has a set, and in flight are messages that no run of calls would leave there: in range all the same.
+-- Client 1 writes {0, 1} and still awaits the reply for 1; client 2 reads {0}. Two versions are
+-- alike, an entry's set lacks its item, an initial entry has a set, and in flight are messages that
+-- no run of calls would leave there: in range all the same.
 abbrev pub strayed : Tables
 strayed =
     record {

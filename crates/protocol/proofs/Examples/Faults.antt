@@ -1,11 +1,15 @@
--- Tables with one fault each (document 01, 'Tables'): a field out of range, in the order of that sentence, or too much in all.
+-- Tables with one fault each (document 01, 'Tables'): a field out of range, in the order of that
+-- sentence, or too much in all.
 use mathlib.Core.List.{List, [], _∷_}
 use Rattle.protocol.specs.declared.Version.{Version}
 use Rattle.protocol.specs.declared.Entry.{Entry}
 use Rattle.protocol.specs.declared.Message.{Message}
 use Rattle.protocol.specs.declared.Message.the-variants.{Prepare, Prepared, Commit, Get, Got}
-use Rattle.protocol.specs.Tables.{Sizes, Tables, Client, idle, Ended, nothing, read, write, fresh, initial, resting, stampOf, put, withClient, withView, withLatest, withVersions, withMessages}
-use Rattle.protocol.proofs.Examples.Begin.{sizes, entry, version, busy, reader, writer, loaded, holding}
+use Rattle.protocol.specs.Tables.{Sizes, Tables, Client, idle, Ended, nothing, read, write}
+use Rattle.protocol.specs.Tables.{fresh, initial, resting, stampOf, put, withClient, withView}
+use Rattle.protocol.specs.Tables.{withLatest, withVersions, withMessages}
+use Rattle.protocol.proofs.Examples.Begin.{sizes, entry, version, busy, reader, writer}
+use Rattle.protocol.proofs.Examples.Begin.{loaded, holding}
 
 -- ---- Fresh tables of two clients, partitions and items, but for one field
 
@@ -35,33 +39,50 @@ withMessage m = withMessages (fresh pair) (m ∷ [])
 abbrev pub faults : List Tables
 faults =
     -- sizes
-    fresh (sizes 0 2 2) ∷ fresh (sizes 9 2 2) ∷ fresh (sizes 2 0 2) ∷ fresh (sizes 2 9 2) ∷ fresh (sizes 2 2 0) ∷ fresh (sizes 2 2 65)
+    fresh (sizes 0 2 2) ∷ fresh (sizes 9 2 2) ∷ fresh (sizes 2 0 2) ∷ fresh (sizes 2 9 2)
+    ∷ fresh (sizes 2 2 0) ∷ fresh (sizes 2 2 65)
     -- clients, items and partitions that don't exist
-    ∷ withMessage (Get 0 1 0) ∷ withMessage (Get 3 1 0) ∷ withMessage (Got 0 (version 1 0 0 0 0) initial) ∷ withMessage (Got 3 (version 1 0 0 0 0) initial)
-    ∷ withStored (version 2 0 1 1 7) ∷ withMessage (Prepare (version 2 0 1 1 7)) ∷ withMessage (Prepared 2 (stampOf 1 1))
-    ∷ withMessage (Get 1 2 0) ∷ withMessage (Got 1 (version 2 0 0 0 0) initial) ∷ withMessage (Commit 2 (stampOf 1 1))
+    ∷ withMessage (Get 0 1 0) ∷ withMessage (Get 3 1 0)
+    ∷ withMessage (Got 0 (version 1 0 0 0 0) initial)
+    ∷ withMessage (Got 3 (version 1 0 0 0 0) initial)
+    ∷ withStored (version 2 0 1 1 7) ∷ withMessage (Prepare (version 2 0 1 1 7))
+    ∷ withMessage (Prepared 2 (stampOf 1 1))
+    ∷ withMessage (Get 1 2 0) ∷ withMessage (Got 1 (version 2 0 0 0 0) initial)
+    ∷ withMessage (Commit 2 (stampOf 1 1))
     -- counts and values
     ∷ withBusy (resting 4294967296 nothing)
-    ∷ withStored (version 1 4294967296 1 1 2) ∷ withMessage (Prepare (version 1 4294967296 1 1 2)) ∷ withMessage (Got 1 (version 1 4294967296 0 0 0) initial)
+    ∷ withStored (version 1 4294967296 1 1 2) ∷ withMessage (Prepare (version 1 4294967296 1 1 2))
+    ∷ withMessage (Got 1 (version 1 4294967296 0 0 0) initial)
     ∷ withBusy (reader 2 2 0 4294967296) ∷ withBusy (writer 2 2 (stampOf 1 2) 4294967296)
-    ∷ withLast (read 2 (λ k. 0) (λ k. 4294967296)) ∷ withLast (write 2 (stampOf 1 1) (λ k. 4294967296))
+    ∷ withLast (read 2 (λ k. 0) (λ k. 4294967296))
+    ∷ withLast (write 2 (stampOf 1 1) (λ k. 4294967296))
     -- sets
-    ∷ withLatestOf (entry 1 1 6) ∷ withViewOf (entry 1 1 6) ∷ withMessage (Got 1 (version 1 0 0 0 0) (entry 1 1 6))
-    ∷ withStored (version 1 0 1 1 6) ∷ withMessage (Prepare (version 1 0 1 1 6)) ∷ withBusy (reader 6 2 0 0) ∷ withBusy (writer 6 2 (stampOf 1 2) 0) ∷ withBusy (reader 2 6 0 0)
+    ∷ withLatestOf (entry 1 1 6) ∷ withViewOf (entry 1 1 6)
+    ∷ withMessage (Got 1 (version 1 0 0 0 0) (entry 1 1 6))
+    ∷ withStored (version 1 0 1 1 6) ∷ withMessage (Prepare (version 1 0 1 1 6))
+    ∷ withBusy (reader 6 2 0 0) ∷ withBusy (writer 6 2 (stampOf 1 2) 0)
+    ∷ withBusy (reader 2 6 0 0)
     ∷ withLast (read 6 (λ k. 0) (λ k. 0)) ∷ withLast (write 6 (stampOf 1 1) (λ k. 0))
     -- stamps
-    ∷ withLatestOf (entry 0 1 2) ∷ withLatestOf (entry 1 0 2) ∷ withLatestOf (entry 1 3 2) ∷ withLatestOf (entry 4294967296 1 2)
-    ∷ withViewOf (entry 0 1 2) ∷ withViewOf (entry 1 3 2) ∷ withStored (version 1 0 1 3 2) ∷ withMessage (Prepare (version 1 0 1 3 2))
-    ∷ withMessage (Prepared 1 (stampOf 1 3)) ∷ withMessage (Commit 1 (stampOf 1 3)) ∷ withMessage (Get 1 1 (stampOf 1 3))
-    ∷ withMessage (Got 1 (version 1 0 1 3 0) initial) ∷ withMessage (Got 1 (version 1 0 0 0 0) (entry 1 3 2))
+    ∷ withLatestOf (entry 0 1 2) ∷ withLatestOf (entry 1 0 2) ∷ withLatestOf (entry 1 3 2)
+    ∷ withLatestOf (entry 4294967296 1 2)
+    ∷ withViewOf (entry 0 1 2) ∷ withViewOf (entry 1 3 2) ∷ withStored (version 1 0 1 3 2)
+    ∷ withMessage (Prepare (version 1 0 1 3 2))
+    ∷ withMessage (Prepared 1 (stampOf 1 3)) ∷ withMessage (Commit 1 (stampOf 1 3))
+    ∷ withMessage (Get 1 1 (stampOf 1 3))
+    ∷ withMessage (Got 1 (version 1 0 1 3 0) initial)
+    ∷ withMessage (Got 1 (version 1 0 0 0 0) (entry 1 3 2))
     ∷ withBusy (reader 2 2 (stampOf 1 3) 0) ∷ withBusy (writer 2 2 (stampOf 1 3) 0)
     ∷ withLast (read 2 (λ k. stampOf 1 3) (λ k. 0)) ∷ withLast (write 2 (stampOf 1 3) (λ k. 0))
     -- versions and prepares of the initial stamp, or with a set that lacks their item
-    ∷ withStored (version 1 0 0 0 2) ∷ withMessage (Prepare (version 1 0 0 0 2)) ∷ withStored (version 1 0 1 1 1) ∷ withMessage (Prepare (version 1 0 1 1 1))
+    ∷ withStored (version 1 0 0 0 2) ∷ withMessage (Prepare (version 1 0 0 0 2))
+    ∷ withStored (version 1 0 1 1 1) ∷ withMessage (Prepare (version 1 0 1 1 1))
     -- a prepared reply or commit of the initial stamp
     ∷ withMessage (Prepared 1 0) ∷ withMessage (Commit 1 0)
     -- awaited items outside the set; idle and yet awaiting; busy and awaiting none
-    ∷ withBusy (reader 2 3 0 0) ∷ withBusy (writer 2 1 (stampOf 1 2) 0) ∷ withBusy (busy idle 2 2 0 0 0) ∷ withBusy (reader 2 0 0 0) ∷ withBusy (writer 2 0 (stampOf 1 2) 0)
+    ∷ withBusy (reader 2 3 0 0) ∷ withBusy (writer 2 1 (stampOf 1 2) 0)
+    ∷ withBusy (busy idle 2 2 0 0 0) ∷ withBusy (reader 2 0 0 0)
+    ∷ withBusy (writer 2 0 (stampOf 1 2) 0)
     -- load 129; 513 versions; 512 and a prepare
     ∷ loaded 101 ∷ holding 513 ∷ withMessages (holding 512) (Prepare (version 1 7 1 2 2) ∷ [])
     ∷ []

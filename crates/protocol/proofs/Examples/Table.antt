@@ -1,5 +1,6 @@
--- A row of the table of examples: where it begins, calls with the answers that document 01 gives them, and a test of the tables after the
--- last one. Answers are texts, as the paper prints them, and owe nothing to the definitions that they are held against.
+-- A row of the table of examples: where it begins, calls with the answers that document 01 gives
+-- them, and a test of the tables after the last one. Answers are texts, as the paper prints them,
+-- and owe nothing to the definitions that they are held against.
 use mathlib.Core.Bool.{Bool, true, false, _&&_}
 use mathlib.Core.List.{List, [], _∷_}
 use Prim.Native.Nat.{ℕ, suc, _/_, _%_}
@@ -14,13 +15,19 @@ use Rattle.itemset.specs.Set.{has, upto, remove}
 use Rattle.protocol.specs.declared.Message.{Message}
 use Rattle.protocol.specs.declared.Message.the-variants.{Prepare, Prepared, Commit, Get, Got}
 use Rattle.protocol.specs.declared.Answer.{Answer}
-use Rattle.protocol.specs.declared.Answer.the-variants.{Refused, Made, Started, Delivered, Shown}
+use Rattle.protocol.specs.declared.Answer.the-variants.{Refused, Made, Started, Delivered}
+use Rattle.protocol.specs.declared.Answer.the-variants.{Shown}
 use Rattle.protocol.specs.declared.Entry.{Entry}
 use Rattle.protocol.specs.Tables.{Sizes, Tables, fresh, numberOf, writerOf}
-use Rattle.protocol.specs.Range.{capacities, valid, inRange, stampInRange, sizesInRange, entryInRange, versionInRange, messageInRange, endedInRange, clientInRange, isIdle, isReading, isWriting, arrived, total, load, occupied, isPrepare}
+use Rattle.protocol.specs.Range.{capacities, valid, inRange, stampInRange, sizesInRange}
+use Rattle.protocol.specs.Range.{entryInRange, versionInRange, messageInRange, endedInRange}
+use Rattle.protocol.specs.Range.{clientInRange, isIdle, isReading, isWriting, arrived, total}
+use Rattle.protocol.specs.Range.{load, occupied, isPrepare}
 use Rattle.protocol.specs.Steps.{choice, stored, found, delivered, joined, touches}
 use Rattle.protocol.specs.Frame.{listed, frame}
-use Rattle.protocol.specs.Calls.{Call, Given, first, refusal, freshAnswer, unexpected, missing, isNothing, kindOf, outcomeOf, effect, reply, written, lent, step, bytesOfAnswer}
+use Rattle.protocol.specs.Calls.{Call, Given, first, refusal, freshAnswer, unexpected}
+use Rattle.protocol.specs.Calls.{missing, isNothing, kindOf, outcomeOf, effect, reply}
+use Rattle.protocol.specs.Calls.{written, lent, step, bytesOfAnswer}
 
 -- ---- A line: a call, its answer's digits, and the digits of what its output keeps (past the frame shown; all of it after a refusal)
 
@@ -56,7 +63,11 @@ anything t = true
 -- ---- What the definitions give
 
 unfoldable pub given : Tables → Call → Given
-unfolding step refusal first unexpected missing isNothing effect reply written lent kindOf outcomeOf valid inRange sizesInRange stampInRange entryInRange versionInRange messageInRange endedInRange clientInRange isIdle isReading isWriting load arrived total occupied isPrepare choice stored found delivered joined touches listed frame every all counted without has upto remove ones onesIn bigEndian numberAt
+unfolding step refusal first unexpected missing isNothing effect reply written lent kindOf outcomeOf
+    valid inRange sizesInRange stampInRange entryInRange versionInRange messageInRange endedInRange
+    clientInRange isIdle isReading isWriting load arrived total occupied isPrepare choice stored
+    found delivered joined touches listed frame every all counted without has upto remove
+    ones onesIn bigEndian numberAt
 given t c = step capacities t c
 
 unfoldable pub made : Sizes → Answer
@@ -68,7 +79,8 @@ made z = freshAnswer z
 unfoldable pub digits : List ℕ → String
 digits [] = ""
 digits (b ∷ bs) =
-    append (append (slice "0123456789abcdef" (b / 16) (suc (b / 16))) (slice "0123456789abcdef" (b % 16) (suc (b % 16)))) (digits bs)
+    append (append (slice "0123456789abcdef" (b / 16) (suc (b / 16)))
+    (slice "0123456789abcdef" (b % 16) (suc (b % 16)))) (digits bs)
 
 -- how much of the output is the frame shown
 unfoldable pub framed : Answer → ℕ
@@ -91,7 +103,8 @@ allRight t (l ∷ ls) after =
 
 unfoldable pub begins : Start → List Line → (Tables → Bool) → Bool
 unfolding allRight made digits bytesOfAnswer all
-begins (freshly z answer) ls after = eqt (digits (bytesOfAnswer (made z) [])) answer && allRight (fresh z) ls after
+begins (freshly z answer) ls after =
+    eqt (digits (bytesOfAnswer (made z) [])) answer && allRight (fresh z) ls after
 begins (on t) ls after = allRight t ls after
 begins (onEach ts) ls after = all (λ t. allRight t ls after) ts
 
@@ -101,14 +114,17 @@ right r = begins (r .start) (r .lines) (r .after)
 
 -- ---- Tests of tables
 
--- a message's fields: its kind, then desk, line or cabinet, value, stamp (number and writing desk) and write set, so far as it has them
+-- a message's fields: its kind, then desk, line or cabinet, value, stamp (number and writing desk)
+-- and write set, so far as it has them
 abbrev pub fieldsOf : Message → List ℕ
-fieldsOf (Prepare v) = 1 ∷ v .item ∷ v .value ∷ numberOf (v .stamp) ∷ writerOf (v .stamp) ∷ v .set ∷ []
+fieldsOf (Prepare v) = 1 ∷ v .item ∷ v .value ∷ numberOf (v .stamp) ∷ writerOf (v .stamp) ∷ v .set
+    ∷ []
 fieldsOf (Prepared k stamp) = 2 ∷ k ∷ numberOf stamp ∷ writerOf stamp ∷ []
 fieldsOf (Commit p stamp) = 3 ∷ p ∷ numberOf stamp ∷ writerOf stamp ∷ []
 fieldsOf (Get d k stamp) = 4 ∷ d ∷ k ∷ numberOf stamp ∷ writerOf stamp ∷ []
 fieldsOf (Got d v latest) =
-    5 ∷ d ∷ v .item ∷ v .value ∷ numberOf (v .stamp) ∷ writerOf (v .stamp) ∷ numberOf (latest .stamp) ∷ writerOf (latest .stamp) ∷ latest .set ∷ []
+    5 ∷ d ∷ v .item ∷ v .value ∷ numberOf (v .stamp) ∷ writerOf (v .stamp)
+    ∷ numberOf (latest .stamp) ∷ writerOf (latest .stamp) ∷ latest .set ∷ []
 
 abbrev pub same : List ℕ → List ℕ → Bool
 same [] [] = true
@@ -125,4 +141,5 @@ pileIs (m ∷ ms) (f ∷ fs) = same (fieldsOf m) f && pileIs ms fs
 
 -- the entry has this number, writing desk and write set
 abbrev pub entryIs : Entry → ℕ → ℕ → ℕ → Bool
-entryIs e number writer set = eqb (numberOf (e .stamp)) number && eqb (writerOf (e .stamp)) writer && eqb (e .set) set
+entryIs e number writer set = eqb (numberOf (e .stamp)) number && eqb (writerOf (e .stamp)) writer
+    && eqb (e .set) set

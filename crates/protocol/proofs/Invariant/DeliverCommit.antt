@@ -17,13 +17,16 @@ use Rattle.protocol.specs.Range.{Capacities, valid}
 use Rattle.protocol.specs.Steps.{delivered, joined, stored, found, committed}
 use Rattle.protocol.specs.World.{World, Label, Write, ownerOf}
 use Rattle.protocol.proofs.Stored.{found-held}
-use Rattle.protocol.proofs.Invariant.{History, historyOf, SoundEntry, Kept, FitsCommit, Fits, Inv, isFor, hasItem}
-use Rattle.protocol.proofs.Invariant.Growth.{Grows, like-self, later-sound, grow-entry, grow-kept, grow-does}
+use Rattle.protocol.proofs.Invariant.{History, historyOf, SoundEntry, Kept, FitsCommit, Fits}
+use Rattle.protocol.proofs.Invariant.{Inv, isFor, hasItem}
+use Rattle.protocol.proofs.Invariant.Growth.{Grows, like-self, later-sound, grow-entry}
+use Rattle.protocol.proofs.Invariant.Growth.{grow-kept, grow-does}
 use Rattle.protocol.proofs.Invariant.Delivery.{afterDelivery, Taken}
 use Rattle.protocol.proofs.Invariant.Deliver.{pay, delivery-grows}
 
 module _ (caps : Capacities) (w : World) (inv : Inv caps w) (i : ℕ) (l : Label) (p s : ℕ)
-    (taken : Taken w i l (Commit p s)) (ok : valid caps (afterDelivery w i l (Commit p s) .tables) ≡ true) where
+    (taken : Taken w i l (Commit p s))
+    (ok : valid caps (afterDelivery w i l (Commit p s) .tables) ≡ true) where
   abbrev h : History
   h = historyOf w
 
@@ -38,19 +41,23 @@ module _ (caps : Capacities) (w : World) (inv : Inv caps w) (i : ℕ) (l : Label
   fit = inv .fits (record { label = l; message = Commit p s }) (taken .isIn)
 
   -- the write that stands committed: what is stored of its stamp is its own
-  entry : (k : ℕ) → stored (w .tables .versions) k s ≡ true → SoundEntry h k (record { stamp = s; set = found (w .tables .versions) k s .set })
+  entry : (k : ℕ) → stored (w .tables .versions) k s ≡ true
+      → SoundEntry h k (record { stamp = s; set = found (w .tables .versions) k s .set })
   entry k e =
       let v : Version = found (w .tables .versions) k s in
       let held = found-held (w .tables .versions) k s e in
       let kept : Kept h (w .time) v = inv .versions v (held .isIn) in
-      let same : fit .write ≡ kept .write = inv .unique (fit .write) (kept .write) (fit .isKnown) (kept .isKnown) (fit .same ∙ sym (held .stamp) ∙ sym (kept .same)) in
+      let same : fit .write ≡ kept .write =
+      inv .unique (fit .write) (kept .write) (fit .isKnown) (kept .isKnown)
+      (fit .same ∙ sym (held .stamp) ∙ sym (kept .same)) in
       record {
         sound = record {
           write = fit .write;
           isKnown = fit .isKnown;
           same = fit .same;
           mine = or-right (eqb s 0) (has (fit .write .set) k)
-              (subst (λ (a : Write). has (a .set) k ≡ true) (sym same) (subst (λ (j : ℕ). has (kept .write .set) j ≡ true) (held .item) (kept .mine)));
+              (subst (λ (a : Write). has (a .set) k ≡ true) (sym same)
+              (subst (λ (j : ℕ). has (kept .write .set) j ≡ true) (held .item) (kept .mine)));
           whole = fit .whole;
         };
         agrees = ap (λ (a : Write). a .set) same ∙ kept .agrees;
@@ -60,14 +67,18 @@ module _ (caps : Capacities) (w : World) (inv : Inv caps w) (i : ℕ) (l : Label
   latest k =
       by-test (eqb (partitionOf (w .tables) k) p && stored (w .tables .versions) k s)
       (λ e. rw e
-      (later-sound h k (w .tables .latest k) (record { stamp = s; set = found (w .tables .versions) k s .set }) (inv .latest k)
-      (entry k (and-right (eqb (partitionOf (w .tables) k) p) (stored (w .tables .versions) k s) e))))
+      (later-sound h k (w .tables .latest k)
+      (record { stamp = s; set = found (w .tables .versions) k s .set }) (inv .latest k)
+      (entry k (and-right (eqb (partitionOf (w .tables) k) p)
+      (stored (w .tables .versions) k s) e))))
       (λ e. rw e (inv .latest k))
 
-  one : (d k : ℕ) → counted (isFor d k) (without i (w .tables .messages) ++ []) ≡ cond (has (w .tables .client d .awaited) k) 1 0
+  one : (d k : ℕ) → counted (isFor d k) (without i (w .tables .messages) ++ []) ≡ cond
+      (has (w .tables .client d .awaited) k) 1 0
   unfolding hasItem counted
   one d k =
-      counted-append (isFor d k) (without i (w .tables .messages)) [] ∙ omega (arith, taken .split (isFor d k)) ∙ inv .one d k
+      counted-append (isFor d k) (without i (w .tables .messages)) []
+      ∙ omega (arith, taken .split (isFor d k)) ∙ inv .one d k
 
   pub deliver-commit : Inv caps (afterDelivery w i l (Commit p s))
   unfolding delivered joined
@@ -78,7 +89,8 @@ module _ (caps : Capacities) (w : World) (inv : Inv caps w) (i : ℕ) (l : Label
         count = λ d. refl;
         view = λ d k. grow-entry h h′ grows k (w .tables .view d k) (inv .view d k);
         latest = λ k. grow-entry h h′ grows k (committed (w .tables) p s k) (latest k);
-        versions = λ v q. grow-kept h h′ grows (w .time) (suc (w .time)) (le-suc (w .time)) v (inv .versions v q);
+        versions =
+            λ v q. grow-kept h h′ grows (w .time) (suc (w .time)) (le-suc (w .time)) v (inv .versions v q);
         one = one;
         like = λ x q e. like-self (w .tables .client (ownerOf (x .message)));
         unstored = λ x q k r e f. f;

@@ -1,5 +1,5 @@
--- The delivery of a get keeps the invariant: the reply holds the value of the very write that was asked for, which was stored in all its
--- partitions before.
+-- The delivery of a get keeps the invariant: the reply holds the value of the very write that was
+-- asked for, which was stored in all its partitions before.
 use mathlib.Core.Bool.{true, false, cond}
 use mathlib.Core.List.{[], _∷_, _++_}
 use mathlib.Core.Logic.{inl, ⊎-elim}
@@ -22,8 +22,10 @@ use Rattle.protocol.specs.Range.{Capacities, valid}
 use Rattle.protocol.specs.Steps.{delivered, joined, stored, found, version}
 use Rattle.protocol.specs.World.{World, Label, Write, landed, ownerOf, itemOf}
 use Rattle.protocol.proofs.Stored.{found-held, not-found}
-use Rattle.protocol.proofs.Invariant.{History, historyOf, origin, Sound, LandedBefore, Reads, Does, FitsGet, Fits, Inv, isFor, hasItem}
-use Rattle.protocol.proofs.Invariant.Growth.{Grows, like-self, grow-entry, grow-landed, grow-kept, grow-does}
+use Rattle.protocol.proofs.Invariant.{History, historyOf, origin, Sound, LandedBefore, Reads}
+use Rattle.protocol.proofs.Invariant.{Does, FitsGet, Fits, Inv, isFor, hasItem}
+use Rattle.protocol.proofs.Invariant.Growth.{Grows, like-self, grow-entry, grow-landed}
+use Rattle.protocol.proofs.Invariant.Growth.{grow-kept, grow-does}
 use Rattle.protocol.proofs.Invariant.Delivery.{afterDelivery, Taken, awaited-in}
 use Rattle.protocol.proofs.Invariant.Deliver.{pay, delivery-grows}
 
@@ -35,38 +37,53 @@ module _ (caps : Capacities) (w : World) (inv : Inv caps w) where
       (λ e.
       let held = found-held (w .tables .versions) k 0 e in
       let kept = inv .versions (found (w .tables .versions) k 0) (held .isIn) in
-      let first : kept .write ≡ origin = inv .unique (kept .write) origin (kept .isKnown) (inl refl) (kept .same ∙ held .stamp) in
-      not-both (subst (λ (a : Write). has (a .set) (found (w .tables .versions) k 0 .item) ≡ true) first (kept .mine)) (has-empty (found (w .tables .versions) k 0 .item)))
+      let first : kept .write ≡ origin =
+      inv .unique (kept .write) origin (kept .isKnown) (inl refl) (kept .same ∙ held .stamp) in
+      not-both (subst (λ (a : Write). has (a .set) (found (w .tables .versions) k 0 .item) ≡ true)
+      first (kept .mine)) (has-empty (found (w .tables .versions) k 0 .item)))
       (λ e. e)
 
   -- what is found under a sound stamp is its write's value
-  pub found-value : (k s : ℕ) (x : Sound (historyOf w) k s) → x .write .values k ≡ found (w .tables .versions) k s .value
+  pub found-value : (k s : ℕ) (x : Sound (historyOf w) k s)
+      → x .write .values k ≡ found (w .tables .versions) k s .value
   found-value k s x =
       ⊎-elim
       (λ e.
       let zero : s ≡ 0 = eqb-true s 0 e in
-      let first : x .write ≡ origin = inv .unique (x .write) origin (x .isKnown) (inl refl) (x .same ∙ zero) in
+      let first : x .write ≡ origin =
+      inv .unique (x .write) origin (x .isKnown) (inl refl) (x .same ∙ zero) in
       ap (λ (a : Write). a .values k) first
-      ∙ sym (not-found (w .tables .versions) k s (subst (λ (r : ℕ). stored (w .tables .versions) k r ≡ false) (sym zero) (none-initial k))))
+      ∙ sym (not-found (w .tables .versions) k s
+      (subst (λ (r : ℕ). stored (w .tables .versions) k r ≡ false) (sym zero)
+      (none-initial k))))
       (λ e.
-      let held = found-held (w .tables .versions) k s (subst (λ (r : ℕ). stored (w .tables .versions) k r ≡ true) (x .same) (x .whole k e)) in
+      let held = found-held (w .tables .versions) k s
+      (subst (λ (r : ℕ). stored (w .tables .versions) k r ≡ true) (x .same) (x .whole k e)) in
       let kept = inv .versions (found (w .tables .versions) k s) (held .isIn) in
-      let same : x .write ≡ kept .write = inv .unique (x .write) (kept .write) (x .isKnown) (kept .isKnown) (x .same ∙ sym (held .stamp) ∙ sym (kept .same)) in
-      ap (λ (a : Write). a .values k) same ∙ ap (kept .write .values) (sym (held .item)) ∙ kept .value)
+      let same : x .write ≡ kept .write =
+      inv .unique (x .write) (kept .write) (x .isKnown) (kept .isKnown)
+      (x .same ∙ sym (held .stamp) ∙ sym (kept .same)) in
+      ap (λ (a : Write). a .values k) same ∙ ap (kept .write .values) (sym (held .item))
+      ∙ kept .value)
       (or-cases (eqb s 0) (has (x .write .set) k) (x .mine))
 
   -- a whole write's items have all landed
-  pub whole-landed : (k s : ℕ) (x : Sound (historyOf w) k s) (j : ℕ) → has (x .write .set) j ≡ true → LandedBefore (historyOf w) (x .write) j (w .time)
+  pub whole-landed : (k s : ℕ) (x : Sound (historyOf w) k s) (j : ℕ) → has (x .write .set) j ≡ true
+      → LandedBefore (historyOf w) (x .write) j (w .time)
   whole-landed k s x j e =
       let held = found-held (w .tables .versions) j (x .write .stamp) (x .whole j e) in
       let v : Version = found (w .tables .versions) j (x .write .stamp) in
       let kept = inv .versions v (held .isIn) in
-      let same : kept .write ≡ x .write = inv .unique (kept .write) (x .write) (kept .isKnown) (x .isKnown) (kept .same ∙ held .stamp) in
+      let same : kept .write ≡ x .write =
+      inv .unique (kept .write) (x .write) (kept .isKnown) (x .isKnown)
+      (kept .same ∙ held .stamp) in
       subst (λ (a : Write). LandedBefore (historyOf w) a j (w .time)) same
-      (subst (λ (i : ℕ). LandedBefore (historyOf w) (kept .write) i (w .time)) (held .item) (kept .landed))
+      (subst (λ (i : ℕ). LandedBefore (historyOf w) (kept .write) i (w .time)) (held .item)
+      (kept .landed))
 
   module _ (i : ℕ) (l : Label) (d k s : ℕ)
-      (taken : Taken w i l (Get d k s)) (ok : valid caps (afterDelivery w i l (Get d k s) .tables) ≡ true) where
+      (taken : Taken w i l (Get d k s))
+      (ok : valid caps (afterDelivery w i l (Get d k s) .tables) ≡ true) where
     abbrev h : History
     h = historyOf w
 
@@ -84,9 +101,11 @@ module _ (caps : Capacities) (w : World) (inv : Inv caps w) where
     sound : Sound h k s
     unfolding Does hasItem itemOf ownerOf
     sound =
-        let reads : Reads h (w .tables .client d) = subst (λ (m : Mode). Does h d (w .tables .client d) m) (fit .mode) (inv .does d) in
+        let reads : Reads h (w .tables .client d) =
+        subst (λ (m : Mode). Does h d (w .tables .client d) m) (fit .mode) (inv .does d) in
         subst (λ (r : ℕ). Sound h k r) (fit .asked)
-        (reads .sound k (awaited-in caps w inv (record { label = l; message = Get d k s }) (taken .isIn) d k (rw (eqb-same d) (eqb-same k))))
+        (reads .sound k (awaited-in caps w inv (record { label = l; message = Get d k s })
+        (taken .isIn) d k (rw (eqb-same d) (eqb-same k))))
 
     abbrev label : Label
     label = record { client = l .client; start = l .start; since = w .time }
@@ -109,10 +128,12 @@ module _ (caps : Capacities) (w : World) (inv : Inv caps w) where
           landed = λ j e. grow-landed h h′ grows (sound .write) j (w .time) (w .time) (le-refl (w .time)) (whole-landed k s sound j e);
         })
 
-    one : (e j : ℕ) → counted (isFor e j) (without i (w .tables .messages) ++ reply ∷ []) ≡ cond (has (w .tables .client e .awaited) j) 1 0
+    one : (e j : ℕ) → counted (isFor e j) (without i (w .tables .messages) ++ reply ∷ []) ≡ cond
+        (has (w .tables .client e .awaited) j) 1 0
     unfolding hasItem itemOf ownerOf counted
     one e j =
-        counted-append (isFor e j) (without i (w .tables .messages)) (reply ∷ []) ∙ omega (arith, taken .split (isFor e j)) ∙ inv .one e j
+        counted-append (isFor e j) (without i (w .tables .messages)) (reply ∷ [])
+        ∙ omega (arith, taken .split (isFor e j)) ∙ inv .one e j
 
     pub deliver-get : Inv caps (afterDelivery w i l (Get d k s))
     unfolding delivered joined
@@ -123,7 +144,8 @@ module _ (caps : Capacities) (w : World) (inv : Inv caps w) where
           count = λ e. refl;
           view = λ e j. grow-entry h h′ grows j (w .tables .view e j) (inv .view e j);
           latest = λ j. grow-entry h h′ grows j (w .tables .latest j) (inv .latest j);
-          versions = λ v q. grow-kept h h′ grows (w .time) (suc (w .time)) (le-suc (w .time)) v (inv .versions v q);
+          versions =
+              λ v q. grow-kept h h′ grows (w .time) (suc (w .time)) (le-suc (w .time)) v (inv .versions v q);
           one = one;
           like = λ x q e. like-self (w .tables .client (ownerOf (x .message)));
           unstored = λ x q j r e f. f;

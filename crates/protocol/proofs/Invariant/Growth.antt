@@ -16,7 +16,8 @@ use Rattle.protocol.specs.Tables.{Client, Mode, idle, reading, writing, 
 use Rattle.protocol.specs.Steps.{stored}
 use Rattle.protocol.specs.World.{Label, Write, Store, itemOf, ownerOf}
 use Rattle.protocol.proofs.Stored.{stored-more}
-use Rattle.protocol.proofs.Invariant.{History, known, Whole, LandedBefore, Sound, SoundEntry, Kept, Writes, Reads, Does, Fits, hasItem, isFor}
+use Rattle.protocol.proofs.Invariant.{History, known, Whole, LandedBefore, Sound, SoundEntry}
+use Rattle.protocol.proofs.Invariant.{Kept, Writes, Reads, Does, Fits, hasItem, isFor}
 
 pub record Grows (h h′ : History) : Type 0 where
   pub writes : (a : Write) → In a (known (h .writes)) → In a (known (h′ .writes))
@@ -24,7 +25,12 @@ pub record Grows (h h′ : History) : Type 0 where
   pub stores : (σ : Store) → In σ (h .stores) → In σ (h′ .stores)
 
 pub grows-append : (h : History) (ws : List Write) (vs : List Version) (σs : List Store)
-    → Grows h (record { writes = h .writes ++ ws; versions = h .versions ++ vs; stores = h .stores ++ σs })
+    → Grows h (record {
+      writes = h .writes ++ ws;
+      versions = h .versions ++ vs;
+      stores =
+          h .stores ++ σs;
+    })
 grows-append h ws vs σs =
     record {
       writes = λ a i. in-left a (known (h .writes)) ws i;
@@ -34,7 +40,12 @@ grows-append h ws vs σs =
 
 -- no version more
 pub grows-same : (h : History) (ws : List Write) (σs : List Store)
-    → Grows h (record { writes = h .writes ++ ws; versions = h .versions; stores = h .stores ++ σs })
+    → Grows h (record {
+      writes = h .writes ++ ws;
+      versions = h .versions;
+      stores =
+          h .stores ++ σs;
+    })
 grows-same h ws σs =
     record {
       writes = λ a i. in-left a (known (h .writes)) ws i;
@@ -52,7 +63,8 @@ pub like-self : (c : Client) → Like c c
 like-self c = record { mode = refl; stamp = refl; asked = λ k. refl }
 
 -- the later of two sound entries is sound
-pub later-sound : (h : History) (k : ℕ) (a b : Entry) → SoundEntry h k a → SoundEntry h k b → SoundEntry h k (laterOf a b)
+pub later-sound : (h : History) (k : ℕ) (a b : Entry) → SoundEntry h k a → SoundEntry h k b
+    → SoundEntry h k (laterOf a b)
 later-sound h k a b x y = by-test (ltb (a .stamp) (b .stamp)) (λ e. rw e y) (λ e. rw e x)
 
 module _ (h h′ : History) (g : Grows h h′) where
@@ -114,9 +126,11 @@ module _ (h h′ : History) (g : Grows h h′) where
   grow-does d c reading x = grow-reads c x
   grow-does d c writing x = grow-writes d c x
 
-  -- a message that fits still does, where its client's transaction is alike, and its item isn't stored meanwhile
+  -- a message that fits still does, where its client's transaction is alike, and its item isn't
+  -- stored meanwhile
   pub grow-fits : (c c′ : Client) (l : Label) (m : Message) → (hasItem m ≡ true → Like c c′)
-      → ((k s : ℕ) → isFor (writerOf s) k m ≡ true → stored (h .versions) k s ≡ false → stored (h′ .versions) k s ≡ false)
+      → ((k s : ℕ) → isFor (writerOf s) k m ≡ true → stored (h .versions) k s ≡ false
+      → stored (h′ .versions) k s ≡ false)
       → Fits h c l m → Fits h′ c′ l m
   unfolding Fits hasItem itemOf ownerOf
   grow-fits c c′ l (Prepare v) like keep x =
@@ -124,7 +138,8 @@ module _ (h h′ : History) (g : Grows h h′) where
       record {
         mode = s .mode ∙ x .mode;
         stamp = s .stamp ∙ x .stamp;
-        unstored = keep (v .item) (v .stamp) (rw (eqb-same (writerOf (v .stamp))) (eqb-same (v .item))) (x .unstored);
+        unstored = keep (v .item) (v .stamp)
+            (rw (eqb-same (writerOf (v .stamp))) (eqb-same (v .item))) (x .unstored);
         write = x .write;
         isKnown = g .writes (x .write) (x .isKnown);
         same = x .same;
@@ -135,9 +150,20 @@ module _ (h h′ : History) (g : Grows h h′) where
       }
   grow-fits c c′ l (Prepared k s₀) like keep x =
       let s : Like c c′ = like refl in
-      record { mode = s .mode ∙ x .mode; stamp = s .stamp ∙ x .stamp; isStored = g .versions k s₀ (x .isStored) }
+      record {
+        mode = s .mode ∙ x .mode;
+        stamp = s .stamp ∙ x .stamp;
+        isStored =
+            g .versions k s₀ (x .isStored);
+      }
   grow-fits c c′ l (Commit p s₀) like keep x =
-      record { write = x .write; isKnown = g .writes (x .write) (x .isKnown); same = x .same; whole = grow-whole (x .write) (x .whole) }
+      record {
+        write = x .write;
+        isKnown = g .writes (x .write) (x .isKnown);
+        same =
+            x .same;
+        whole = grow-whole (x .write) (x .whole);
+      }
   grow-fits c c′ l (Get d k s₀) like keep x =
       let s : Like c c′ = like refl in
       record { mode = s .mode ∙ x .mode; asked = s .asked k ∙ x .asked }

@@ -1,5 +1,5 @@
--- The start of a write keeps the invariant: its stamp is newer than any of its client's, so no write has it, and nothing is stored
--- under it.
+-- The start of a write keeps the invariant: its stamp is newer than any of its client's, so no
+-- write has it, and nothing is stored under it.
 use mathlib.Core.Bool.{true, false}
 use mathlib.Core.List.{List, [], _∷_}
 use mathlib.Core.Logic.{_⊎_, inl, inr, ⊎-elim}
@@ -21,7 +21,8 @@ use Rattle.protocol.proofs.Stored.{found-held}
 use Rattle.protocol.proofs.Invariant.{known, Does, Fits, Inv, hasItem}
 use Rattle.protocol.proofs.Invariant.Start.{afterStart, begin-inv}
 
-module _ (caps : Capacities) (w : World) (inv : Inv caps w) (d s : ℕ) (bytes : List ℕ) (isClient : d < 16)
+module _ (caps : Capacities) (w : World) (inv : Inv caps w) (d s : ℕ) (bytes : List ℕ)
+    (isClient : d < 16)
     (rests : w .tables .client d .mode ≡ idle) (below : s < 2 ^ w .tables .sizes .items) where
   abbrev stamp : ℕ
   stamp = nextStamp (w .tables) d
@@ -47,8 +48,11 @@ module _ (caps : Capacities) (w : World) (inv : Inv caps w) (d s : ℕ) (bytes :
   -- no known write has the new stamp
   pub stamp-new : (a : Write) → In a (known (w .writes)) → a .stamp ≡ stamp → ⊥
   stamp-new a p e =
-      let low : numberOf stamp ≤ w .tables .client (writerOf stamp) .count = subst (λ (x : ℕ). numberOf x ≤ w .tables .client (writerOf x) .count) e (inv .counts a p) in
-      let here : numberOf stamp ≤ w .tables .client d .count = subst (λ (x : ℕ). numberOf stamp ≤ w .tables .client x .count) writer-is low in
+      let low : numberOf stamp ≤ w .tables .client (writerOf stamp) .count =
+      subst (λ (x : ℕ). numberOf x ≤ w .tables .client (writerOf x) .count) e
+      (inv .counts a p) in
+      let here : numberOf stamp ≤ w .tables .client d .count =
+      subst (λ (x : ℕ). numberOf stamp ≤ w .tables .client x .count) writer-is low in
       omega (arith, number-is)
 
   unstored : (k : ℕ) → stored (w .tables .versions) k stamp ≡ false
@@ -61,9 +65,11 @@ module _ (caps : Capacities) (w : World) (inv : Inv caps w) (d s : ℕ) (bytes :
       (λ e. e)
 
   old-or-new : (a : Write) → In a (known (w′ .writes)) → In a (known (w .writes)) ⊎ (a ≡ new)
-  old-or-new a p = ⊎-elim (λ q. inl q) (⊎-elim (λ e. inr e) (λ z. absurd z)) (in-append a (known (w .writes)) (new ∷ []) p)
+  old-or-new a p = ⊎-elim (λ q. inl q) (⊎-elim (λ e. inr e) (λ z. absurd z))
+      (in-append a (known (w .writes)) (new ∷ []) p)
 
-  unique : (a b : Write) → In a (known (w′ .writes)) → In b (known (w′ .writes)) → a .stamp ≡ b .stamp → a ≡ b
+  unique : (a b : Write) → In a (known (w′ .writes)) → In b (known (w′ .writes))
+      → a .stamp ≡ b .stamp → a ≡ b
   unique a b p q e =
       ⊎-elim
       (λ x. ⊎-elim
@@ -79,14 +85,17 @@ module _ (caps : Capacities) (w : World) (inv : Inv caps w) (d s : ℕ) (bytes :
   -- counts only rise
   rises : (e : ℕ) → w .tables .client e .count ≤ put (w .tables .client) d c′ e .count
   rises =
-      put-every (λ (e : ℕ) (x : Client). w .tables .client e .count ≤ x .count) (w .tables .client) d c′
+      put-every (λ (e : ℕ) (x : Client). w .tables .client e .count ≤ x .count)
+      (w .tables .client) d c′
       (le-suc (w .tables .client d .count)) (λ e n. le-refl (w .tables .client e .count))
 
-  counts : (a : Write) → In a (known (w′ .writes)) → numberOf (a .stamp) ≤ put (w .tables .client) d c′ (writerOf (a .stamp)) .count
+  counts : (a : Write) → In a (known (w′ .writes))
+      → numberOf (a .stamp) ≤ put (w .tables .client) d c′ (writerOf (a .stamp)) .count
   counts a p =
       ⊎-elim
       (λ q. le-trans (inv .counts a q) (rises (writerOf (a .stamp))))
-      (λ q. subst (λ (z : Write). numberOf (z .stamp) ≤ put (w .tables .client) d c′ (writerOf (z .stamp)) .count) (sym q)
+      (λ q. subst (λ (z : Write). numberOf (z .stamp) ≤ put (w .tables .client) d c′
+      (writerOf (z .stamp)) .count) (sym q)
       (rw (writer-is, put-same (w .tables .client) d c′) (omega (arith, number-is))))
       (old-or-new a p)
 
@@ -102,7 +111,8 @@ module _ (caps : Capacities) (w : World) (inv : Inv caps w) (d s : ℕ) (bytes :
   pub start-write : valid caps (w′ .tables) ≡ true → Inv caps w′
   unfolding hasItem ownerOf itemOf Fits Does
   start-write ok =
-      begin-inv caps w inv d s c′ f (new ∷ []) rests below refl (λ k. refl) (λ k. writer-is) (λ k. refl) new-start new-only
+      begin-inv caps w inv d s c′ f (new ∷ []) rests below refl (λ k. refl) (λ k. writer-is)
+      (λ k. refl) new-start new-only
       (record {
         inRange = ok;
         unique = unique;

@@ -16,13 +16,18 @@ use Rattle.protocol.specs.declared.Message.the-variants.{Prepare, Prepar
 use Rattle.protocol.specs.Tables.{Sizes, initial, numberOf, withMessages}
 use Rattle.protocol.specs.Range.{Capacities, valid, sizesInRange}
 use Rattle.protocol.specs.Steps.{messageAt, delivered, joined}
-use Rattle.protocol.specs.Calls.{Call, startRead, startWrite, deliver, show, refusal, effect, unexpected, missing}
-use Rattle.protocol.specs.World.{World, Label, Write, begin, placed, joining, staying, begun, storing, accepts, moved, passed, next}
-use Rattle.protocol.proofs.Refusals.{AcceptedDeliver, accepted-read, accepted-write, accepted-deliver, tells-expected}
+use Rattle.protocol.specs.Calls.{Call, startRead, startWrite, deliver, show, refusal, effect}
+use Rattle.protocol.specs.Calls.{unexpected, missing}
+use Rattle.protocol.specs.World.{World, Label, Write, begin, placed, joining, staying, begun}
+use Rattle.protocol.specs.World.{storing, accepts, moved, passed, next}
+use Rattle.protocol.proofs.Refusals.{AcceptedDeliver, accepted-read, accepted-write}
+use Rattle.protocol.proofs.Refusals.{accepted-deliver, tells-expected}
 use Rattle.protocol.proofs.Valid.{valid-step, valid-fresh}
-use Rattle.protocol.proofs.Invariant.{History, historyOf, known, origin, SoundEntry, Does, Inv}
+use Rattle.protocol.proofs.Invariant.{History, historyOf, known, origin, SoundEntry, Does}
+use Rattle.protocol.proofs.Invariant.{Inv}
 use Rattle.protocol.proofs.Invariant.Growth.{Grows, grow-kept}
-use Rattle.protocol.proofs.Invariant.Delivery.{afterDelivery, Taken, placed-message, length-pile}
+use Rattle.protocol.proofs.Invariant.Delivery.{afterDelivery, Taken, placed-message}
+use Rattle.protocol.proofs.Invariant.Delivery.{length-pile}
 use Rattle.protocol.proofs.Invariant.DeliverPrepare.{deliver-prepare}
 use Rattle.protocol.proofs.Invariant.DeliverPrepared.{deliver-prepared}
 use Rattle.protocol.proofs.Invariant.DeliverCommit.{deliver-commit}
@@ -36,7 +41,14 @@ use Rattle.protocol.proofs.Invariant.StartWrite.{start-write}
 initial-sound : (h : History) (k : ℕ) → SoundEntry h k initial
 initial-sound h k =
     record {
-      sound = record { write = origin; isKnown = inl refl; same = refl; mine = refl; whole = λ j e. not-both e (has-empty j) };
+      sound = record {
+        write = origin;
+        isKnown = inl refl;
+        same = refl;
+        mine = refl;
+        whole =
+            λ j e. not-both e (has-empty j);
+      };
       agrees = refl;
     }
 
@@ -84,7 +96,8 @@ module _ (caps : Capacities) (w : World) (inv : Inv caps w) where
         counts = inv .counts;
         view = inv .view;
         latest = inv .latest;
-        versions = λ v p. grow-kept (historyOf w) (historyOf w) grows-self (w .time) (suc (w .time)) (le-suc (w .time)) v (inv .versions v p);
+        versions =
+            λ v p. grow-kept (historyOf w) (historyOf w) grows-self (w .time) (suc (w .time)) (le-suc (w .time)) v (inv .versions v p);
         one = inv .one;
         fits = inv .fits;
         does = inv .does;
@@ -103,19 +116,22 @@ module _ (caps : Capacities) (w : World) (inv : Inv caps w) where
 
   -- ---- a delivery, kind by kind
 
-  delivery : (i : ℕ) (l : Label) (m : Message) → Taken w i l m → valid caps (afterDelivery w i l m .tables) ≡ true → Inv caps (afterDelivery w i l m)
+  delivery : (i : ℕ) (l : Label) (m : Message) → Taken w i l m
+      → valid caps (afterDelivery w i l m .tables) ≡ true → Inv caps (afterDelivery w i l m)
   delivery i l (Prepare v) taken ok = deliver-prepare caps w inv i l v taken ok
   delivery i l (Prepared k s) taken ok = deliver-prepared caps w inv i l k s taken ok
   delivery i l (Commit p s) taken ok = deliver-commit caps w inv i l p s taken ok
   delivery i l (Get d k s) taken ok = deliver-get caps w inv i l d k s taken ok
   delivery i l (Got d v latest) taken ok = deliver-got caps w inv i l d v latest taken ok
 
-  pub taken : (i : ℕ) → AcceptedDeliver caps (w .tables) i → Taken w i (placed w i .label) (placed w i .message)
+  pub taken : (i : ℕ) → AcceptedDeliver caps (w .tables) i
+      → Taken w i (placed w i .label) (placed w i .message)
   taken i a =
       let same : placed w i .message ≡ messageAt (w .tables) i = placed-message caps w inv i in
       let may = tells-expected (w .tables) (messageAt (w .tables) i) .1 (a .expected) in
       record {
-        isIn = in-getD (w .pile) i (record { label = record { client = 0; start = 0; since = 0 }; message = Commit 0 0 })
+        isIn = in-getD (w .pile) i
+            (record { label = record { client = 0; start = 0; since = 0 }; message = Commit 0 0 })
             (subst (λ (n : ℕ). i < n) (sym (length-pile caps w inv)) (a .place));
         split = λ p. ap (λ (m : Message). cond (p m) 1 0 + counted p (without i (w .tables .messages))) same
             ∙ counted-without p i (w .tables .messages) (Commit 0 0) (a .place);
@@ -124,12 +140,14 @@ module _ (caps : Capacities) (w : World) (inv : Inv caps w) where
       }
 
   -- what the tables' step does is what the labelled delivery does
-  pub delivered-moved : (i : ℕ) → afterDelivery w i (placed w i .label) (placed w i .message) ≡ moved w (deliver i)
+  pub delivered-moved : (i : ℕ) → afterDelivery w i (placed w i .label)
+      (placed w i .message) ≡ moved w (deliver i)
   unfolding effect joining staying begun storing
   delivered-moved i j =
       record {
         time = suc (w .time);
-        tables = withMessages (delivered (w .tables) (placed-message caps w inv i j)) (without i (w .tables .messages) ++ joined (w .tables) (placed-message caps w inv i j));
+        tables = withMessages (delivered (w .tables) (placed-message caps w inv i j))
+            (without i (w .tables .messages) ++ joined (w .tables) (placed-message caps w inv i j));
         pile = without i (w .pile) ++ joining w (deliver i);
         writes = w .writes ++ [];
         stores = w .stores ++ storing w (deliver i);
@@ -143,13 +161,17 @@ module _ (caps : Capacities) (w : World) (inv : Inv caps w) where
   accepted-inv (startWrite d s bytes) e =
       let a = accepted-write caps (w .tables) d s bytes .0 e .start in
       let z = a .valid .inRange .sizes in
-      start-write caps w inv d s bytes (omega (arith, a .client, z .clients)) (a .idle) (a .set) (valid-step caps (w .tables) (startWrite d s bytes) e)
+      start-write caps w inv d s bytes (omega (arith, a .client, z .clients)) (a .idle) (a .set)
+      (valid-step caps (w .tables) (startWrite d s bytes) e)
   accepted-inv (deliver i) e =
       let same = delivered-moved i in
       subst (λ (v : World). Inv caps v) same
-      (delivery i (placed w i .label) (placed w i .message) (taken i (accepted-deliver caps (w .tables) i .0 e))
-      (subst (λ (v : World). valid caps (v .tables) ≡ true) (sym same) (valid-step caps (w .tables) (deliver i) e)))
-  accepted-inv (show d output) e = subst (λ (v : World). Inv caps v) (sym (shown-passed d output)) passed-inv
+      (delivery i (placed w i .label) (placed w i .message)
+      (taken i (accepted-deliver caps (w .tables) i .0 e))
+      (subst (λ (v : World). valid caps (v .tables) ≡ true) (sym same)
+      (valid-step caps (w .tables) (deliver i) e)))
+  accepted-inv (show d output) e =
+      subst (λ (v : World). Inv caps v) (sym (shown-passed d output)) passed-inv
 
   pub next-inv : (c : Call) → Inv caps (next caps w c)
   unfolding next

@@ -4,7 +4,8 @@ use Prim.Native.Nat.{ℕ}
 use Rattle.protocol.specs.declared.Version.{Version}
 use Rattle.protocol.specs.declared.Entry.{Entry}
 use Rattle.protocol.specs.declared.Message.{Message}
-use Rattle.protocol.specs.Tables.{Tables, Client, withClient, withView, withLatest, withVersions, withMessages}
+use Rattle.protocol.specs.Tables.{Tables, Client, withClient, withView, withLatest}
+use Rattle.protocol.specs.Tables.{withVersions, withMessages}
 use Rattle.protocol.proofs.Each.{Each}
 use Rattle.protocol.proofs.Ranges.Values.{EntriesInRange, VersionInRange, MessageInRange}
 use Rattle.protocol.proofs.Ranges.Clients.{ClientInRange}
@@ -37,13 +38,16 @@ module _ (t : Tables) (r : InRange t) where
   pub range-latest : (f : ℕ → Entry) → EntriesInRange (t .sizes) f → InRange (withLatest t f)
   range-latest f h = search
 
-  pub range-versions : (vs : List Version) → Each (VersionInRange (t .sizes)) vs → InRange (withVersions t vs)
+  pub range-versions : (vs : List Version) → Each (VersionInRange (t .sizes)) vs
+      → InRange (withVersions t vs)
   range-versions vs h = search
 
-  pub range-messages : (ms : List Message) → Each (MessageInRange (t .sizes)) ms → InRange (withMessages t ms)
+  pub range-messages : (ms : List Message) → Each (MessageInRange (t .sizes)) ms
+      → InRange (withMessages t ms)
   range-messages ms h = search
 
 -- a client and its view
-pub range-both : (t : Tables) → InRange t → (d : ℕ) (c : Client) (f : ℕ → Entry) → ClientInRange (t .sizes) c → EntriesInRange (t .sizes) f
+pub range-both : (t : Tables) → InRange t → (d : ℕ) (c : Client) (f : ℕ → Entry)
+    → ClientInRange (t .sizes) c → EntriesInRange (t .sizes) f
     → InRange (withView (withClient t d c) d f)
 range-both t r d c f p q = range-view (withClient t d c) (range-client t r d c p) d f q

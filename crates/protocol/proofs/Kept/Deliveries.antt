@@ -1,4 +1,5 @@
--- A delivery keeps the tables in range: whatever it stores, shows or sends was in the message, the client, a latest or a stored version.
+-- A delivery keeps the tables in range: whatever it stores, shows or sends was in the message, the
+-- client, a latest or a stored version.
 use mathlib.Core.List.{[], _∷_, _++_}
 use mathlib.Core.Path.{sym, subst}
 use Prim.Native.Nat.{ℕ}
@@ -7,23 +8,30 @@ use Rattle.protocol.specs.declared.Message.{Message}
 use Rattle.protocol.specs.declared.Message.the-variants.{Prepare, Prepared, Commit, Get, Got}
 use Rattle.protocol.specs.Tables.{Sizes, Tables, laterOf, writerOf}
 use Rattle.protocol.specs.Range.{Capacities}
-use Rattle.protocol.specs.Steps.{found, isLast, prepared, got, committed, touches, version, delivered, joined, messageAt}
+use Rattle.protocol.specs.Steps.{found, isLast, prepared, got, committed, touches, version}
+use Rattle.protocol.specs.Steps.{delivered, joined, messageAt}
 use Rattle.protocol.specs.Calls.{deliver, effect}
-use Rattle.protocol.proofs.Each.{Each, each-none, each-one, each-append, each-without, each-upto}
-use Rattle.protocol.proofs.Ranges.Values.{IsClient, EntryInRange, EntriesInRange, VersionInRange, MessageInRange}
+use Rattle.protocol.proofs.Each.{Each, each-none, each-one, each-append, each-without}
+use Rattle.protocol.proofs.Each.{each-upto}
+use Rattle.protocol.proofs.Ranges.Values.{IsClient, EntryInRange, EntriesInRange}
+use Rattle.protocol.proofs.Ranges.Values.{VersionInRange, MessageInRange}
 use Rattle.protocol.proofs.Ranges.Tables.{InRange}
 use Rattle.protocol.proofs.Refusals.{Expected, AcceptedDeliver, accepted-message}
 use Rattle.protocol.proofs.Delivered.{delivered-sizes}
 use Rattle.protocol.proofs.Put.{by-cond, put-all}
-use Rattle.protocol.proofs.Kept.Changes.{range-both, range-latest, range-versions, range-messages}
-use Rattle.protocol.proofs.Kept.Values.{range-later, range-seen, range-found, range-committed, range-prepared, range-got}
+use Rattle.protocol.proofs.Kept.Changes.{range-both, range-latest, range-versions}
+use Rattle.protocol.proofs.Kept.Changes.{range-messages}
+use Rattle.protocol.proofs.Kept.Values.{range-later, range-seen, range-found}
+use Rattle.protocol.proofs.Kept.Values.{range-committed, range-prepared, range-got}
 
 -- what changes beside the messages in flight
-pub range-delivered : (t : Tables) (m : Message) → InRange t → MessageInRange (t .sizes) m → Expected t m → InRange (delivered t m)
+pub range-delivered : (t : Tables) (m : Message) → InRange t → MessageInRange (t .sizes) m
+    → Expected t m → InRange (delivered t m)
 unfolding delivered
 range-delivered t (Prepare v) r h x =
     range-versions t r (t .versions ++ v ∷ [])
-    (each-append (VersionInRange (t .sizes)) (t .versions) (v ∷ []) (r .versions) (each-one (VersionInRange (t .sizes)) v h))
+    (each-append (VersionInRange (t .sizes)) (t .versions) (v ∷ []) (r .versions)
+    (each-one (VersionInRange (t .sizes)) v h))
 range-delivered t (Prepared k stamp) r h x =
     let z = t .sizes in
     let d = writerOf stamp in
@@ -34,7 +42,8 @@ range-delivered t (Prepared k stamp) r h x =
     (by-cond (EntriesInRange z) (isLast c k) _ _
     (λ l. range-seen z (t .view d) (c .set) stamp (r .view d one) (r .client d one .set) (h .stamp))
     (λ l. r .view d one))
-range-delivered t (Commit p stamp) r h x = range-latest t r (committed t p stamp) (range-committed t p stamp r (h .stamp))
+range-delivered t (Commit p stamp) r h x =
+    range-latest t r (committed t p stamp) (range-committed t p stamp r (h .stamp))
 range-delivered t (Get d k stamp) r h x = r
 range-delivered t (Got d v latest) r h x =
     let z = t .sizes in
@@ -43,22 +52,27 @@ range-delivered t (Got d v latest) r h x =
     let entry = range-later z (t .view d k) latest (view k (h .item)) (h .latest) in
     range-both t r d (got (t .client d) k (v .value)) _
     (range-got z (t .client d) k (v .value) (r .client d (h .client)) (x .mode) (h .value))
-    (λ j l. put-all (EntryInRange z) (t .view d) k (laterOf (t .view d k) latest) j entry (view j l))
+    (λ j l. put-all (EntryInRange z) (t .view d) k (laterOf (t .view d k) latest) j entry
+    (view j l))
 
 -- what joins
-pub range-joined : (t : Tables) (m : Message) → InRange t → MessageInRange (t .sizes) m → Each (MessageInRange (t .sizes)) (joined t m)
+pub range-joined : (t : Tables) (m : Message) → InRange t → MessageInRange (t .sizes) m
+    → Each (MessageInRange (t .sizes)) (joined t m)
 unfolding joined
 range-joined t (Prepare v) r h =
-    each-one (MessageInRange (t .sizes)) (Prepared (v .item) (v .stamp)) (record { item = h .item; stamp = h .stamp })
+    each-one (MessageInRange (t .sizes)) (Prepared (v .item) (v .stamp))
+    (record { item = h .item; stamp = h .stamp })
 range-joined t (Prepared k stamp) r h =
     let s = t .client (writerOf stamp) .set in
     by-cond (Each (MessageInRange (t .sizes))) (isLast (t .client (writerOf stamp)) k) _ _
-    (λ l. each-upto (MessageInRange (t .sizes)) (λ p. Commit p stamp) (t .sizes .partitions) (λ p. touches t s p (t .sizes .items)) (λ p b e.
+    (λ l. each-upto (MessageInRange (t .sizes)) (λ p. Commit p stamp) (t .sizes .partitions)
+    (λ p. touches t s p (t .sizes .items)) (λ p b e.
     record { partition = b; stamp = h .stamp }))
     (λ l. each-none (MessageInRange (t .sizes)))
 range-joined t (Commit p stamp) r h = each-none (MessageInRange (t .sizes))
 range-joined t (Get d k stamp) r h =
-    each-one (MessageInRange (t .sizes)) (Got d (version k (found (t .versions) k stamp .value) stamp 0) (t .latest k))
+    each-one (MessageInRange (t .sizes))
+    (Got d (version k (found (t .versions) k stamp .value) stamp 0) (t .latest k))
     (record {
       client = h .client;
       item = h .item;
@@ -68,7 +82,8 @@ range-joined t (Get d k stamp) r h =
     })
 range-joined t (Got d v latest) r h = each-none (MessageInRange (t .sizes))
 
-pub range-deliver : (caps : Capacities) (t : Tables) (i : ℕ) → AcceptedDeliver caps t i → InRange (effect t (deliver i))
+pub range-deliver : (caps : Capacities) (t : Tables) (i : ℕ) → AcceptedDeliver caps t i
+    → InRange (effect t (deliver i))
 unfolding effect
 range-deliver caps t i a =
     let r = a .valid .inRange in
@@ -76,6 +91,9 @@ range-deliver caps t i a =
     let known = accepted-message caps t i a in
     let P = MessageInRange (t .sizes) in
     let rest = without i (t .messages) in
-    let each : Each P (rest ++ joined t m) = each-append P rest (joined t m) (each-without P i (t .messages) (r .messages)) (range-joined t m r known) in
+    let each : Each P (rest ++ joined t m) =
+    each-append P rest (joined t m) (each-without P i (t .messages) (r .messages))
+    (range-joined t m r known) in
     range-messages (delivered t m) (range-delivered t m r known (a .expected)) (rest ++ joined t m)
-    (subst (λ (z : Sizes). Each (MessageInRange z) (rest ++ joined t m)) (sym (delivered-sizes t m)) each)
+    (subst (λ (z : Sizes). Each (MessageInRange z) (rest ++ joined t m))
+    (sym (delivered-sizes t m)) each)

@@ -1,5 +1,5 @@
--- A start keeps the tables in range: a read asks for stamps that its view holds, and a write's stamp has the next number and its own
--- client.
+-- A start keeps the tables in range: a read asks for stamps that its view holds, and a write's
+-- stamp has the next number and its own client.
 use mathlib.Core.Bool.{true, cond}
 use mathlib.Core.List.{List, _++_}
 use mathlib.Core.Path.{_≡_, sym}
@@ -14,10 +14,12 @@ use Rattle.protocol.specs.declared.Message.{Message}
 use Rattle.protocol.specs.declared.Message.the-variants.{Prepare, Get}
 use Rattle.protocol.specs.Tables.{Sizes, Tables, Client, withClient, withMessages}
 use Rattle.protocol.specs.Range.{Capacities, isIdle}
-use Rattle.protocol.specs.Steps.{choice, asks, reader, gets, nextStamp, valueOf, writer, version, prepares}
+use Rattle.protocol.specs.Steps.{choice, asks, reader, gets, nextStamp, valueOf, writer}
+use Rattle.protocol.specs.Steps.{version, prepares}
 use Rattle.protocol.specs.Calls.{startRead, startWrite, effect}
 use Rattle.protocol.proofs.Each.{Each, each-append, each-upto}
-use Rattle.protocol.proofs.Ranges.Values.{Stamped, StampInRange, EntriesInRange, MessageInRange}
+use Rattle.protocol.proofs.Ranges.Values.{Stamped, StampInRange, EntriesInRange}
+use Rattle.protocol.proofs.Ranges.Values.{MessageInRange}
 use Rattle.protocol.proofs.Ranges.Clients.{ClientInRange}
 use Rattle.protocol.proofs.Ranges.Tables.{InRange}
 use Rattle.protocol.proofs.Refusals.{AcceptedStart, AcceptedWrite}
@@ -39,12 +41,15 @@ range-choice z view h k l (suc n) b =
 
 pub value-fits : (s : ℕ) (bytes : List ℕ) (k : ℕ) → valueOf s bytes k < 2 ^ 32
 value-fits s bytes k =
-    by-cond (λ v. v < 2 ^ 32) (has s k) (numberAt 4 bytes (4 * rank s k) % 2 ^ 32) 0 (λ e. omega arith) (λ e. omega arith)
+    by-cond (λ v. v < 2 ^ 32) (has s k) (numberAt 4 bytes (4 * rank s k) % 2 ^ 32) 0
+    (λ e. omega arith) (λ e. omega arith)
 
 -- ---- A client starts, and messages join
 
-range-start : (t : Tables) → InRange t → (d : ℕ) (c : Client) (ms : List Message) → ClientInRange (t .sizes) c
-    → Each (MessageInRange (t .sizes)) ms → InRange (withMessages (withClient t d c) (t .messages ++ ms))
+range-start : (t : Tables) → InRange t → (d : ℕ) (c : Client) (ms : List Message)
+    → ClientInRange (t .sizes) c
+    → Each (MessageInRange (t .sizes)) ms
+    → InRange (withMessages (withClient t d c) (t .messages ++ ms))
 range-start t r d c ms h each =
     range-messages (withClient t d c) (range-client t r d c h) (t .messages ++ ms)
     (each-append (MessageInRange (t .sizes)) (t .messages) ms (r .messages) each)
@@ -54,7 +59,8 @@ range-start t r d c ms h each =
 module _ (caps : Capacities) (t : Tables) (d s : ℕ) (a : AcceptedStart caps t d s) where
   pub range-asks : (k : ℕ) → has s k ≡ true → StampInRange (t .sizes) (asks t d k)
   range-asks k e =
-      range-choice (t .sizes) (t .view d) (a .valid .inRange .view d (a .client)) k (has-below s k (t .sizes .items) (a .set) e) (t .sizes .items) (omega arith)
+      range-choice (t .sizes) (t .view d) (a .valid .inRange .view d (a .client)) k
+      (has-below s k (t .sizes .items) (a .set) e) (t .sizes .items) (omega arith)
 
   pub range-reader : ClientInRange (t .sizes) (reader t d s)
   unfolding isIdle
@@ -76,14 +82,21 @@ module _ (caps : Capacities) (t : Tables) (d s : ℕ) (a : AcceptedStart caps t 
   unfolding effect
   range-read =
       range-start t (a .valid .inRange) d (reader t d s) (gets t d s) range-reader
-      (each-upto (MessageInRange (t .sizes)) (λ k. Get d k (asks t d k)) (t .sizes .items) (has s) (λ k l e.
+      (each-upto (MessageInRange (t .sizes)) (λ k. Get d k (asks t d k)) (t .sizes .items) (has s)
+      (λ k l e.
       record { client = a .client; item = l; stamp = range-asks k e }))
 
 -- ---- Start a write
 
-module _ (caps : Capacities) (t : Tables) (d s : ℕ) (bytes : List ℕ) (a : AcceptedWrite caps t d s bytes) where
+module _ (caps : Capacities) (t : Tables) (d s : ℕ) (bytes : List ℕ)
+    (a : AcceptedWrite caps t d s bytes) where
   count-fits : suc (t .client d .count) < 2 ^ 32
-  count-fits = omega (arith, a .countLeft, a .start .valid .inRange .client d (a .start .client) .count)
+  count-fits = omega (
+    arith,
+    a .countLeft,
+    a .start .valid .inRange .client d
+        (a .start .client) .count,
+  )
 
   pub range-next : Stamped (t .sizes) (nextStamp t d)
   range-next = omega (arith, count-fits)
@@ -106,6 +119,16 @@ module _ (caps : Capacities) (t : Tables) (d s : ℕ) (bytes : List ℕ) (a : Ac
   pub range-write : InRange (effect t (startWrite d s bytes))
   unfolding effect
   range-write =
-      range-start t (a .start .valid .inRange) d (writer t d s bytes) (prepares t d s bytes) range-writer
-      (each-upto (MessageInRange (t .sizes)) (λ k. Prepare (version k (valueOf s bytes k) (nextStamp t d) s)) (t .sizes .items) (has s) (λ k l e.
-      record { item = l; value = value-fits s bytes k; stamp = range-next; set = a .start .set; own = e }))
+      range-start t (a .start .valid .inRange) d (writer t d s bytes)
+      (prepares t d s bytes) range-writer
+      (each-upto (MessageInRange (t .sizes))
+      (λ k. Prepare (version k (valueOf s bytes k) (nextStamp t d) s)) (t .sizes .items) (has s)
+      (λ k l e.
+      record {
+        item = l;
+        value = value-fits s bytes k;
+        stamp = range-next;
+        set =
+            a .start .set;
+        own = e;
+      }))

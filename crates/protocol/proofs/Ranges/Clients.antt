@@ -1,4 +1,5 @@
--- What the tests of a client, its mode and its last ended transaction tell, as records of plain facts, both ways.
+-- What the tests of a client, its mode and its last ended transaction tell, as records of plain
+-- facts, both ways.
 use mathlib.Core.Bool.{true}
 use mathlib.Core.Logic.{_↔_}
 use mathlib.Core.Path.{_≡_, refl, ap}
@@ -7,7 +8,8 @@ use lib.Dec.{eqb}
 use Rattle.basics.proofs.Cases.{not-both}
 use Rattle.itemset.specs.Set.{has}
 use Rattle.itemset.proofs.Laws.{has-below}
-use Rattle.protocol.specs.Tables.{Sizes, Client, Mode, idle, reading, writing, Ended, nothing, read, write}
+use Rattle.protocol.specs.Tables.{Sizes, Client, Mode, idle, reading, writing, Ended, nothing}
+use Rattle.protocol.specs.Tables.{read, write}
 use Rattle.protocol.specs.Range.{clientInRange, endedInRange, isIdle, isReading, isWriting}
 use Rattle.protocol.proofs.Ranges.Values.{StampInRange, parts}
 
@@ -49,7 +51,8 @@ EndedInRange z (read s stamps values) = ReadInRange z s stamps values
 EndedInRange z (write s stamp values) = WriteInRange z s stamp values
 
 -- a set's items exist
-each-has : {P : ℕ → Type 0} (s n : ℕ) → s < 2 ^ n → ((k : ℕ) → k < n → has s k ≡ true → P k) → (k : ℕ) → has s k ≡ true → P k
+each-has : {P : ℕ → Type 0} (s n : ℕ) → s < 2 ^ n → ((k : ℕ) → k < n → has s k ≡ true → P k)
+    → (k : ℕ) → has s k ≡ true → P k
 each-has s n l h k e = h k (has-below s k n l e) e
 
 pub tells-ended : (z : Sizes) (e : Ended) → (endedInRange z e ≡ true) ↔ EndedInRange z e
@@ -90,7 +93,8 @@ tells-client z c = (
       let awaited : c .awaited < 2 ^ z .items = search in
       let within = each-has (c .awaited) (z .items) awaited (f .0 .0 .0 .0 .1) in
       let items = each-has (c .set) (z .items) set (f .0 .1) in
-      let asked : (k : ℕ) → has (c .set) k ≡ true → StampInRange z (c .asked k) = λ k e. items k e .0 in
+      let asked : (k : ℕ) → has (c .set) k ≡ true → StampInRange z (c .asked k) =
+      λ k e. items k e .0 in
       let values : (k : ℕ) → has (c .set) k ≡ true → c .values k < 2 ^ 32 = λ k e. items k e .1 in
       search,
   λ r. simp (parts, tells-ended) (search (r .within, r .asked, r .values)),

@@ -1,4 +1,5 @@
--- What the tests of the whole tables tell, as records of plain facts, both ways: what is in range, and what is valid.
+-- What the tests of the whole tables tell, as records of plain facts, both ways: what is in range,
+-- and what is valid.
 use mathlib.Core.Bool.{true}
 use mathlib.Core.Logic.{_↔_}
 use mathlib.Core.Path.{_≡_}
@@ -8,7 +9,9 @@ use Rattle.protocol.specs.Tables.{Sizes, Tables}
 use Rattle.protocol.specs.Range.{inRange, load, occupied, Capacities, valid}
 use Rattle.protocol.proofs.Each.{Each}
 use Rattle.protocol.proofs.Tells.{tells}
-use Rattle.protocol.proofs.Ranges.Values.{SizesInRange, IsClient, EntriesInRange, VersionInRange, MessageInRange, parts, tells-sizes, tells-version, tells-message}
+use Rattle.protocol.proofs.Ranges.Values.{SizesInRange, IsClient, EntriesInRange}
+use Rattle.protocol.proofs.Ranges.Values.{VersionInRange, MessageInRange, parts, tells-sizes}
+use Rattle.protocol.proofs.Ranges.Values.{tells-version, tells-message}
 use Rattle.protocol.proofs.Ranges.Clients.{ClientInRange, tells-client}
 
 -- ---- Tables
@@ -25,7 +28,8 @@ pub record InRange (t : Tables) : Type 0 where
 pub is-client : (z : Sizes) (i : ℕ) → i < z .clients → IsClient z (suc i)
 is-client z i l = omega arith
 
-pub each-client : (z : Sizes) (P : ℕ → Type 0) → ((i : ℕ) → i < z .clients → P (suc i)) → (d : ℕ) → IsClient z d → P d
+pub each-client : (z : Sizes) (P : ℕ → Type 0) → ((i : ℕ) → i < z .clients → P (suc i)) → (d : ℕ)
+    → IsClient z d → P d
 each-client z P h zero c = absurd (omega arith)
 each-client z P h (suc i) c = h i (c .1)
 
@@ -58,7 +62,11 @@ pub record Valid (caps : Capacities) (t : Tables) : Type 0 where
 
 pub tells-valid : (caps : Capacities) (t : Tables) → (valid caps t ≡ true) ↔ Valid caps t
 unfolding valid
-tells-valid caps t = (λ h. let f = simp (tells, tells-tables) at h in search, λ r. simp (tells, tells-tables) search)
+tells-valid caps t = (
+  λ h. let f = simp (tells, tells-tables) at h in
+      search,
+  λ r. simp (tells, tells-tables) search,
+)
 
 pub valid-facts : (caps : Capacities) (t : Tables) → valid caps t ≡ true → Valid caps t
 valid-facts caps t = tells-valid caps t .0

@@ -1,5 +1,6 @@
--- What the tests of sizes, stamps, entries, versions and messages tell, as records of plain facts, both ways: a law `tells-x` reads
--- the facts off the test (`.0`) and proves the test from the facts (`.1`).
+-- What the tests of sizes, stamps, entries, versions and messages tell, as records of plain facts,
+-- both ways: a law `tells-x` reads the facts off the test (`.0`) and proves the test from the facts
+-- (`.1`).
 use mathlib.Core.Bool.{true}
 use mathlib.Core.Logic.{_↔_, _≢_}
 use mathlib.Core.Path.{_≡_}
@@ -11,7 +12,8 @@ use Rattle.protocol.specs.declared.Entry.{Entry}
 use Rattle.protocol.specs.declared.Message.{Message}
 use Rattle.protocol.specs.declared.Message.the-variants.{Prepare, Prepared, Commit, Get, Got}
 use Rattle.protocol.specs.Tables.{Sizes, numberOf, writerOf}
-use Rattle.protocol.specs.Range.{sizesInRange, stampInRange, entryInRange, versionInRange, messageInRange}
+use Rattle.protocol.specs.Range.{sizesInRange, stampInRange, entryInRange, versionInRange}
+use Rattle.protocol.specs.Range.{messageInRange}
 use Rattle.protocol.proofs.Tells.{tells}
 
 -- ---- Sizes and clients
@@ -44,7 +46,11 @@ StampInRange z stamp = stamp ≢ 0 → Stamped z stamp
 
 pub tells-stamp : (z : Sizes) (stamp : ℕ) → (stampInRange z stamp ≡ true) ↔ StampInRange z stamp
 unfolding stampInRange
-tells-stamp z stamp = (λ e n. let f = simp tells at e in let g = f n in search, λ r. simp tells λ n. let g = r n in search)
+tells-stamp z stamp = (
+  λ e n. let f = simp tells at e in let g = f n in
+      search,
+  λ r. simp tells λ n. let g = r n in search,
+)
 
 -- ---- Entries, versions, messages
 
@@ -54,7 +60,11 @@ pub record EntryInRange (z : Sizes) (e : Entry) : Type 0 where
 
 pub tells-entry : (z : Sizes) (e : Entry) → (entryInRange z e ≡ true) ↔ EntryInRange z e
 unfolding entryInRange
-tells-entry z e = (λ h. let f = simp (tells, tells-stamp) at h in search, λ r. simp (tells, tells-stamp) search)
+tells-entry z e = (
+  λ h. let f = simp (tells, tells-stamp) at h in
+      search,
+  λ r. simp (tells, tells-stamp) search,
+)
 
 -- a view, or the latest entries
 abbrev pub EntriesInRange : Sizes → (ℕ → Entry) → Type 0
@@ -77,7 +87,11 @@ pub ruleset parts = (tells, tells-stamp, tells-entry)
 
 pub tells-version : (z : Sizes) (v : Version) → (versionInRange z v ≡ true) ↔ VersionInRange z v
 unfolding versionInRange
-tells-version z v = (λ h. let f = simp parts at h in search stamped, λ r. simp parts (search initial-not))
+tells-version z v = (
+  λ h. let f = simp parts at h in
+      search stamped,
+  λ r. simp parts (search initial-not),
+)
 
 -- per kind; a prepare holds a version
 
@@ -111,7 +125,9 @@ MessageInRange z (Got d v latest) = GotInRange z d v latest
 pub tells-message : (z : Sizes) (m : Message) → (messageInRange z m ≡ true) ↔ MessageInRange z m
 unfolding messageInRange
 tells-message z (Prepare v) = tells-version z v
-tells-message z (Prepared k stamp) = (λ h. let f = simp parts at h in search stamped, λ r. simp parts (search initial-not))
-tells-message z (Commit p stamp) = (λ h. let f = simp parts at h in search stamped, λ r. simp parts (search initial-not))
+tells-message z (Prepared k stamp) =
+    (λ h. let f = simp parts at h in search stamped, λ r. simp parts (search initial-not))
+tells-message z (Commit p stamp) =
+    (λ h. let f = simp parts at h in search stamped, λ r. simp parts (search initial-not))
 tells-message z (Get d k stamp) = (λ h. let f = simp parts at h in search, λ r. simp parts search)
 tells-message z (Got d v latest) = (λ h. let f = simp parts at h in search, λ r. simp parts search)

@@ -15,24 +15,31 @@ use Rattle.protocol.specs.declared.Message.the-variants.{Got}
 use Rattle.protocol.specs.Tables.{Tables, Mode, reading, idle, read, resting, put}
 use Rattle.protocol.specs.Range.{Capacities, isReading}
 use Rattle.protocol.specs.Steps.{delivered, got, isLast, messageAt}
-use Rattle.protocol.specs.Calls.{Call, startRead, startWrite, deliver, show, refusal, effect, step, outcomeOf}
-use Rattle.protocol.specs.World.{World, Labelled, placed, joining, leaving, accepts, moved, passed, next, isReply, isReplyFor, isRequest, ownerOf, outcomeIn, delivers, endsFor, startsFor}
+use Rattle.protocol.specs.Calls.{Call, startRead, startWrite, deliver, show, refusal, effect}
+use Rattle.protocol.specs.Calls.{step, outcomeOf}
+use Rattle.protocol.specs.World.{World, Labelled, placed, joining, leaving, accepts, moved}
+use Rattle.protocol.specs.World.{passed, next, isReply, isReplyFor, isRequest, ownerOf}
+use Rattle.protocol.specs.World.{outcomeIn, delivers, endsFor, startsFor}
 use Rattle.protocol.proofs.Put.{put-same}
 use Rattle.protocol.proofs.Refusals.{accepted-read, accepted-write, accepted-deliver}
 use Rattle.protocol.proofs.Invariant.{historyOf, Inv}
 use Rattle.protocol.proofs.Invariant.Delivery.{placed-message}
 use Rattle.protocol.proofs.Invariant.Step.{taken}
 use Rattle.protocol.proofs.Runs.Run.{moved-grows, grows-self}
-use Rattle.protocol.proofs.Runs.Touch.{refused-outcome, delivered-outcome, no-requests, Way, quiet, starts, answers, way, answers-owner, got-of}
-use Rattle.protocol.proofs.Runs.ReadSpan.{Answer, Reading, undisturbed, goes-on, all-answered, all-replied, once-each}
+use Rattle.protocol.proofs.Runs.Touch.{refused-outcome, delivered-outcome, no-requests, Way}
+use Rattle.protocol.proofs.Runs.Touch.{quiet, starts, answers, way, answers-owner, got-of}
+use Rattle.protocol.proofs.Runs.ReadSpan.{Answer, Reading, undisturbed, goes-on}
+use Rattle.protocol.proofs.Runs.ReadSpan.{all-answered, all-replied, once-each}
 
 -- ---- the record of the client that a got is for
 
-module _ (t : Tables) (i d : ℕ) (u : Version) (latest : Entry) (is-got : messageAt t i ≡ Got d u latest) where
+module _ (t : Tables) (i d : ℕ) (u : Version) (latest : Entry)
+    (is-got : messageAt t i ≡ Got d u latest) where
   got-client : effect t (deliver i) .client d ≡ got (t .client d) (u .item) (u .value)
   unfolding effect delivered
   got-client =
-      ap (λ (m : Message). delivered t m .client d) is-got ∙ put-same (t .client) d (got (t .client d) (u .item) (u .value))
+      ap (λ (m : Message). delivered t m .client d) is-got
+      ∙ put-same (t .client) d (got (t .client d) (u .item) (u .value))
 
   got-outcome : outcomeOf t (messageAt t i) ≡ cond (isLast (t .client d) (u .item)) 1 0
   unfolding outcomeOf
@@ -43,54 +50,74 @@ unfolding isReading
 reading-not-idle r w = not-both (ap isReading r) (ap isReading w)
 
 -- the read has ended: what its client keeps, and that every item has its answer
-pub record Finished (caps : Capacities) (d s : ℕ) (asked : ℕ → ℕ) (v : World) (c : Call) (left : List Labelled) : Type 0 where
+pub record Finished (caps : Capacities) (d s : ℕ) (asked : ℕ → ℕ) (v : World) (c : Call)
+    (left : List Labelled) : Type 0 where
   pub accepted : refusal caps (v .tables) c ≡ 0
   pub outcome : outcomeIn (step caps (v .tables) c .answer) ≡ 1
   pub replied : counted (isReply d) (left ++ leaving v c) ≡ count s
   pub onceEach : (j : ℕ) → has s j ≡ true → counted (isReplyFor d j) (left ++ leaving v c) ≡ 1
   pub requests : counted (isRequest d) (joining v c) ≡ 0
   pub values : ℕ → ℕ
-  pub client : moved v c .tables .client d ≡ resting (v .tables .client d .count) (read s asked values)
-  pub answered : (j : ℕ) → has s j ≡ true → Answer (moved v c) d j (asked j) (values j) (left ++ leaving v c)
+  pub client : moved v c .tables .client d ≡ resting (v .tables .client d .count)
+      (read s asked values)
+  pub answered : (j : ℕ) → has s j ≡ true
+      → Answer (moved v c) d j (asked j) (values j) (left ++ leaving v c)
 
-module _ (caps : Capacities) (v : World) (inv : Inv caps v) (d s : ℕ) (asked : ℕ → ℕ) (left : List Labelled)
+module _ (caps : Capacities) (v : World) (inv : Inv caps v) (d s : ℕ) (asked : ℕ → ℕ)
+    (left : List Labelled)
     (r : Reading d s asked v left) where
   not-started : (c : Call) → refusal caps (v .tables) c ≡ 0 → startsFor d c ≡ true → ⊥
   unfolding startsFor
   not-started (startRead e n) a t =
-      reading-not-idle (r .mode) (subst (λ (x : ℕ). v .tables .client x .mode ≡ idle) (eqb-true e d t) (accepted-read caps (v .tables) e n .0 a .idle))
+      reading-not-idle (r .mode) (subst (λ (x : ℕ). v .tables .client x .mode ≡ idle)
+      (eqb-true e d t) (accepted-read caps (v .tables) e n .0 a .idle))
   not-started (startWrite e n bytes) a t =
-      reading-not-idle (r .mode) (subst (λ (x : ℕ). v .tables .client x .mode ≡ idle) (eqb-true e d t) (accepted-write caps (v .tables) e n bytes .0 a .start .idle))
+      reading-not-idle (r .mode) (subst (λ (x : ℕ). v .tables .client x .mode ≡ idle)
+      (eqb-true e d t) (accepted-write caps (v .tables) e n bytes .0 a .start .idle))
   not-started (deliver i) a t = not-both t refl
   not-started (show e output) a t = not-both t refl
 
   -- what an accepted call does to the read
   abbrev Ways : Call → Type 0
-  Ways c = (Reading d s asked (moved v c) (left ++ leaving v c) × (counted (isRequest d) (joining v c) ≡ 0) × (endsFor caps v d c ≡ false))
+  Ways c = (Reading d s asked (moved v c) (left ++ leaving v c)
+      × (counted (isRequest d) (joining v c) ≡ 0) × (endsFor caps v d c ≡ false))
       ⊎ ((endsFor caps v d c ≡ true) × Finished caps d s asked v c left)
 
-  accepted-here : (c : Call) → refusal caps (v .tables) c ≡ 0 → (i : ℕ) → c ≡ deliver i → In (placed v i) (v .pile)
-  accepted-here c a i e = taken caps v inv i (accepted-deliver caps (v .tables) i .0 (subst (λ (x : Call). refusal caps (v .tables) x ≡ 0) e a)) .isIn
+  accepted-here : (c : Call) → refusal caps (v .tables) c ≡ 0 → (i : ℕ) → c ≡ deliver i
+      → In (placed v i) (v .pile)
+  accepted-here c a i e = taken caps v inv i
+      (accepted-deliver caps (v .tables)
+      i .0 (subst (λ (x : Call). refusal caps (v .tables) x ≡ 0) e a)) .isIn
 
-  -- the delivery of a message of the client delivers for it, sends no request, and ends by its outcome alone
-  delivers-reply : (i : ℕ) → In (placed v i) (v .pile) → {u : Version} {latest : Entry} → placed v i .message ≡ Got d u latest → delivers v d (deliver i) ≡ true
+  -- the delivery of a message of the client delivers for it, sends no request, and ends by its
+  -- outcome alone
+  delivers-reply : (i : ℕ) → In (placed v i) (v .pile) → {u : Version} {latest : Entry}
+      → placed v i .message ≡ Got d u latest → delivers v d (deliver i) ≡ true
   unfolding delivers ownerOf
-  delivers-reply i here e = eq-eqb (placed v i .label .client) d (inv .owners (placed v i) here ∙ ap ownerOf e)
+  delivers-reply i here e = eq-eqb (placed v i .label .client) d
+      (inv .owners (placed v i) here ∙ ap ownerOf e)
 
-  ends-by : (i : ℕ) → outcomeIn (step caps (v .tables) (deliver i) .answer) ≡ 1 → delivers v d (deliver i) ≡ true → endsFor caps v d (deliver i) ≡ true
+  ends-by : (i : ℕ) → outcomeIn (step caps (v .tables) (deliver i) .answer) ≡ 1
+      → delivers v d (deliver i) ≡ true → endsFor caps v d (deliver i) ≡ true
   ends-by i o e = rw (e, o) refl
 
-  silent : (i : ℕ) → outcomeIn (step caps (v .tables) (deliver i) .answer) ≡ 0 → endsFor caps v d (deliver i) ≡ false
+  silent : (i : ℕ) → outcomeIn (step caps (v .tables) (deliver i) .answer) ≡ 0
+      → endsFor caps v d (deliver i) ≡ false
   silent i o = rw o (and-false (delivers v d (deliver i)))
 
   -- the delivery of a got of the client
-  by-got : (i : ℕ) → refusal caps (v .tables) (deliver i) ≡ 0 → In (placed v i) (v .pile) → (u : Version) (latest : Entry) → placed v i .message ≡ Got d u latest → Ways (deliver i)
+  by-got : (i : ℕ) → refusal caps (v .tables) (deliver i) ≡ 0 → In (placed v i) (v .pile)
+      → (u : Version) (latest : Entry) → placed v i .message ≡ Got d u latest → Ways (deliver i)
   unfolding leaving
   by-got i a here u latest is-got =
-      let same : messageAt (v .tables) i ≡ Got d u latest = sym (placed-message caps v inv i) ∙ is-got in
+      let same : messageAt (v .tables) i ≡ Got d u latest =
+      sym (placed-message caps v inv i) ∙ is-got in
       let c = v .tables .client d in
-      let record-after : moved v (deliver i) .tables .client d ≡ got c (u .item) (u .value) = got-client (v .tables) i d u latest same in
-      let outcome : outcomeIn (step caps (v .tables) (deliver i) .answer) ≡ cond (isLast c (u .item)) 1 0 = delivered-outcome caps v i a ∙ got-outcome (v .tables) i d u latest same in
+      let record-after : moved v (deliver i) .tables .client d ≡ got c (u .item) (u .value) =
+      got-client (v .tables) i d u latest same in
+      let outcome : outcomeIn (step caps (v .tables) (deliver i) .answer) ≡ cond
+      (isLast c (u .item)) 1 0 =
+      delivered-outcome caps v i a ∙ got-outcome (v .tables) i d u latest same in
       let delivers-it : delivers v d (deliver i) ≡ true = delivers-reply i here is-got in
       by-test (isLast c (u .item))
       (λ last. inr (
@@ -103,37 +130,53 @@ module _ (caps : Capacities) (v : World) (inv : Inv caps v) (d s : ℕ) (asked :
           requests = no-requests caps v inv d i;
           values = put (c .values) (u .item) (u .value);
           client = record-after ∙ rw (last, r .set, r .asks) refl;
-          answered = all-answered caps v inv d s asked left r i here u latest is-got (moved v (deliver i)) (moved-grows v (deliver i)) last;
+          answered = all-answered caps v inv d s asked left r i here u latest is-got
+              (moved v (deliver i)) (moved-grows v (deliver i)) last;
         },
       ))
       (λ f. inl (
-        goes-on caps v inv d s asked left r i here u latest is-got (moved v (deliver i)) (moved-grows v (deliver i)) (record-after ∙ rw f refl) f,
+        goes-on caps v inv d s asked left r i here u latest is-got (moved v (deliver i))
+            (moved-grows v (deliver i)) (record-after ∙ rw f refl) f,
         no-requests caps v inv d i,
         silent i (outcome ∙ rw f refl),
       ))
 
   by-way : (c : Call) → refusal caps (v .tables) c ≡ 0 → Way caps v inv d c → Ways c
   by-way c a (quiet c′ q) =
-      inl (undisturbed d s asked v (moved v c′) left (leaving v c′) (moved-grows v c′) (q .client) (q .replies) r, q .requests, q .ends)
+      inl (
+        undisturbed d s asked v (moved v c′) left (leaving v c′) (moved-grows v c′) (q .client)
+            (q .replies) r,
+        q .requests,
+        q .ends,
+      )
   by-way c a (starts c′ t) = absurd (not-started c′ a t)
   by-way c a (answers i here t) =
-      let g = got-of (historyOf v) (v .tables .client (ownerOf (placed v i .message))) (placed v i .label) (placed v i .message) d t (inv .fits (placed v i) here)
-      (subst (λ (x : ℕ). v .tables .client x .mode ≡ reading) (sym (answers-owner (placed v i .message) d t)) (r .mode)) in
+      let g = got-of (historyOf v) (v .tables .client (ownerOf (placed v i .message)))
+      (placed v i .label) (placed v i .message) d t (inv .fits (placed v i) here)
+      (subst (λ (x : ℕ). v .tables .client x .mode ≡ reading)
+      (sym (answers-owner (placed v i .message) d t)) (r .mode)) in
       by-got i a here (g .0) (g .1 .0) (g .1 .1)
 
   ways : (c : Call) → refusal caps (v .tables) c ≡ 0 → Ways c
   ways c a = by-way c a (way caps v inv d c (accepted-here c a))
 
   pub read-goes-on : (c : Call) → endsFor caps v d c ≡ false
-      → Reading d s asked (next caps v c) (left ++ cond (accepts caps v c) (leaving v c) []) × (counted (isRequest d) (cond (accepts caps v c) (joining v c) []) ≡ 0)
+      → Reading d s asked (next caps v c) (left ++ cond (accepts caps v c) (leaving v c) [])
+      × (counted (isRequest d) (cond (accepts caps v c) (joining v c) []) ≡ 0)
   unfolding next counted
   read-goes-on c f =
       by-test (accepts caps v c)
-      (λ a. rw a (⊎-elim (λ x. (x .0, x .1)) (λ x. not-both (x .0) f) (ways c (eqb-true (refusal caps (v .tables) c) 0 a))))
-      (λ a. rw a (undisturbed d s asked v (passed v) left [] (grows-self v) refl (λ l p. absurd p) r, refl))
+      (λ a. rw a (⊎-elim (λ x. (x .0, x .1)) (λ x. not-both (x .0) f)
+      (ways c (eqb-true (refusal caps (v .tables) c) 0 a))))
+      (λ a. rw a (
+        undisturbed d s asked v (passed v) left [] (grows-self v) refl
+            (λ l p. absurd p) r,
+        refl,
+      ))
 
   pub read-ends : (c : Call) → endsFor caps v d c ≡ true → Finished caps d s asked v c left
   read-ends c t =
       by-test (accepts caps v c)
-      (λ a. ⊎-elim (λ x. not-both t (x .2)) (λ x. x .1) (ways c (eqb-true (refusal caps (v .tables) c) 0 a)))
+      (λ a. ⊎-elim (λ x. not-both t (x .2)) (λ x. x .1)
+      (ways c (eqb-true (refusal caps (v .tables) c) 0 a)))
       (λ a. not-both t (rw (refused-outcome caps v c a) (and-false (delivers v d c))))

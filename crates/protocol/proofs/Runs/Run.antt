@@ -1,5 +1,5 @@
--- Lists of calls: a run of two lists is a run of the second after the first, the invariant holds throughout, and sizes, views and the
--- history only stay or grow.
+-- Lists of calls: a run of two lists is a run of the second after the first, the invariant holds
+-- throughout, and sizes, views and the history only stay or grow.
 use mathlib.Core.Bool.{true, false, cond}
 use mathlib.Core.List.{List, [], _∷_, _++_, append-assoc}
 use mathlib.Core.Logic.{inl, inr}
@@ -19,7 +19,9 @@ use Rattle.protocol.specs.Tables.{Tables, laterOf, writerOf, put}
 use Rattle.protocol.specs.Range.{Capacities}
 use Rattle.protocol.specs.Steps.{delivered, stored, seen, isLast, messageAt}
 use Rattle.protocol.specs.Calls.{Call, startRead, startWrite, deliver, show, refusal, effect}
-use Rattle.protocol.specs.World.{World, Labelled, Write, Store, begun, storing, accepts, moved, passed, next, after, joiningOver, leavingOver, joining, leaving}
+use Rattle.protocol.specs.World.{World, Labelled, Write, Store, begun, storing, accepts}
+use Rattle.protocol.specs.World.{moved, passed, next, after, joiningOver, leavingOver}
+use Rattle.protocol.specs.World.{joining, leaving}
 use Rattle.protocol.proofs.Delivered.{delivered-sizes}
 use Rattle.protocol.proofs.Put.{put-every}
 use Rattle.protocol.proofs.Stored.{stored-more}
@@ -29,7 +31,8 @@ use Rattle.protocol.proofs.Invariant.Step.{next-inv}
 
 -- ---- append
 
-pub after-append : (caps : Capacities) (w : World) (xs ys : List Call) → after caps w (xs ++ ys) ≡ after caps (after caps w xs) ys
+pub after-append : (caps : Capacities) (w : World) (xs ys : List Call)
+    → after caps w (xs ++ ys) ≡ after caps (after caps w xs) ys
 unfolding after
 after-append caps w [] ys = refl
 after-append caps w (c ∷ xs) ys = after-append caps (next caps w c) xs ys
@@ -39,24 +42,30 @@ pub leaving-append : (caps : Capacities) (w : World) (xs ys : List Call)
 unfolding after leavingOver
 leaving-append caps w [] ys = refl
 leaving-append caps w (c ∷ xs) ys =
-    ap (λ (l : List Labelled). cond (accepts caps w c) (leaving w c) [] ++ l) (leaving-append caps (next caps w c) xs ys)
-    ∙ sym (append-assoc (cond (accepts caps w c) (leaving w c) []) (leavingOver caps (next caps w c) xs) (leavingOver caps (after caps (next caps w c) xs) ys))
+    ap (λ (l : List Labelled). cond (accepts caps w c) (leaving w c) [] ++ l)
+    (leaving-append caps (next caps w c) xs ys)
+    ∙ sym (append-assoc (cond (accepts caps w c) (leaving w c) [])
+    (leavingOver caps (next caps w c) xs) (leavingOver caps (after caps (next caps w c) xs) ys))
 
 pub joining-append : (caps : Capacities) (w : World) (xs ys : List Call)
     → joiningOver caps w (xs ++ ys) ≡ joiningOver caps w xs ++ joiningOver caps (after caps w xs) ys
 unfolding after joiningOver
 joining-append caps w [] ys = refl
 joining-append caps w (c ∷ xs) ys =
-    ap (λ (l : List Labelled). cond (accepts caps w c) (joining w c) [] ++ l) (joining-append caps (next caps w c) xs ys)
-    ∙ sym (append-assoc (cond (accepts caps w c) (joining w c) []) (joiningOver caps (next caps w c) xs) (joiningOver caps (after caps (next caps w c) xs) ys))
+    ap (λ (l : List Labelled). cond (accepts caps w c) (joining w c) [] ++ l)
+    (joining-append caps (next caps w c) xs ys)
+    ∙ sym (append-assoc (cond (accepts caps w c) (joining w c) [])
+    (joiningOver caps (next caps w c) xs) (joiningOver caps (after caps (next caps w c) xs) ys))
 
 -- ---- what an accepted and a refused call make of a world
 
-pub next-accepted : (caps : Capacities) (w : World) (c : Call) → refusal caps (w .tables) c ≡ 0 → next caps w c ≡ moved w c
+pub next-accepted : (caps : Capacities) (w : World) (c : Call) → refusal caps (w .tables) c ≡ 0
+    → next caps w c ≡ moved w c
 unfolding next
 next-accepted caps w c e = rw (eq-eqb (refusal caps (w .tables) c) 0 e) refl
 
-pub next-refused : (caps : Capacities) (w : World) (c : Call) → accepts caps w c ≡ false → next caps w c ≡ passed w
+pub next-refused : (caps : Capacities) (w : World) (c : Call) → accepts caps w c ≡ false
+    → next caps w c ≡ passed w
 unfolding next
 next-refused caps w c e = rw e refl
 
@@ -65,15 +74,19 @@ pub next-all : (caps : Capacities) (P : World → Type 0) (w : World) (c : Call)
     → (refusal caps (w .tables) c ≡ 0 → P (moved w c)) → P (passed w) → P (next caps w c)
 unfolding next
 next-all caps P w c yes′ no′ =
-    by-test (accepts caps w c) (λ e. rw e (yes′ (eqb-true (refusal caps (w .tables) c) 0 e))) (λ e. rw e no′)
+    by-test (accepts caps w c) (λ e. rw e (yes′ (eqb-true (refusal caps (w .tables) c) 0 e)))
+    (λ e. rw e no′)
 
 -- a relation that every call keeps, and that goes on, is kept by a list of calls
-pub after-all : (caps : Capacities) (R : World → World → Type 0) → ((w : World) → R w w) → ((u v w : World) → R u v → R v w → R u w)
-    → ((w : World) (c : Call) → R w (next caps w c)) → (w : World) (cs : List Call) → R w (after caps w cs)
+pub after-all : (caps : Capacities) (R : World → World → Type 0) → ((w : World) → R w w)
+    → ((u v w : World) → R u v → R v w → R u w)
+    → ((w : World) (c : Call) → R w (next caps w c)) → (w : World) (cs : List Call)
+    → R w (after caps w cs)
 unfolding after
 after-all caps R same on step w [] = same w
 after-all caps R same on step w (c ∷ cs) =
-    on w (next caps w c) (after caps (next caps w c) cs) (step w c) (after-all caps R same on step (next caps w c) cs)
+    on w (next caps w c) (after caps (next caps w c) cs) (step w c)
+    (after-all caps R same on step (next caps w c) cs)
 
 -- ---- sizes
 
@@ -84,16 +97,20 @@ effect-sizes t (startWrite d s bytes) = refl
 effect-sizes t (deliver i) = delivered-sizes t (messageAt t i)
 effect-sizes t (show d output) = refl
 
-pub after-sizes : (caps : Capacities) (w : World) (cs : List Call) → after caps w cs .tables .sizes ≡ w .tables .sizes
+pub after-sizes : (caps : Capacities) (w : World) (cs : List Call)
+    → after caps w cs .tables .sizes ≡ w .tables .sizes
 after-sizes caps =
-    after-all caps (λ (u v : World). v .tables .sizes ≡ u .tables .sizes) (λ w. refl) (λ u v w p q. q ∙ p)
-    (λ w c. next-all caps (λ (v : World). v .tables .sizes ≡ w .tables .sizes) w c (λ e. effect-sizes (w .tables) c) refl)
+    after-all caps (λ (u v : World). v .tables .sizes ≡ u .tables .sizes) (λ w. refl)
+    (λ u v w p q. q ∙ p)
+    (λ w c. next-all caps (λ (v : World). v .tables .sizes ≡ w .tables .sizes) w c
+    (λ e. effect-sizes (w .tables) c) refl)
 
 -- ---- views only grow
 
 later-ge : (a b : Entry) → a .stamp ≤ laterOf a b .stamp
 later-ge a b =
-    by-test (ltb (a .stamp) (b .stamp)) (λ e. rw e (le-of-lt (ltb-true (a .stamp) (b .stamp) e))) (λ e. rw e (le-refl (a .stamp)))
+    by-test (ltb (a .stamp) (b .stamp)) (λ e. rw e (le-of-lt (ltb-true (a .stamp) (b .stamp) e)))
+    (λ e. rw e (le-refl (a .stamp)))
 
 abbrev pub ViewGrows : Tables → Tables → Type 0
 ViewGrows t u = (d k : ℕ) → t .view d k .stamp ≤ u .view d k .stamp
@@ -101,11 +118,13 @@ ViewGrows t u = (d k : ℕ) → t .view d k .stamp ≤ u .view d k .stamp
 view-put : (t : Tables) (d : ℕ) (f : ℕ → Entry) → ((k : ℕ) → t .view d k .stamp ≤ f k .stamp)
     → (e k : ℕ) → t .view e k .stamp ≤ put (t .view) d f e k .stamp
 view-put t d f h =
-    put-every (λ (e : ℕ) (g : ℕ → Entry). (k : ℕ) → t .view e k .stamp ≤ g k .stamp) (t .view) d f h (λ e n k. le-refl (t .view e k .stamp))
+    put-every (λ (e : ℕ) (g : ℕ → Entry). (k : ℕ) → t .view e k .stamp ≤ g k .stamp) (t .view) d f h
+    (λ e n k. le-refl (t .view e k .stamp))
 
 pub seen-ge : (view : ℕ → Entry) (s stamp k : ℕ) → view k .stamp ≤ seen view s stamp k .stamp
 seen-ge view s stamp k =
-    by-test (has s k) (λ e. rw e (later-ge (view k) (record { stamp = stamp; set = s }))) (λ e. rw e (le-refl (view k .stamp)))
+    by-test (has s k) (λ e. rw e (later-ge (view k) (record { stamp = stamp; set = s })))
+    (λ e. rw e (le-refl (view k .stamp)))
 
 delivered-view : (t : Tables) (m : Message) → ViewGrows t (delivered t m)
 unfolding delivered
@@ -114,12 +133,14 @@ delivered-view t (Prepared k s) =
     let d = writerOf s in
     let c = t .client d in
     view-put t d (cond (isLast c k) (seen (t .view d) (c .set) s) (t .view d))
-    (λ j. by-test (isLast c k) (λ e. rw e (seen-ge (t .view d) (c .set) s j)) (λ e. rw e (le-refl (t .view d j .stamp))))
+    (λ j. by-test (isLast c k) (λ e. rw e (seen-ge (t .view d) (c .set) s j))
+    (λ e. rw e (le-refl (t .view d j .stamp))))
 delivered-view t (Commit p s) = λ d k. le-refl (t .view d k .stamp)
 delivered-view t (Get d₀ k₀ s) = λ d k. le-refl (t .view d k .stamp)
 delivered-view t (Got d v e) =
     view-put t d (put (t .view d) (v .item) (laterOf (t .view d (v .item)) e))
-    (put-every (λ (k : ℕ) (x : Entry). t .view d k .stamp ≤ x .stamp) (t .view d) (v .item) (laterOf (t .view d (v .item)) e)
+    (put-every (λ (k : ℕ) (x : Entry). t .view d k .stamp ≤ x .stamp) (t .view d) (v .item)
+    (laterOf (t .view d (v .item)) e)
     (later-ge (t .view d (v .item)) e) (λ k n. le-refl (t .view d k .stamp)))
 
 effect-view : (t : Tables) (c : Call) → ViewGrows t (effect t c)
@@ -129,29 +150,40 @@ effect-view t (startWrite d₀ s bytes) = λ d k. le-refl (t .view d k .stamp)
 effect-view t (deliver i) = delivered-view t (messageAt t i)
 effect-view t (show d₀ output) = λ d k. le-refl (t .view d k .stamp)
 
-pub after-view : (caps : Capacities) (w : World) (cs : List Call) → ViewGrows (w .tables) (after caps w cs .tables)
+pub after-view : (caps : Capacities) (w : World) (cs : List Call)
+    → ViewGrows (w .tables) (after caps w cs .tables)
 after-view caps =
-    after-all caps (λ (u v : World). ViewGrows (u .tables) (v .tables)) (λ w d k. le-refl (w .tables .view d k .stamp))
+    after-all caps (λ (u v : World). ViewGrows (u .tables) (v .tables))
+    (λ w d k. le-refl (w .tables .view d k .stamp))
     (λ u v w p q d k. le-trans (p d k) (q d k))
-    (λ w c. next-all caps (λ (v : World). ViewGrows (w .tables) (v .tables)) w c (λ e. effect-view (w .tables) c) (λ d k. le-refl (w .tables .view d k .stamp)))
+    (λ w c. next-all caps (λ (v : World). ViewGrows (w .tables) (v .tables)) w c
+    (λ e. effect-view (w .tables) c) (λ d k. le-refl (w .tables .view d k .stamp)))
 
 -- ---- the history grows
 
-pub after-writes : (caps : Capacities) (w : World) (cs : List Call) (a : Write) → In a (w .writes) → In a (after caps w cs .writes)
+pub after-writes : (caps : Capacities) (w : World) (cs : List Call) (a : Write) → In a (w .writes)
+    → In a (after caps w cs .writes)
 after-writes caps =
-    after-all caps (λ (u v : World). (a : Write) → In a (u .writes) → In a (v .writes)) (λ w a i. i) (λ u v w p q a i. q a (p a i))
-    (λ w c. next-all caps (λ (v : World). (a : Write) → In a (w .writes) → In a (v .writes)) w c (λ e a i. in-left a (w .writes) (begun w c) i) (λ a i. i))
+    after-all caps (λ (u v : World). (a : Write) → In a (u .writes) → In a (v .writes)) (λ w a i. i)
+    (λ u v w p q a i. q a (p a i))
+    (λ w c. next-all caps (λ (v : World). (a : Write) → In a (w .writes) → In a (v .writes)) w c
+    (λ e a i. in-left a (w .writes) (begun w c) i) (λ a i. i))
 
-pub after-stores : (caps : Capacities) (w : World) (cs : List Call) (σ : Store) → In σ (w .stores) → In σ (after caps w cs .stores)
+pub after-stores : (caps : Capacities) (w : World) (cs : List Call) (σ : Store) → In σ (w .stores)
+    → In σ (after caps w cs .stores)
 after-stores caps =
-    after-all caps (λ (u v : World). (σ : Store) → In σ (u .stores) → In σ (v .stores)) (λ w σ i. i) (λ u v w p q σ i. q σ (p σ i))
-    (λ w c. next-all caps (λ (v : World). (σ : Store) → In σ (w .stores) → In σ (v .stores)) w c (λ e σ i. in-left σ (w .stores) (storing w c) i) (λ σ i. i))
+    after-all caps (λ (u v : World). (σ : Store) → In σ (u .stores) → In σ (v .stores)) (λ w σ i. i)
+    (λ u v w p q σ i. q σ (p σ i))
+    (λ w c. next-all caps (λ (v : World). (σ : Store) → In σ (w .stores) → In σ (v .stores)) w c
+    (λ e σ i. in-left σ (w .stores) (storing w c) i) (λ σ i. i))
 
-pub after-known : (caps : Capacities) (w : World) (cs : List Call) (a : Write) → In a (known (w .writes)) → In a (known (after caps w cs .writes))
+pub after-known : (caps : Capacities) (w : World) (cs : List Call) (a : Write)
+    → In a (known (w .writes)) → In a (known (after caps w cs .writes))
 after-known caps w cs a (inl e) = inl e
 after-known caps w cs a (inr i) = inr (after-writes caps w cs a i)
 
-delivered-stored : (t : Tables) (m : Message) (j s : ℕ) → stored (t .versions) j s ≡ true → stored (delivered t m .versions) j s ≡ true
+delivered-stored : (t : Tables) (m : Message) (j s : ℕ) → stored (t .versions) j s ≡ true
+    → stored (delivered t m .versions) j s ≡ true
 unfolding delivered
 delivered-stored t (Prepare v) j s e = stored-more (t .versions) (v ∷ []) j s e
 delivered-stored t (Prepared k r) j s e = e
@@ -159,7 +191,8 @@ delivered-stored t (Commit p r) j s e = e
 delivered-stored t (Get d k r) j s e = e
 delivered-stored t (Got d v latest) j s e = e
 
-effect-stored : (t : Tables) (c : Call) (j s : ℕ) → stored (t .versions) j s ≡ true → stored (effect t c .versions) j s ≡ true
+effect-stored : (t : Tables) (c : Call) (j s : ℕ) → stored (t .versions) j s ≡ true
+    → stored (effect t c .versions) j s ≡ true
 unfolding effect
 effect-stored t (startRead d r) j s e = e
 effect-stored t (startWrite d r bytes) j s e = e
@@ -179,7 +212,8 @@ grows-self w = record { writes = λ a i. i; versions = λ j s e. e; stores = λ 
 
 -- ---- the invariant holds throughout
 
-pub after-inv : (caps : Capacities) (w : World) → Inv caps w → (cs : List Call) → Inv caps (after caps w cs)
+pub after-inv : (caps : Capacities) (w : World) → Inv caps w → (cs : List Call)
+    → Inv caps (after caps w cs)
 unfolding after
 after-inv caps w inv [] = inv
 after-inv caps w inv (c ∷ cs) = after-inv caps (next caps w c) (next-inv caps w inv c) cs

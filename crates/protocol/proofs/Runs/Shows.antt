@@ -1,5 +1,5 @@
--- A showing of a read that is its client's last transaction: accepted with room enough, and its output bytes say the read's stamps and
--- values.
+-- A showing of a read that is its client's last transaction: accepted with room enough, and its
+-- output bytes say the read's stamps and values.
 use mathlib.Core.Bool.{true}
 use mathlib.Core.List.{List, _∷_, _++_}
 use mathlib.Core.Path.{_≡_, ap, _∙_, subst}
@@ -23,14 +23,17 @@ use Rattle.protocol.proofs.Ranges.Values.{SizesInRange, IsClient}
 use Rattle.protocol.proofs.Ranges.Clients.{ReadInRange, EndedInRange}
 use Rattle.protocol.proofs.Ranges.Tables.{Valid, valid-facts}
 use Rattle.protocol.proofs.Refusals.{accepted-show}
-use Rattle.protocol.proofs.Shown.{length-frame-read, frame-head-client, shown-number, shown-writer, shown-value}
+use Rattle.protocol.proofs.Shown.{length-frame-read, frame-head-client, shown-number}
+use Rattle.protocol.proofs.Shown.{shown-writer, shown-value}
 use Rattle.protocol.proofs.Invariant.{Inv}
 
 -- ---- a showing of a read that is the client's last transaction
 
-module _ (caps : Capacities) (x : World) (inv : Inv caps x) (d s n : ℕ) (stamps values : ℕ → ℕ) (room : List ℕ)
+module _ (caps : Capacities) (x : World) (inv : Inv caps x) (d s n : ℕ) (stamps values : ℕ → ℕ)
+    (room : List ℕ)
     (isClient : IsClient (x .tables .sizes) d) (below : s < 2 ^ x .tables .sizes .items)
-    (kept : x .tables .client d ≡ resting n (read s stamps values)) (enough : 10 + 9 * count s ≤ length room) where
+    (kept : x .tables .client d ≡ resting n (read s stamps values))
+    (enough : 10 + 9 * count s ≤ length room) where
   valid-here : Valid caps (x .tables)
   valid-here = valid-facts caps (x .tables) (inv .inRange)
 
@@ -73,10 +76,12 @@ module _ (caps : Capacities) (x : World) (inv : Inv caps x) (d s n : ℕ) (stamp
   output-is = rw accepted (ap (λ (f : List ℕ). f ++ rest) frame-is)
 
   pub head-is : take 10 output ≡ 0x21 ∷ d ∷ bigEndian 8 s
-  head-is = ap (take 10) output-is ∙ frame-head-client d s stamps values rest (omega (arith, isClient .1, sizes .clients))
+  head-is = ap (take 10) output-is
+      ∙ frame-head-client d s stamps values rest (omega (arith, isClient .1, sizes .clients))
 
   ended : ReadInRange (x .tables .sizes) s stamps values
-  ended = subst (λ (c : Client). EndedInRange (x .tables .sizes) (c .last)) kept (valid-here .inRange .client d isClient .last)
+  ended = subst (λ (c : Client). EndedInRange (x .tables .sizes) (c .last)) kept
+      (valid-here .inRange .client d isClient .last)
 
   module _ (k : ℕ) (member : has s k ≡ true) where
     number-fits : numberOf (stamps k) < 2 ^ 32
@@ -86,10 +91,13 @@ module _ (caps : Capacities) (x : World) (inv : Inv caps x) (d s n : ℕ) (stamp
         (λ e. ended .stamps k member (eqb-false (stamps k) 0 e) .fits)
 
     pub number-is : shownNumber s output k ≡ numberOf (stamps k)
-    number-is = ap (λ (o : List ℕ). numberAt 4 o (10 + 9 * rank s k)) output-is ∙ shown-number d s stamps values rest k member below-64 number-fits
+    number-is = ap (λ (o : List ℕ). numberAt 4 o (10 + 9 * rank s k)) output-is
+        ∙ shown-number d s stamps values rest k member below-64 number-fits
 
     pub writer-is : shownWriter s output k ≡ writerOf (stamps k)
-    writer-is = ap (λ (o : List ℕ). numberAt 1 o (14 + 9 * rank s k)) output-is ∙ shown-writer d s stamps values rest k member below-64
+    writer-is = ap (λ (o : List ℕ). numberAt 1 o (14 + 9 * rank s k)) output-is
+        ∙ shown-writer d s stamps values rest k member below-64
 
     pub value-is : shownValue s output k ≡ values k
-    value-is = ap (λ (o : List ℕ). numberAt 4 o (15 + 9 * rank s k)) output-is ∙ shown-value d s stamps values rest k member below-64 (ended .values k member)
+    value-is = ap (λ (o : List ℕ). numberAt 4 o (15 + 9 * rank s k)) output-is
+        ∙ shown-value d s stamps values rest k member below-64 (ended .values k member)

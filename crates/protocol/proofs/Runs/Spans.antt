@@ -7,7 +7,8 @@ use native.Mathlib.Nat.{zero-add}
 use native.Mathlib.Omega.{arith}
 use lib.Dec.{eqb}
 use borrow.Author.Tests.{eqb-true, eq-eqb, ne-eqb}
-use Rattle.basics.proofs.Cases.{by-test, not-both, and-left, and-right, and-both, not-true, eqb-same}
+use Rattle.basics.proofs.Cases.{by-test, not-both, and-left, and-right, and-both, not-true}
+use Rattle.basics.proofs.Cases.{eqb-same}
 use Rattle.basics.specs.Lists.{counted}
 use Rattle.basics.proofs.Lists.{counted-append, counted-map, counted-all}
 use Rattle.itemset.specs.Set.{has, count, members}
@@ -17,19 +18,24 @@ use Rattle.protocol.specs.Tables.{Client, idle}
 use Rattle.protocol.specs.Range.{Capacities}
 use Rattle.protocol.specs.Steps.{reader, gets, asks}
 use Rattle.protocol.specs.Calls.{Call, startRead, refusal, effect}
-use Rattle.protocol.specs.World.{World, Labelled, labelled, placed, joining, leaving, accepts, moved, next, after, joiningOver, leavingOver, isGet, isRequest, ownerOf, delivers, endsFor, stays, startsFor, rests}
+use Rattle.protocol.specs.World.{World, Labelled, labelled, placed, joining, leaving, accepts}
+use Rattle.protocol.specs.World.{moved, next, after, joiningOver, leavingOver, isGet}
+use Rattle.protocol.specs.World.{isRequest, ownerOf, delivers, endsFor, stays, startsFor}
+use Rattle.protocol.specs.World.{rests}
 use Rattle.protocol.proofs.Put.{put-same}
 use Rattle.protocol.proofs.Refusals.{AcceptedStart, accepted-read, accepted-deliver}
 use Rattle.protocol.proofs.Invariant.{historyOf, Inv}
 use Rattle.protocol.proofs.Invariant.Step.{taken, next-inv}
 use Rattle.protocol.proofs.Runs.Run.{next-all}
-use Rattle.protocol.proofs.Runs.Touch.{refused-outcome, Way, quiet, starts, answers, way, answers-owner, no-answer}
+use Rattle.protocol.proofs.Runs.Touch.{refused-outcome, Way, quiet, starts, answers, way}
+use Rattle.protocol.proofs.Runs.Touch.{answers-owner, no-answer}
 use Rattle.protocol.proofs.Runs.ReadSpan.{Reading}
 use Rattle.protocol.proofs.Runs.ReadStep.{read-goes-on}
 
 -- ---- a read from its start
 
-module _ (caps : Capacities) (w : World) (inv : Inv caps w) (d s : ℕ) (accepted : refusal caps (w .tables) (startRead d s) ≡ 0) where
+module _ (caps : Capacities) (w : World) (inv : Inv caps w) (d s : ℕ)
+    (accepted : refusal caps (w .tables) (startRead d s) ≡ 0) where
   start : AcceptedStart caps (w .tables) d s
   start = accepted-read caps (w .tables) d s .0 accepted
 
@@ -45,9 +51,12 @@ module _ (caps : Capacities) (w : World) (inv : Inv caps w) (d s : ℕ) (accepte
         set = ap (λ (c : Client). c .set) client-is;
         asks = ap (λ (c : Client). c .asked) client-is;
         busy = ap (λ (c : Client). eqb (c .awaited) 0) client-is ∙ ne-eqb s 0 (start .some);
-        once = λ k. ap (λ (c : Client). 0 + cond (has (c .awaited) k) 1 0) client-is ∙ zero-add (cond (has s k) 1 0);
-        replied = zero-add (count (moved w (startRead d s) .tables .client d .awaited)) ∙ ap (λ (c : Client). count (c .awaited)) client-is;
-        answered = λ k e f. not-both e (sym (ap (λ (c : Client). has (c .awaited) k) client-is) ∙ f);
+        once = λ k. ap (λ (c : Client). 0 + cond (has (c .awaited) k) 1 0) client-is
+            ∙ zero-add (cond (has s k) 1 0);
+        replied = zero-add (count (moved w (startRead d s) .tables .client d .awaited))
+            ∙ ap (λ (c : Client). count (c .awaited)) client-is;
+        answered = λ k e f. not-both e (sym (ap (λ (c : Client). has (c .awaited) k) client-is)
+            ∙ f);
       }
 
   -- one request for each item of its set
@@ -55,81 +64,114 @@ module _ (caps : Capacities) (w : World) (inv : Inv caps w) (d s : ℕ) (accepte
   unfolding joining isGet
   read-requests =
       counted-map (labelled d (w .time) (w .time)) (isRequest d) (gets (w .tables) d s)
-      ∙ counted-map (λ k. Get d k (asks (w .tables) d k)) (λ m. isRequest d (labelled d (w .time) (w .time) m)) (members (w .tables .sizes .items) s)
-      ∙ counted-all (λ k. isRequest d (labelled d (w .time) (w .time) (Get d k (asks (w .tables) d k)))) (members (w .tables .sizes .items) s) (λ k i. rw (eqb-same d) refl)
+      ∙ counted-map (λ k. Get d k (asks (w .tables) d k))
+      (λ m. isRequest d (labelled d (w .time) (w .time) m))
+      (members (w .tables .sizes .items) s)
+      ∙ counted-all (λ k. isRequest d (labelled d (w .time) (w .time)
+      (Get d k (asks (w .tables) d k)))) (members (w .tables .sizes .items) s)
+      (λ k i. rw (eqb-same d) refl)
       ∙ length-members s (w .tables .sizes .items) (start .set)
 
 -- ---- while no call ends it
 
-pub read-during : (caps : Capacities) (v : World) → Inv caps v → (d s : ℕ) (asked : ℕ → ℕ) (left : List Labelled) → Reading d s asked v left
+pub read-during : (caps : Capacities) (v : World) → Inv caps v
+    → (d s : ℕ) (asked : ℕ → ℕ) (left : List Labelled) → Reading d s asked v left
     → (cs : List Call) → stays caps v d cs ≡ true
-    → Reading d s asked (after caps v cs) (left ++ leavingOver caps v cs) × (counted (isRequest d) (joiningOver caps v cs) ≡ 0)
+    → Reading d s asked (after caps v cs) (left ++ leavingOver caps v cs)
+    × (counted (isRequest d) (joiningOver caps v cs) ≡ 0)
 unfolding after leavingOver joiningOver stays counted
-read-during caps v inv d s asked left r [] e = (subst (λ (l : List Labelled). Reading d s asked v l) (sym (append-nil left)) r, refl)
+read-during caps v inv d s asked left r [] e =
+    (subst (λ (l : List Labelled). Reading d s asked v l) (sym (append-nil left)) r, refl)
 read-during caps v inv d s asked left r (c ∷ cs) e =
-    let open′ : endsFor caps v d c ≡ false = not-true (endsFor caps v d c) (and-left (not (endsFor caps v d c)) (stays caps (next caps v c) d cs) e) in
+    let open′ : endsFor caps v d c ≡ false =
+    not-true (endsFor caps v d c)
+    (and-left (not (endsFor caps v d c)) (stays caps (next caps v c) d cs) e) in
     let one = read-goes-on caps v inv d s asked left r c open′ in
-    let rest = read-during caps (next caps v c) (next-inv caps v inv c) d s asked (left ++ cond (accepts caps v c) (leaving v c) []) (one .0) cs
+    let rest = read-during caps (next caps v c) (next-inv caps v inv c) d s asked
+    (left ++ cond (accepts caps v c) (leaving v c) []) (one .0) cs
     (and-right (not (endsFor caps v d c)) (stays caps (next caps v c) d cs) e) in (
       subst (λ (l : List Labelled). Reading d s asked (after caps (next caps v c) cs) l)
-          (append-assoc left (cond (accepts caps v c) (leaving v c) []) (leavingOver caps (next caps v c) cs)) (rest .0),
-      counted-append (isRequest d) (cond (accepts caps v c) (joining v c) []) (joiningOver caps (next caps v c) cs) ∙ omega (arith, one .1, rest .1),
+          (append-assoc left (cond (accepts caps v c) (leaving v c) [])
+          (leavingOver caps (next caps v c) cs)) (rest .0),
+      counted-append (isRequest d) (cond (accepts caps v c) (joining v c) [])
+          (joiningOver caps (next caps v c) cs) ∙ omega (arith, one .1, rest .1),
     )
 
 -- ---- a client at rest: while it starts nothing, its record stays
 
-module _ (caps : Capacities) (v : World) (inv : Inv caps v) (d : ℕ) (rested : v .tables .client d .mode ≡ idle) where
-  rest-way : {c : Call} → refusal caps (v .tables) c ≡ 0 → (accepts caps v c && startsFor d c) ≡ false → Way caps v inv d c
+module _ (caps : Capacities) (v : World) (inv : Inv caps v) (d : ℕ)
+    (rested : v .tables .client d .mode ≡ idle) where
+  rest-way : {c : Call} → refusal caps (v .tables) c ≡ 0
+      → (accepts caps v c && startsFor d c) ≡ false → Way caps v inv d c
       → effect (v .tables) c .client d ≡ v .tables .client d
   rest-way a f (quiet c q) = q .client
-  rest-way a f (starts c t) = not-both (and-both (accepts caps v c) (startsFor d c) (eq-eqb (refusal caps (v .tables) c) 0 a) t) f
+  rest-way a f (starts c t) = not-both
+      (and-both (accepts caps v c) (startsFor d c) (eq-eqb (refusal caps (v .tables) c) 0 a) t) f
   rest-way a f (answers i here t) =
-      absurd (no-answer (historyOf v) (v .tables .client (ownerOf (placed v i .message))) (placed v i .label) (placed v i .message) d t
-      (inv .fits (placed v i) here) (subst (λ (x : ℕ). v .tables .client x .mode ≡ idle) (sym (answers-owner (placed v i .message) d t)) rested))
+      absurd (no-answer (historyOf v) (v .tables .client (ownerOf (placed v i .message)))
+      (placed v i .label) (placed v i .message) d t
+      (inv .fits (placed v i) here)
+      (subst (λ (x : ℕ). v .tables .client x .mode ≡ idle)
+      (sym (answers-owner (placed v i .message) d t)) rested))
 
-  rest-step : (c : Call) → (accepts caps v c && startsFor d c) ≡ false → next caps v c .tables .client d ≡ v .tables .client d
+  rest-step : (c : Call) → (accepts caps v c && startsFor d c) ≡ false
+      → next caps v c .tables .client d ≡ v .tables .client d
   rest-step c f =
       next-all caps (λ (x : World). x .tables .client d ≡ v .tables .client d) v c
       (λ a. rest-way a f (way caps v inv d c
-      (λ i e. taken caps v inv i (accepted-deliver caps (v .tables) i .0 (subst (λ (x : Call). refusal caps (v .tables) x ≡ 0) e a)) .isIn)))
+      (λ i e. taken caps v inv i (accepted-deliver caps
+      (v .tables) i .0 (subst (λ (x : Call). refusal caps (v .tables) x ≡ 0) e a)) .isIn)))
       refl
 
 -- and no delivery reports an end of its
-rest-silent : (caps : Capacities) (v : World) → Inv caps v → (d : ℕ) → v .tables .client d .mode ≡ idle → (c : Call)
+rest-silent : (caps : Capacities) (v : World) → Inv caps v → (d : ℕ)
+    → v .tables .client d .mode ≡ idle → (c : Call)
     → (accepts caps v c && startsFor d c) ≡ false → endsFor caps v d c ≡ false
 rest-silent caps v inv d m c f =
     by-test (accepts caps v c)
     (λ t. let a = eqb-true (refusal caps (v .tables) c) 0 t in
     by-way a f (way caps v inv d c
-    (λ i e. taken caps v inv i (accepted-deliver caps (v .tables) i .0 (subst (λ (x : Call). refusal caps (v .tables) x ≡ 0) e a)) .isIn)))
+    (λ i e. taken caps v inv i (accepted-deliver caps
+    (v .tables) i .0 (subst (λ (x : Call). refusal caps (v .tables) x ≡ 0) e a)) .isIn)))
     (λ t. rw (refused-outcome caps v c t) (and-false (delivers v d c)))
   where
-    by-way : {x : Call} → refusal caps (v .tables) x ≡ 0 → (accepts caps v x && startsFor d x) ≡ false → Way caps v inv d x → endsFor caps v d x ≡ false
+    by-way : {x : Call} → refusal caps (v .tables) x ≡ 0
+        → (accepts caps v x && startsFor d x) ≡ false → Way caps v inv d x
+        → endsFor caps v d x ≡ false
     by-way a f (quiet x q) = q .ends
-    by-way a f (starts x t) = not-both (and-both (accepts caps v x) (startsFor d x) (eq-eqb (refusal caps (v .tables) x) 0 a) t) f
+    by-way a f (starts x t) = not-both
+        (and-both (accepts caps v x) (startsFor d x) (eq-eqb (refusal caps (v .tables) x) 0 a) t) f
     by-way a f (answers i here t) =
-        absurd (no-answer (historyOf v) (v .tables .client (ownerOf (placed v i .message))) (placed v i .label) (placed v i .message) d t
-        (inv .fits (placed v i) here) (subst (λ (x : ℕ). v .tables .client x .mode ≡ idle) (sym (answers-owner (placed v i .message) d t)) m))
+        absurd (no-answer (historyOf v) (v .tables .client (ownerOf (placed v i .message)))
+        (placed v i .label) (placed v i .message) d t
+        (inv .fits (placed v i) here)
+        (subst (λ (x : ℕ). v .tables .client x .mode ≡ idle)
+        (sym (answers-owner (placed v i .message) d t)) m))
 
-pub rest-stays : (caps : Capacities) (v : World) → Inv caps v → (d : ℕ) → v .tables .client d .mode ≡ idle → (cs : List Call) → rests caps v d cs ≡ true
+pub rest-stays : (caps : Capacities) (v : World) → Inv caps v → (d : ℕ)
+    → v .tables .client d .mode ≡ idle → (cs : List Call) → rests caps v d cs ≡ true
     → stays caps v d cs ≡ true
 unfolding stays rests
 rest-stays caps v inv d m [] e = refl
 rest-stays caps v inv d m (c ∷ cs) e =
     let f : (accepts caps v c && startsFor d c) ≡ false =
-    not-true (accepts caps v c && startsFor d c) (and-left (not (accepts caps v c && startsFor d c)) (rests caps (next caps v c) d cs) e) in
+    not-true (accepts caps v c && startsFor d c)
+    (and-left (not (accepts caps v c && startsFor d c)) (rests caps (next caps v c) d cs) e) in
     let one = rest-step caps v inv d m c f in
     rw (rest-silent caps v inv d m c f)
-    (rest-stays caps (next caps v c) (next-inv caps v inv c) d (ap (λ (x : Client). x .mode) one ∙ m) cs
+    (rest-stays caps (next caps v c) (next-inv caps v inv c) d
+    (ap (λ (x : Client). x .mode) one ∙ m) cs
     (and-right (not (accepts caps v c && startsFor d c)) (rests caps (next caps v c) d cs) e))
 
-pub at-rest : (caps : Capacities) (v : World) → Inv caps v → (d : ℕ) → v .tables .client d .mode ≡ idle → (cs : List Call) → rests caps v d cs ≡ true
+pub at-rest : (caps : Capacities) (v : World) → Inv caps v → (d : ℕ)
+    → v .tables .client d .mode ≡ idle → (cs : List Call) → rests caps v d cs ≡ true
     → after caps v cs .tables .client d ≡ v .tables .client d
 unfolding after rests
 at-rest caps v inv d m [] e = refl
 at-rest caps v inv d m (c ∷ cs) e =
     let f : (accepts caps v c && startsFor d c) ≡ false =
-    not-true (accepts caps v c && startsFor d c) (and-left (not (accepts caps v c && startsFor d c)) (rests caps (next caps v c) d cs) e) in
+    not-true (accepts caps v c && startsFor d c)
+    (and-left (not (accepts caps v c && startsFor d c)) (rests caps (next caps v c) d cs) e) in
     let one = rest-step caps v inv d m c f in
     at-rest caps (next caps v c) (next-inv caps v inv c) d (ap (λ (x : Client). x .mode) one ∙ m) cs
     (and-right (not (accepts caps v c && startsFor d c)) (rests caps (next caps v c) d cs) e)

@@ -1,5 +1,5 @@
--- Which calls touch a client's record: its own starts, and the deliveries of its prepared replies and gots; any other leaves it as it
--- was, sends it no request and brings it no reply.
+-- Which calls touch a client's record: its own starts, and the deliveries of its prepared replies
+-- and gots; any other leaves it as it was, sends it no request and brings it no reply.
 use mathlib.Core.Bool.{Bool, true, false, and-false}
 use mathlib.Core.List.{List, [], map}
 use mathlib.Core.Logic.{inl, ⊎-elim}
@@ -18,9 +18,13 @@ use Rattle.protocol.specs.declared.Message.the-variants.{Prepare, Prepar
 use Rattle.protocol.specs.declared.Answer.the-variants.{Refused}
 use Rattle.protocol.specs.Tables.{Tables, Client, Mode, idle, reading, writing, writerOf}
 use Rattle.protocol.specs.Range.{Capacities, isReading, isWriting}
-use Rattle.protocol.specs.Steps.{delivered, joined, isLast, touches, gets, prepares, reader, writer, messageAt}
-use Rattle.protocol.specs.Calls.{Call, startRead, startWrite, deliver, show, refusal, effect, step, reply, outcomeOf, pick}
-use Rattle.protocol.specs.World.{World, Label, Labelled, labelled, placed, joining, leaving, isGet, isGot, isRequest, isReply, ownerOf, startsFor, accepts, outcomeIn, delivers, endsFor}
+use Rattle.protocol.specs.Steps.{delivered, joined, isLast, touches, gets, prepares, reader}
+use Rattle.protocol.specs.Steps.{writer, messageAt}
+use Rattle.protocol.specs.Calls.{Call, startRead, startWrite, deliver, show, refusal, effect}
+use Rattle.protocol.specs.Calls.{step, reply, outcomeOf, pick}
+use Rattle.protocol.specs.World.{World, Label, Labelled, labelled, placed, joining, leaving}
+use Rattle.protocol.specs.World.{isGet, isGot, isRequest, isReply, ownerOf, startsFor}
+use Rattle.protocol.specs.World.{accepts, outcomeIn, delivers, endsFor}
 use Rattle.protocol.proofs.Put.{put-other}
 use Rattle.protocol.proofs.Invariant.{History, Fits, Inv}
 use Rattle.protocol.proofs.Invariant.Delivery.{placed-message}
@@ -33,13 +37,16 @@ answersTo d (Commit p s) = false
 answersTo d (Get e k s) = false
 answersTo d (Got e v latest) = eqb e d
 
-pub delivered-client : (t : Tables) (m : Message) (d : ℕ) → answersTo d m ≡ false → delivered t m .client d ≡ t .client d
+pub delivered-client : (t : Tables) (m : Message) (d : ℕ) → answersTo d m ≡ false
+    → delivered t m .client d ≡ t .client d
 unfolding delivered answersTo
 delivered-client t (Prepare v) d e = refl
-delivered-client t (Prepared k s) d e = put-other (t .client) (writerOf s) _ d (λ q. eqb-false (writerOf s) d e (sym q))
+delivered-client t (Prepared k s) d e =
+    put-other (t .client) (writerOf s) _ d (λ q. eqb-false (writerOf s) d e (sym q))
 delivered-client t (Commit p s) d e = refl
 delivered-client t (Get e′ k s) d e = refl
-delivered-client t (Got e′ v latest) d e = put-other (t .client) e′ _ d (λ q. eqb-false e′ d e (sym q))
+delivered-client t (Got e′ v latest) d e =
+    put-other (t .client) e′ _ d (λ q. eqb-false e′ d e (sym q))
 
 -- a delivery makes no get join
 joined-no-get : (t : Tables) (m j : Message) → In j (joined t m) → isGet j ≡ false
@@ -47,7 +54,10 @@ unfolding joined isGet
 joined-no-get t (Prepare v) j (inl e) = ap isGet e
 joined-no-get t (Prepared k s) j i =
     by-test (isLast (t .client (writerOf s)) k)
-    (λ e. let q = in-map (λ p. Commit p s) j (upto (t .sizes .partitions) (λ p. touches t (t .client (writerOf s) .set) p (t .sizes .items))) (rw e at i) in ap isGet (q .2))
+    (λ e. let q = in-map (λ p. Commit p s) j
+    (upto (t .sizes .partitions)
+    (λ p. touches t (t .client (writerOf s) .set) p (t .sizes .items))) (rw e at i) in
+    ap isGet (q .2))
     (λ e. absurd (rw e at i))
 joined-no-get t (Commit p s) j i = absurd i
 joined-no-get t (Get d k s) j (inl e) = ap isGet e
@@ -65,7 +75,8 @@ got-answers (Got e′ v latest) d e o = eq-eqb e′ d o
 -- ---- which deliveries report an end
 
 -- a refused call reports none
-pub refused-outcome : (caps : Capacities) (v : World) (c : Call) → accepts caps v c ≡ false → outcomeIn (step caps (v .tables) c .answer) ≡ 0
+pub refused-outcome : (caps : Capacities) (v : World) (c : Call) → accepts caps v c ≡ false
+    → outcomeIn (step caps (v .tables) c .answer) ≡ 0
 unfolding step outcomeIn
 refused-outcome caps v c f = go (refusal caps (v .tables) c) f
   where
@@ -74,13 +85,16 @@ refused-outcome caps v c f = go (refusal caps (v .tables) c) f
     go (suc r) e = refl
 
 -- an accepted delivery reports its message's outcome
-pub delivered-outcome : (caps : Capacities) (v : World) (i : ℕ) → refusal caps (v .tables) (deliver i) ≡ 0
-    → outcomeIn (step caps (v .tables) (deliver i) .answer) ≡ outcomeOf (v .tables) (messageAt (v .tables) i)
+pub delivered-outcome : (caps : Capacities) (v : World) (i : ℕ)
+    → refusal caps (v .tables) (deliver i) ≡ 0
+    → outcomeIn (step caps (v .tables) (deliver i) .answer) ≡ outcomeOf (v .tables)
+    (messageAt (v .tables) i)
 unfolding step outcomeIn reply
 delivered-outcome caps v i e = rw e refl
 
 -- a message of client d that is no answer to it has the outcome none
-no-outcome : (t : Tables) (m : Message) (d : ℕ) → ownerOf m ≡ d → answersTo d m ≡ false → outcomeOf t m ≡ 0
+no-outcome : (t : Tables) (m : Message) (d : ℕ) → ownerOf m ≡ d → answersTo d m ≡ false
+    → outcomeOf t m ≡ 0
 unfolding ownerOf answersTo outcomeOf
 no-outcome t (Prepare v) d o f = refl
 no-outcome t (Prepared k s) d o f = not-both (eq-eqb (writerOf s) d o) f
@@ -103,7 +117,8 @@ pub record Quiet (caps : Capacities) (v : World) (c : Call) (d : ℕ) : Type 0 w
   pub replies : (l : Labelled) → In l (leaving v c) → isReply d l ≡ false
 
 -- labels of another client make no request of d
-others-labelled : (d e n : ℕ) → eqb e d ≡ false → (ms : List Message) → counted (isRequest d) (map (labelled e n n) ms) ≡ 0
+others-labelled : (d e n : ℕ) → eqb e d ≡ false → (ms : List Message)
+    → counted (isRequest d) (map (labelled e n n) ms) ≡ 0
 others-labelled d e n f ms =
     none-counted (isRequest d) (map (labelled e n n) ms)
     (λ x i. let q = in-map (labelled e n n) x ms i in ap (isRequest d) (q .2) ∙ rw f refl)
@@ -114,28 +129,33 @@ module _ (caps : Capacities) (v : World) (inv : Inv caps v) (d : ℕ) where
   unfolding joining
   no-requests i =
       none-counted (isRequest d) (joining v (deliver i))
-      (λ x p. let q = in-map (labelled (placed v i .label .client) (placed v i .label .start) (v .time)) x (joined (v .tables) (placed v i .message)) p in
+      (λ x p. let q = in-map (labelled (placed v i .label .client) (placed v i .label .start)
+      (v .time)) x (joined (v .tables) (placed v i .message)) p in
       ap (isRequest d) (q .2)
       ∙ by-test (eqb (placed v i .label .client) d)
       (λ t. rw t (joined-no-get (v .tables) (placed v i .message) (q .0) (q .1)))
       (λ t. rw t refl))
 
-  no-end : (i : ℕ) → In (placed v i) (v .pile) → answersTo d (placed v i .message) ≡ false → endsFor caps v d (deliver i) ≡ false
+  no-end : (i : ℕ) → In (placed v i) (v .pile) → answersTo d (placed v i .message) ≡ false
+      → endsFor caps v d (deliver i) ≡ false
   unfolding delivers
   no-end i here f =
       by-test (eqb (placed v i .label .client) d)
       (λ t.
       let owner : ownerOf (messageAt (v .tables) i) ≡ d =
-      ap ownerOf (sym (placed-message caps v inv i)) ∙ sym (inv .owners (placed v i) here) ∙ eqb-true (placed v i .label .client) d t in
+      ap ownerOf (sym (placed-message caps v inv i)) ∙ sym (inv .owners (placed v i) here)
+      ∙ eqb-true (placed v i .label .client) d t in
       let none : outcomeIn (step caps (v .tables) (deliver i) .answer) ≡ 0 =
       by-test (accepts caps v (deliver i))
       (λ a. delivered-outcome caps v i (eqb-true (refusal caps (v .tables) (deliver i)) 0 a)
-      ∙ no-outcome (v .tables) (messageAt (v .tables) i) d owner (subst (λ (m : Message). answersTo d m ≡ false) (placed-message caps v inv i) f))
+      ∙ no-outcome (v .tables) (messageAt (v .tables) i) d owner
+      (subst (λ (m : Message). answersTo d m ≡ false) (placed-message caps v inv i) f))
       (λ a. refused-outcome caps v (deliver i) a) in
       rw none (and-false (eqb (placed v i .label .client) d)))
       (λ t. rw t refl)
 
-  quiet-delivery : (i : ℕ) → In (placed v i) (v .pile) → answersTo d (placed v i .message) ≡ false → Quiet caps v (deliver i) d
+  quiet-delivery : (i : ℕ) → In (placed v i) (v .pile) → answersTo d (placed v i .message) ≡ false
+      → Quiet caps v (deliver i) d
   unfolding effect leaving
   quiet-delivery i here f =
       record {
@@ -147,8 +167,11 @@ module _ (caps : Capacities) (v : World) (inv : Inv caps v) (d : ℕ) where
             (λ e. ap (isReply d) e
             ∙ by-test (isReply d (placed v i))
             (λ t. not-both
-            (got-answers (placed v i .message) d (and-right (eqb (placed v i .label .client) d) (isGot (placed v i .message)) t)
-            (sym (inv .owners (placed v i) here) ∙ eqb-true (placed v i .label .client) d (and-left (eqb (placed v i .label .client) d) (isGot (placed v i .message)) t)))
+            (got-answers (placed v i .message) d
+            (and-right (eqb (placed v i .label .client) d) (isGot (placed v i .message)) t)
+            (sym (inv .owners (placed v i) here)
+            ∙ eqb-true (placed v i .label .client) d
+            (and-left (eqb (placed v i .label .client) d) (isGot (placed v i .message)) t)))
             f)
             (λ t. t))
             (λ z. absurd z) p;
@@ -158,7 +181,8 @@ module _ (caps : Capacities) (v : World) (inv : Inv caps v) (d : ℕ) where
   pub data Way : Call → Type 0 where
     quiet : (c : Call) → Quiet caps v c d → Way c
     starts : (c : Call) → startsFor d c ≡ true → Way c
-    answers : (i : ℕ) → In (placed v i) (v .pile) → answersTo d (placed v i .message) ≡ true → Way (deliver i)
+    answers : (i : ℕ) → In (placed v i) (v .pile) → answersTo d (placed v i .message) ≡ true
+        → Way (deliver i)
 
   pub way : (c : Call) → ((i : ℕ) → c ≡ deliver i → In (placed v i) (v .pile)) → Way c
   unfolding effect joining leaving startsFor delivers
@@ -168,7 +192,8 @@ module _ (caps : Capacities) (v : World) (inv : Inv caps v) (d : ℕ) where
       (λ f. quiet (startRead e s)
       (record {
         ends = refl;
-        client = put-other (v .tables .client) e (reader (v .tables) e s) d (λ q. eqb-false e d f (sym q));
+        client = put-other (v .tables .client) e (reader (v .tables) e s) d
+            (λ q. eqb-false e d f (sym q));
         requests = others-labelled d e (v .time) f (gets (v .tables) e s);
         replies = λ l p. absurd p;
       }))
@@ -178,7 +203,8 @@ module _ (caps : Capacities) (v : World) (inv : Inv caps v) (d : ℕ) where
       (λ f. quiet (startWrite e s bytes)
       (record {
         ends = refl;
-        client = put-other (v .tables .client) e (writer (v .tables) e s bytes) d (λ q. eqb-false e d f (sym q));
+        client = put-other (v .tables .client) e (writer (v .tables) e s bytes) d
+            (λ q. eqb-false e d f (sym q));
         requests = others-labelled d e (v .time) f (prepares (v .tables) e s bytes);
         replies = λ l p. absurd p;
       }))
@@ -187,7 +213,13 @@ module _ (caps : Capacities) (v : World) (inv : Inv caps v) (d : ℕ) where
       (λ t. answers i (here i refl) t)
       (λ f. quiet (deliver i) (quiet-delivery i (here i refl) f))
   way (show e output) here =
-      quiet (show e output) (record { ends = refl; client = refl; requests = none-here; replies = λ l p. absurd p })
+      quiet (show e output) (record {
+        ends = refl;
+        client = refl;
+        requests = none-here;
+        replies =
+            λ l p. absurd p;
+      })
     where
       none-here : counted (isRequest d) [] ≡ 0
       none-here = none-counted (isRequest d) [] (λ x p. absurd p)
@@ -199,17 +231,20 @@ unfolding isReading
 reading-not-writing r w = not-both (ap isReading r) (ap isReading w)
 
 -- an answer to a reading client is a got
-pub got-of : (h : History) (c : Client) (l : Label) (m : Message) (d : ℕ) → answersTo d m ≡ true → Fits h c l m → c .mode ≡ reading
+pub got-of : (h : History) (c : Client) (l : Label) (m : Message) (d : ℕ) → answersTo d m ≡ true
+    → Fits h c l m → c .mode ≡ reading
     → (u : Version) × ((e : Entry) × (m ≡ Got d u e))
 unfolding answersTo Fits
 got-of h c l (Prepare v) d t f r = not-both t refl
 got-of h c l (Prepared k s) d t f r = reading-not-writing r (f .mode)
 got-of h c l (Commit p s) d t f r = not-both t refl
 got-of h c l (Get e k s) d t f r = not-both t refl
-got-of h c l (Got e v latest) d t f r = (v, (latest, ap (λ (x : ℕ). Got x v latest) (eqb-true e d t)))
+got-of h c l (Got e v latest) d t f r =
+    (v, (latest, ap (λ (x : ℕ). Got x v latest) (eqb-true e d t)))
 
 -- an answer to a writing client is a prepared reply, of its stamp
-pub prepared-of : (h : History) (c : Client) (l : Label) (m : Message) (d : ℕ) → answersTo d m ≡ true → Fits h c l m → c .mode ≡ writing
+pub prepared-of : (h : History) (c : Client) (l : Label) (m : Message) (d : ℕ)
+    → answersTo d m ≡ true → Fits h c l m → c .mode ≡ writing
     → (k : ℕ) × ((s : ℕ) × (m ≡ Prepared k s) × (writerOf s ≡ d) × (c .stamp ≡ s))
 unfolding answersTo Fits
 prepared-of h c l (Prepare v) d t f r = not-both t refl
@@ -219,7 +254,8 @@ prepared-of h c l (Get e k s) d t f r = not-both t refl
 prepared-of h c l (Got e v latest) d t f r = reading-not-writing (f .mode) r
 
 -- and an idle client has none
-pub no-answer : (h : History) (c : Client) (l : Label) (m : Message) (d : ℕ) → answersTo d m ≡ true → Fits h c l m → c .mode ≡ idle → ⊥
+pub no-answer : (h : History) (c : Client) (l : Label) (m : Message) (d : ℕ) → answersTo d m ≡ true
+    → Fits h c l m → c .mode ≡ idle → ⊥
 unfolding answersTo Fits isReading isWriting
 no-answer h c l (Prepare v) d t f r = not-both t refl
 no-answer h c l (Prepared k s) d t f r = not-both (ap isWriting (f .mode)) (ap isWriting r)

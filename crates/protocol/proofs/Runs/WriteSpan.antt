@@ -1,4 +1,5 @@
--- A write under way, up to its end: its stamp and set stay, and with its end its client's view is nowhere older on the items written.
+-- A write under way, up to its end: its stamp and set stay, and with its end its client's view is
+-- nowhere older on the items written.
 use mathlib.Core.Bool.{true, false, cond, not, and-false}
 use mathlib.Core.List.{List, [], _∷_}
 use mathlib.Core.Logic.{_⊎_, inl, inr, ⊎-elim}
@@ -14,15 +15,19 @@ use Rattle.protocol.specs.declared.Message.{Message}
 use Rattle.protocol.specs.declared.Message.the-variants.{Prepared}
 use Rattle.protocol.specs.Tables.{Tables, Client, Mode, idle, writing, writerOf, laterOf}
 use Rattle.protocol.specs.Range.{Capacities, isWriting}
-use Rattle.protocol.specs.Steps.{delivered, prepared, struck, seen, isLast, messageAt, writer, nextStamp}
-use Rattle.protocol.specs.Calls.{Call, startRead, startWrite, deliver, show, refusal, effect, step, outcomeOf}
-use Rattle.protocol.specs.World.{World, placed, accepts, moved, passed, next, after, ownerOf, outcomeIn, delivers, endsFor, stays, startsFor}
+use Rattle.protocol.specs.Steps.{delivered, prepared, struck, seen, isLast, messageAt, writer}
+use Rattle.protocol.specs.Steps.{nextStamp}
+use Rattle.protocol.specs.Calls.{Call, startRead, startWrite, deliver, show, refusal, effect}
+use Rattle.protocol.specs.Calls.{step, outcomeOf}
+use Rattle.protocol.specs.World.{World, placed, accepts, moved, passed, next, after, ownerOf}
+use Rattle.protocol.specs.World.{outcomeIn, delivers, endsFor, stays, startsFor}
 use Rattle.protocol.proofs.Put.{put-same}
 use Rattle.protocol.proofs.Refusals.{accepted-read, accepted-write, accepted-deliver}
 use Rattle.protocol.proofs.Invariant.{historyOf, Inv}
 use Rattle.protocol.proofs.Invariant.Delivery.{placed-message}
 use Rattle.protocol.proofs.Invariant.Step.{taken, next-inv}
-use Rattle.protocol.proofs.Runs.Touch.{refused-outcome, delivered-outcome, Way, quiet, starts, answers, way, answers-owner, prepared-of}
+use Rattle.protocol.proofs.Runs.Touch.{refused-outcome, delivered-outcome, Way, quiet}
+use Rattle.protocol.proofs.Runs.Touch.{starts, answers, way, answers-owner, prepared-of}
 
 pub record Writing (d s stamp : ℕ) (v : World) : Type 0 where
   pub mode : v .tables .client d .mode ≡ writing
@@ -34,7 +39,8 @@ abbrev pub Seen : ℕ → ℕ → ℕ → World → Type 0
 Seen d s stamp v = (k : ℕ) → has s k ≡ true → stamp ≤ v .tables .view d k .stamp
 
 later-other : (a b : Entry) → b .stamp ≤ laterOf a b .stamp
-later-other a b = by-test (ltb (a .stamp) (b .stamp)) (λ e. rw e (le-refl (b .stamp))) (λ e. rw e (ltb-false (a .stamp) (b .stamp) e))
+later-other a b = by-test (ltb (a .stamp) (b .stamp)) (λ e. rw e (le-refl (b .stamp)))
+    (λ e. rw e (ltb-false (a .stamp) (b .stamp) e))
 
 writing-not-idle {ℓ} : {P : Type ℓ} {m : Mode} → m ≡ writing → m ≡ idle → P
 unfolding isWriting
@@ -48,63 +54,85 @@ module _ (t : Tables) (i k s : ℕ) (is-prepared : messageAt t i ≡ Prepared k 
 
   prepared-client : effect t (deliver i) .client (writerOf s) ≡ prepared c k
   unfolding effect delivered
-  prepared-client = ap (λ (m : Message). delivered t m .client (writerOf s)) is-prepared ∙ put-same (t .client) (writerOf s) (prepared c k)
+  prepared-client = ap (λ (m : Message). delivered t m .client (writerOf s)) is-prepared
+      ∙ put-same (t .client) (writerOf s) (prepared c k)
 
   prepared-outcome : outcomeOf t (messageAt t i) ≡ cond (isLast c k) 2 0
   unfolding outcomeOf
   prepared-outcome = ap (outcomeOf t) is-prepared
 
-  prepared-view : isLast c k ≡ true → (j : ℕ) → has (c .set) j ≡ true → s ≤ effect t (deliver i) .view (writerOf s) j .stamp
+  prepared-view : isLast c k ≡ true → (j : ℕ) → has (c .set) j ≡ true
+      → s ≤ effect t (deliver i) .view (writerOf s) j .stamp
   unfolding effect delivered
   prepared-view last j e =
       let mine : Entry = t .view (writerOf s) j in
       let other : Entry = record { stamp = s; set = c .set } in
       let is : effect t (deliver i) .view (writerOf s) j ≡ laterOf mine other =
       ap (λ (m : Message). delivered t m .view (writerOf s) j) is-prepared
-      ∙ ap (λ (f : ℕ → Entry). f j) (put-same (t .view) (writerOf s) (cond (isLast c k) (seen (t .view (writerOf s)) (c .set) s) (t .view (writerOf s))))
+      ∙ ap (λ (f : ℕ → Entry). f j)
+      (put-same (t .view) (writerOf s)
+      (cond (isLast c k) (seen (t .view (writerOf s)) (c .set) s) (t .view (writerOf s))))
       ∙ rw (last, e) refl in
       subst (λ (x : Entry). s ≤ x .stamp) (sym is) (later-other mine other)
 
 -- ---- a call while the write is under way
 
-module _ (caps : Capacities) (v : World) (inv : Inv caps v) (d s stamp : ℕ) (r : Writing d s stamp v) where
+module _ (caps : Capacities) (v : World) (inv : Inv caps v) (d s stamp : ℕ)
+    (r : Writing d s stamp v) where
   not-started : (c : Call) → refusal caps (v .tables) c ≡ 0 → startsFor d c ≡ true → ⊥
   unfolding startsFor
   not-started (startRead e n) a t =
-      writing-not-idle (r .mode) (subst (λ (x : ℕ). v .tables .client x .mode ≡ idle) (eqb-true e d t) (accepted-read caps (v .tables) e n .0 a .idle))
+      writing-not-idle (r .mode) (subst (λ (x : ℕ). v .tables .client x .mode ≡ idle)
+      (eqb-true e d t) (accepted-read caps (v .tables) e n .0 a .idle))
   not-started (startWrite e n bytes) a t =
-      writing-not-idle (r .mode) (subst (λ (x : ℕ). v .tables .client x .mode ≡ idle) (eqb-true e d t) (accepted-write caps (v .tables) e n bytes .0 a .start .idle))
+      writing-not-idle (r .mode) (subst (λ (x : ℕ). v .tables .client x .mode ≡ idle)
+      (eqb-true e d t) (accepted-write caps (v .tables) e n bytes .0 a .start .idle))
   not-started (deliver i) a t = not-both t refl
   not-started (show e output) a t = not-both t refl
 
   abbrev Ways : Call → Type 0
-  Ways c = (Writing d s stamp (moved v c) × (endsFor caps v d c ≡ false)) ⊎ ((endsFor caps v d c ≡ true) × Seen d s stamp (moved v c))
+  Ways c = (Writing d s stamp (moved v c) × (endsFor caps v d c ≡ false))
+      ⊎ ((endsFor caps v d c ≡ true) × Seen d s stamp (moved v c))
 
   same-record : (v′ : World) → v′ .tables .client d ≡ v .tables .client d → Writing d s stamp v′
   same-record v′ e =
-      record { mode = ap (λ (x : Client). x .mode) e ∙ r .mode; isSet = ap (λ (x : Client). x .set) e ∙ r .isSet; isStamp = ap (λ (x : Client). x .stamp) e ∙ r .isStamp }
+      record {
+        mode = ap (λ (x : Client). x .mode) e ∙ r .mode;
+        isSet =
+            ap (λ (x : Client). x .set) e ∙ r .isSet;
+        isStamp =
+            ap (λ (x : Client). x .stamp) e ∙ r .isStamp;
+      }
 
-  by-prepared : (i k n : ℕ) → refusal caps (v .tables) (deliver i) ≡ 0 → messageAt (v .tables) i ≡ Prepared k n → writerOf n ≡ d
+  by-prepared : (i k n : ℕ) → refusal caps (v .tables) (deliver i) ≡ 0
+      → messageAt (v .tables) i ≡ Prepared k n → writerOf n ≡ d
       → v .tables .client d .stamp ≡ n → delivers v d (deliver i) ≡ true → Ways (deliver i)
   by-prepared i k n a same owner is-stamp delivers-it =
-      let outcome : outcomeIn (step caps (v .tables) (deliver i) .answer) ≡ cond (isLast (v .tables .client (writerOf n)) k) 2 0 = delivered-outcome caps v i a ∙ prepared-outcome (v .tables) i k n same in
+      let outcome : outcomeIn (step caps (v .tables) (deliver i) .answer) ≡ cond
+      (isLast (v .tables .client (writerOf n)) k) 2 0 =
+      delivered-outcome caps v i a ∙ prepared-outcome (v .tables) i k n same in
       let c = v .tables .client (writerOf n) in
       let at-d : c ≡ v .tables .client d = ap (v .tables .client) owner in
       by-test (isLast c k)
       (λ last. inr (
         rw (delivers-it, outcome, last) refl,
         λ j e.
-            subst (λ (x : ℕ). x ≤ effect (v .tables) (deliver i) .view d j .stamp) (sym is-stamp ∙ r .isStamp)
+            subst (λ (x : ℕ). x ≤ effect (v .tables) (deliver i) .view d j .stamp)
+            (sym is-stamp ∙ r .isStamp)
             (subst (λ (x : ℕ). n ≤ effect (v .tables) (deliver i) .view x j .stamp) owner
-            (prepared-view (v .tables) i k n same last j (subst (λ (x : ℕ). has x j ≡ true) (sym (ap (λ (x : Client). x .set) at-d ∙ r .isSet)) e))),
+            (prepared-view (v .tables) i k n same last j
+            (subst (λ (x : ℕ). has x j ≡ true)
+            (sym (ap (λ (x : Client). x .set) at-d ∙ r .isSet)) e))),
       ))
       (λ f. inl (
         (let is : effect (v .tables) (deliver i) .client d ≡ struck c k (c .values) =
-            subst (λ (x : ℕ). effect (v .tables) (deliver i) .client x ≡ struck c k (c .values)) owner (prepared-client (v .tables) i k n same ∙ rw f refl) in
+            subst (λ (x : ℕ). effect (v .tables) (deliver i) .client x ≡ struck c k (c .values))
+            owner (prepared-client (v .tables) i k n same ∙ rw f refl) in
             record {
               mode = ap (λ (x : Client). x .mode) is ∙ ap (λ (x : Client). x .mode) at-d ∙ r .mode;
               isSet = ap (λ (x : Client). x .set) is ∙ ap (λ (x : Client). x .set) at-d ∙ r .isSet;
-              isStamp = ap (λ (x : Client). x .stamp) is ∙ ap (λ (x : Client). x .stamp) at-d ∙ r .isStamp;
+              isStamp = ap (λ (x : Client). x .stamp) is ∙ ap (λ (x : Client). x .stamp) at-d
+                  ∙ r .isStamp;
             }),
         rw (outcome, f) (and-false (delivers v d (deliver i))),
       ))
@@ -115,7 +143,8 @@ module _ (caps : Capacities) (v : World) (inv : Inv caps v) (d s stamp : ℕ) (r
   by-way a (starts c t) = absurd (not-started c a t)
   by-way a (answers i here t) =
       let owner = answers-owner (placed v i .message) d t in
-      let g = prepared-of (historyOf v) (v .tables .client (ownerOf (placed v i .message))) (placed v i .label) (placed v i .message) d t (inv .fits (placed v i) here)
+      let g = prepared-of (historyOf v) (v .tables .client (ownerOf (placed v i .message)))
+      (placed v i .label) (placed v i .message) d t (inv .fits (placed v i) here)
       (subst (λ (x : ℕ). v .tables .client x .mode ≡ writing) (sym owner) (r .mode)) in
       by-prepared i (g .0) (g .1 .0) a (sym (placed-message caps v inv i) ∙ g .1 .1) (g .1 .2)
       (subst (λ (x : ℕ). v .tables .client x .stamp ≡ g .1 .0) owner (g .1 .3))
@@ -124,35 +153,47 @@ module _ (caps : Capacities) (v : World) (inv : Inv caps v) (d s stamp : ℕ) (r
   ways : (c : Call) → refusal caps (v .tables) c ≡ 0 → Ways c
   ways c a =
       by-way a (way caps v inv d c
-      (λ i e. taken caps v inv i (accepted-deliver caps (v .tables) i .0 (subst (λ (x : Call). refusal caps (v .tables) x ≡ 0) e a)) .isIn))
+      (λ i e. taken caps v inv i (accepted-deliver caps
+      (v .tables) i .0 (subst (λ (x : Call). refusal caps (v .tables) x ≡ 0) e a)) .isIn))
 
   write-goes-on : (c : Call) → endsFor caps v d c ≡ false → Writing d s stamp (next caps v c)
   unfolding next
   write-goes-on c f =
       by-test (accepts caps v c)
-      (λ a. rw a (⊎-elim (λ x. x .0) (λ x. not-both (x .0) f) (ways c (eqb-true (refusal caps (v .tables) c) 0 a))))
+      (λ a. rw a (⊎-elim (λ x. x .0) (λ x. not-both (x .0) f)
+      (ways c (eqb-true (refusal caps (v .tables) c) 0 a))))
       (λ a. rw a (same-record (passed v) refl))
 
   pub write-ends : (c : Call) → endsFor caps v d c ≡ true → Seen d s stamp (next caps v c)
   unfolding next
   write-ends c t =
       by-test (accepts caps v c)
-      (λ a. rw a (⊎-elim (λ x. not-both t (x .1)) (λ x. x .1) (ways c (eqb-true (refusal caps (v .tables) c) 0 a))))
+      (λ a. rw a (⊎-elim (λ x. not-both t (x .1)) (λ x. x .1)
+      (ways c (eqb-true (refusal caps (v .tables) c) 0 a))))
       (λ a. not-both t (rw (refused-outcome caps v c a) (and-false (delivers v d c))))
 
 -- ---- from its start
 
-pub write-started : (caps : Capacities) (w : World) (d s : ℕ) (bytes : List ℕ) → Writing d s (nextStamp (w .tables) d) (moved w (startWrite d s bytes))
+pub write-started : (caps : Capacities) (w : World) (d s : ℕ) (bytes : List ℕ)
+    → Writing d s (nextStamp (w .tables) d) (moved w (startWrite d s bytes))
 unfolding effect
 write-started caps w d s bytes =
     let is = put-same (w .tables .client) d (writer (w .tables) d s bytes) in
-    record { mode = ap (λ (x : Client). x .mode) is; isSet = ap (λ (x : Client). x .set) is; isStamp = ap (λ (x : Client). x .stamp) is }
+    record {
+      mode = ap (λ (x : Client). x .mode) is;
+      isSet =
+          ap (λ (x : Client). x .set) is;
+      isStamp = ap (λ (x : Client). x .stamp) is;
+    }
 
-pub write-during : (caps : Capacities) (v : World) → Inv caps v → (d s stamp : ℕ) → Writing d s stamp v → (cs : List Call) → stays caps v d cs ≡ true
+pub write-during : (caps : Capacities) (v : World) → Inv caps v → (d s stamp : ℕ)
+    → Writing d s stamp v → (cs : List Call) → stays caps v d cs ≡ true
     → Writing d s stamp (after caps v cs)
 unfolding after stays
 write-during caps v inv d s stamp r [] e = r
 write-during caps v inv d s stamp r (c ∷ cs) e =
     write-during caps (next caps v c) (next-inv caps v inv c) d s stamp
-    (write-goes-on caps v inv d s stamp r c (not-true (endsFor caps v d c) (and-left (not (endsFor caps v d c)) (stays caps (next caps v c) d cs) e)))
+    (write-goes-on caps v inv d s stamp r c
+    (not-true (endsFor caps v d c)
+    (and-left (not (endsFor caps v d c)) (stays caps (next caps v c) d cs) e)))
     cs (and-right (not (endsFor caps v d c)) (stays caps (next caps v c) d cs) e)

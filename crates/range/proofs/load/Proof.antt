@@ -1,4 +1,5 @@
--- `range::load` meets its contract: the counts of a valid block are within those that the function takes.
+-- `range::load` meets its contract: the counts of a valid block are within those that the function
+-- takes.
 use mathlib.Core.Path.{_∙_}
 use native.Mathlib.Omega.{arith}
 use borrow.Author.Needs.{needs}
@@ -16,15 +17,21 @@ message-count-requires c κs = search needs
 load-of-requires : tie.Need-load-of-requires
 load-of-requires c κs =
     let start = c .before .before .before in
-    let words : WellFormed (start .args .b .now) = tells-valid-block (start .args .b .now) .0 (search needs) .wellFormed in
-    (omega (arith, c .before .clients .ensures, words .sizes .clients), omega (arith, c .message-count .ensures, words .messageCount))
+    let words : WellFormed (start .args .b .now) =
+    tells-valid-block (start .args .b .now) .0 (search needs) .wellFormed in (
+      omega (arith, c .before .clients .ensures, words .sizes .clients),
+      omega
+          (arith, c .message-count .ensures, words .messageCount),
+    )
 
 returns : tie.Need-returns
 returns c =
     let start = c .before .before .before .before in
-    let words : WellFormed (start .args .b .now) = tells-valid-block (start .args .b .now) .0 (search needs) .wellFormed in
+    let words : WellFormed (start .args .b .now) =
+    tells-valid-block (start .args .b .now) .0 (search needs) .wellFormed in
     c .load-of .ensures
-    ∙ load-valid (start .args .b .now) _ _ (c .before .before .clients .ensures) (c .before .message-count .ensures)
+    ∙ load-valid (start .args .b .now) _ _ (c .before .before .clients .ensures)
+    (c .before .message-count .ensures)
     (omega (arith, c .before .message-count .ensures, words .messageCount))
 
 pub load-spec : {M : Type 1} → statement M

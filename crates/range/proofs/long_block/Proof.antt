@@ -29,7 +29,8 @@ tables-in-range-requires c κs =
 
 returns : tie.Need-returns
 returns c =
-    long-tests (c .before .before .before .before .before .before .before .before .before .args .b .now)
+    long-tests
+    (c .before .before .before .before .before .before .before .before .before .args .b .now)
     (c .before .before .before .before .before .before .before .clients .ensures)
     (c .before .before .before .before .before .before .partitions .ensures)
     (c .before .before .before .before .before .items .ensures)

@@ -1,4 +1,5 @@
--- `range::occupied` meets its contract: the counts of a valid block are within those that the function takes.
+-- `range::occupied` meets its contract: the counts of a valid block are within those that the
+-- function takes.
 use mathlib.Core.Path.{_∙_}
 use native.Mathlib.Omega.{arith}
 use borrow.Author.Needs.{needs}
@@ -16,16 +17,25 @@ message-count-requires c κs = search needs
 occupied-of-requires : tie.Need-occupied-of-requires
 occupied-of-requires c κs =
     let start = c .before .before .before in
-    let words : WellFormed (start .args .b .now) = tells-valid-block (start .args .b .now) .0 (search needs) .wellFormed in
-    (omega (arith, c .before .version-count .ensures, words .versionCount), omega (arith, c .message-count .ensures, words .messageCount), words .long)
+    let words : WellFormed (start .args .b .now) =
+    tells-valid-block (start .args .b .now) .0 (search needs) .wellFormed in (
+      omega (arith, c .before .version-count .ensures, words .versionCount),
+      omega
+          (arith, c .message-count .ensures, words .messageCount),
+      words .long,
+    )
 
 returns : tie.Need-returns
 returns c =
     let start = c .before .before .before .before in
-    let words : WellFormed (start .args .b .now) = tells-valid-block (start .args .b .now) .0 (search needs) .wellFormed in
+    let words : WellFormed (start .args .b .now) =
+    tells-valid-block (start .args .b .now) .0 (search needs) .wellFormed in
     c .occupied-of .ensures
-    ∙ occupied-valid (start .args .b .now) _ _ (c .before .before .version-count .ensures) (c .before .message-count .ensures)
-    (omega (arith, c .before .before .version-count .ensures, words .versionCount)) (omega (arith, c .before .message-count .ensures, words .messageCount))
+    ∙ occupied-valid (start .args .b .now) _ _ (c .before .before .version-count .ensures)
+    (c .before .message-count .ensures)
+    (omega (arith, c .before .before .version-count .ensures, words .versionCount))
+    (omega (arith, c .before .message-count .ensures, words .messageCount))
 
 pub occupied-spec : {M : Type 1} → statement M
-occupied-spec = tie.close (tie.spec version-count-requires message-count-requires occupied-of-requires returns)
+occupied-spec = tie.close (tie.spec version-count-requires message-count-requires
+    occupied-of-requires returns)

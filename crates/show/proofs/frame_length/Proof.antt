@@ -1,4 +1,5 @@
--- `show::frame_length` meets its contract: the frame's length by the kind of the last ended transaction and the members of its set.
+-- `show::frame_length` meets its contract: the frame's length by the kind of the last ended
+-- transaction and the members of its set.
 use mathlib.Core.List.{List}
 use mathlib.Core.Path.{sym, ap, _∙_}
 use Prim.Native.Nat.{ℕ, _+_, _*_, _^_, _≤_, _<_}
@@ -7,7 +8,8 @@ use borrow.Author.Needs.{needs}
 use Rattle.itemset.specs.Set.{count}
 use Rattle.itemset.proofs.Counts.{count-le}
 use Rattle.layout.specs.Layout.{scalars, at, lastSetAt}
-use Rattle.show.proofs.Frames.{length-frameIn-nothing, length-frameIn-read, length-frameIn-write}
+use Rattle.show.proofs.Frames.{length-frameIn-nothing, length-frameIn-read}
+use Rattle.show.proofs.Frames.{length-frameIn-write}
 use Rattle.show.proofs.frame_length.Statement.{statement}
 use Rattle.show.proofs.frame_length.Tie as tie
 
@@ -52,13 +54,15 @@ add-result-2 c = omega (arith, few (c .before .before))
 returns : tie.Need-returns
 returns c =
     let look = c .before in
-    sym (length-frameIn-nothing (block look) (client look) (sym (look .last-kind .ensures) ∙ c .match .keys1))
+    sym (length-frameIn-nothing (block look) (client look)
+    (sym (look .last-kind .ensures) ∙ c .match .keys1))
 
 returns-2 : tie.Need-returns-2
 returns-2 c =
     let look = c .before .before in
     ap (λ (n : ℕ). 10 + 9 * n) (c .count .ensures ∙ ap count (look .before .last-set .ensures))
-    ∙ sym (length-frameIn-read (block look) (client look) (word look) (sym (look .last-kind .ensures) ∙ c .before .match .keys2))
+    ∙ sym (length-frameIn-read (block look) (client look) (word look)
+    (sym (look .last-kind .ensures) ∙ c .before .match .keys2))
 
 returns-3 : tie.Need-returns-3
 returns-3 c =
@@ -66,7 +70,9 @@ returns-3 c =
     let other = c .before .match .rest in
     ap (λ (n : ℕ). 14 + 4 * n) (c .count2 .ensures ∙ ap count (look .before .last-set .ensures))
     ∙ sym
-    (length-frameIn-write (block look) (client look) (word look) (λ e. other .0 .1 (look .last-kind .ensures ∙ e)) (λ e. other .1 (look .last-kind .ensures ∙ e)))
+    (length-frameIn-write (block look) (client look) (word look)
+    (λ e. other .0 .1 (look .last-kind .ensures ∙ e))
+    (λ e. other .1 (look .last-kind .ensures ∙ e)))
 
 pub frame-length-spec : {M : Type 1} → statement M
 frame-length-spec =

@@ -1,4 +1,5 @@
--- `show::put_entry` meets its contract: number, writing client and value are stored one right behind the other.
+-- `show::put_entry` meets its contract: number, writing client and value are stored one right
+-- behind the other.
 use mathlib.Core.List.{List, _++_}
 use mathlib.Core.Path.{_≡_, ap, _∙_}
 use Prim.Native.Nat.{ℕ, _+_, _/_, _%_}
@@ -26,7 +27,13 @@ joined out first second third at stamp value s v p q r e f =
     (ap (λ (l : List ℕ). sets l (at + 5) (bigEndian 4 value))
     (sets-join out at (at + 4) number writer (omega (arith, length-bigEndian 4 (stamp / 16))))
     ∙ sets-join out at (at + 5) (number ++ writer) (bigEndian 4 value)
-    (omega (arith, length-append number writer, length-bigEndian 4 (stamp / 16), length-bigEndian 1 (stamp % 16))))
+    (omega (
+      arith,
+      length-append number writer,
+      length-bigEndian 4 (stamp / 16),
+      length-bigEndian 1
+          (stamp % 16),
+    )))
 
 last-read-stamp-requires : tie.Need-last-read-stamp-requires
 last-read-stamp-requires c κs = search needs
@@ -58,7 +65,9 @@ returns c =
     let second = third .before .before .before .before in
     let first = second .before .before .before .before in
     let value = first .before .before in
-    joined _ _ _ _ _ _ _ _ _ (first .put-bytes .ensures) (second .put-bytes2 .ensures) (third .put-bytes3 .ensures) (value .before .last-read-stamp .ensures) (value .last-value .ensures)
+    joined _ _ _ _ _ _ _ _ _ (first .put-bytes .ensures) (second .put-bytes2 .ensures)
+    (third .put-bytes3 .ensures) (value .before .last-read-stamp .ensures)
+    (value .last-value .ensures)
 
 pub put-entry-spec : {M : Type 1} → statement M
 put-entry-spec =

@@ -1,4 +1,5 @@
--- `show::put_read_item` meets its contract. A member's rank is below the set's count, so its entry lies within the output.
+-- `show::put_read_item` meets its contract. A member's rank is below the set's count, so its entry
+-- lies within the output.
 use mathlib.Core.Path.{sym, _∙_}
 use Prim.Native.Nat.{_<_}
 use native.Mathlib.Omega.{arith}
@@ -9,7 +10,8 @@ use Rattle.show.proofs.put_read_item.Statement.{statement}
 use Rattle.show.proofs.put_read_item.Tie as tie
 
 -- the item's place among the members
-place : (c : tie.After-rank) → c .rank .result < count (c .before .before .before .before .before .before .args .s)
+place : (c : tie.After-rank) → c .rank .result < count
+    (c .before .before .before .before .before .before .args .s)
 place c =
     let found = c .before .before in
     rw (c .rank .ensures) (rank-lt _ _ (sym (found .before .has .ensures) ∙ found .if1 .taken))
@@ -37,7 +39,8 @@ returns c =
     let wrote = c .before .before in
     let ranked = wrote .before in
     let found = ranked .before .before in
-    rw (sym (found .before .has .ensures) ∙ found .if1 .taken, ← ranked .rank .ensures) (wrote .put-entry .ensures)
+    rw (sym (found .before .has .ensures) ∙ found .if1 .taken, ← ranked .rank .ensures)
+    (wrote .put-entry .ensures)
 
 returns-2 : tie.Need-returns-2
 returns-2 c = rw (sym (c .before .has .ensures) ∙ c .if1 .left)

@@ -1,4 +1,5 @@
--- `show::put_values` meets its contract. The invariant: the values of the items below k are stored. The measure is the items that are left.
+-- `show::put_values` meets its contract. The invariant: the values of the items below k are stored.
+-- The measure is the items that are left.
 use mathlib.Core.Path.{_≡_, refl, ap, _∙_}
 use Prim.Native.Nat.{ℕ, _-_, _≤_}
 use native.Mathlib.Omega.{arith}
@@ -15,15 +16,20 @@ use Rattle.show.proofs.put_values.Tie as tie
 
 abbrev Inv-loop : tie.InvT-loop
 Inv-loop b d s out₀ k₀ out k =
-    (out ≡ sets out₀ 14 (listed (writtenItem b d) (members k s))) × (length out ≡ length out₀) × (k ≤ 64)
+    (out ≡ sets out₀ 14 (listed (writtenItem b d) (members k s))) × (length out ≡ length out₀)
+    × (k ≤ 64)
 
 abbrev μ-loop : tie.MeasureT-loop
 μ-loop b d s out₀ k₀ out k = 64 - k
 
 loop-holds : tie.Need-loop-holds Inv-loop μ-loop
 loop-holds c =
-    let given = c .before .before .args in
-    (listed-none (writtenItem (given .b .now) (given .d)) 14 (given .s) (given .out .now), refl, omega arith)
+    let given = c .before .before .args in (
+      listed-none (writtenItem (given .b .now) (given .d)) 14 (given .s)
+          (given .out .now),
+      refl,
+      omega arith,
+    )
 
 put-written-item-requires : tie.Need-put-written-item-requires Inv-loop μ-loop
 put-written-item-requires c κs = omega arith
@@ -39,7 +45,10 @@ loop-again c =
     let wrote = c .before .before in
     let at-loop = wrote .before .before .before in
     let given = at-loop .before .before .before .args in (
-      listed-item (writtenItem (given .b .now) (given .d)) 4 (length-writtenItem (given .b .now) (given .d)) 14 (given .s) (at-loop .loop .k) (given .out .now) (at-loop .loop .out) _ (at-loop .loop .inv .0) (wrote .put-written-item .ensures),
+      listed-item (writtenItem (given .b .now) (given .d)) 4
+          (length-writtenItem (given .b .now) (given .d)) 14 (given .s) (at-loop .loop .k)
+          (given .out .now) (at-loop .loop .out) _ (at-loop .loop .inv .0)
+          (wrote .put-written-item .ensures),
       wrote .put-written-item .kept .1 .1 .1 .0 ∙ at-loop .loop .inv .1,
       omega arith,
     )
@@ -52,7 +61,8 @@ returns c =
     let given = c .before .before .before .before .args in
     let all : c .before .loop .k ≡ 64 = omega arith in
     c .before .loop .inv .0
-    ∙ ap (λ (k : ℕ). sets (given .out .now) 14 (listed (writtenItem (given .b .now) (given .d)) (members k (given .s)))) all
+    ∙ ap (λ (k : ℕ). sets (given .out .now) 14
+    (listed (writtenItem (given .b .now) (given .d)) (members k (given .s)))) all
 
 pub put-values-spec : {M : Type 1} → statement M
 put-values-spec =

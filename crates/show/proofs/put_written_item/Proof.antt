@@ -1,4 +1,5 @@
--- `show::put_written_item` meets its contract. A member's rank is below the set's count, so its value lies within the output.
+-- `show::put_written_item` meets its contract. A member's rank is below the set's count, so its
+-- value lies within the output.
 use mathlib.Core.Path.{sym, _∙_}
 use Prim.Native.Nat.{_<_}
 use native.Mathlib.Omega.{arith}
@@ -9,7 +10,8 @@ use Rattle.show.proofs.put_written_item.Statement.{statement}
 use Rattle.show.proofs.put_written_item.Tie as tie
 
 -- the item's place among the members
-place : (c : tie.After-rank) → c .rank .result < count (c .before .before .before .before .before .before .args .s)
+place : (c : tie.After-rank) → c .rank .result < count
+    (c .before .before .before .before .before .before .args .s)
 place c =
     let found = c .before .before in
     rw (c .rank .ensures) (rank-lt _ _ (sym (found .before .has .ensures) ∙ found .if1 .taken))
@@ -41,7 +43,13 @@ returns c =
     let value = wrote .before in
     let ranked = value .before in
     let found = ranked .before .before in
-    rw (sym (found .before .has .ensures) ∙ found .if1 .taken, ← ranked .rank .ensures, ← value .last-value .ensures) (wrote .put-bytes .ensures)
+    rw (
+      sym (found .before .has .ensures)
+          ∙ found .if1 .taken,
+      ← ranked .rank .ensures,
+      ← value .last-value .ensures,
+    )
+    (wrote .put-bytes .ensures)
 
 returns-2 : tie.Need-returns-2
 returns-2 c = rw (sym (c .before .has .ensures) ∙ c .if1 .left)

@@ -1,4 +1,5 @@
--- `show::write_frame` meets its contract: what is stored from the front on is the frame of the last ended transaction's kind.
+-- `show::write_frame` meets its contract: what is stored from the front on is the frame of the last
+-- ended transaction's kind.
 use mathlib.Core.List.{List, [], _++_}
 use mathlib.Core.Path.{_≡_, sym, ap, _∙_}
 use Prim.Native.Nat.{ℕ, _+_, _*_, _^_, _≤_, _<_}
@@ -11,7 +12,8 @@ use Rattle.itemset.specs.Set.{count}
 use Rattle.protocol.specs.Tables.{numberOf}
 use Rattle.layout.specs.Layout.{scalars, at, lastKindAt, lastSetAt, lastStampAt}
 use Rattle.show.specs.Show.{frameIn, readFrame, writeFrame}
-use Rattle.show.proofs.Frames.{frameIn-nothing, frameIn-read, frameIn-write, length-frameIn-read, length-frameIn-write}
+use Rattle.show.proofs.Frames.{frameIn-nothing, frameIn-read, frameIn-write}
+use Rattle.show.proofs.Frames.{length-frameIn-read, length-frameIn-write}
 use Rattle.show.proofs.write_frame.Statement.{statement}
 use Rattle.show.proofs.write_frame.Tie as tie
 
@@ -20,7 +22,8 @@ none : (out frame : List ℕ) → frame ≡ [] → out ≡ frame ++ drop (length
 none out frame e = rw e
 
 -- the whole frame, stored from the front on
-front : (out after stored frame : List ℕ) → after ≡ sets out 0 stored → stored ≡ frame → length frame ≤ length out
+front : (out after stored frame : List ℕ) → after ≡ sets out 0 stored → stored ≡ frame
+    → length frame ≤ length out
     → after ≡ frame ++ drop (length frame) out
 front out after stored frame e f h = e ∙ ap (sets out 0) f ∙ sets-front out frame h
 
@@ -44,7 +47,8 @@ module _ (c : tie.At-match-keys2) where
   is-read : at (block (c .before)) scalars (lastKindAt (client (c .before))) ≡ 1
   is-read = sym (c .before .last-kind .ensures) ∙ c .match .keys2
 
-  length-read : length (frameIn (block (c .before)) (client (c .before))) ≡ 10 + 9 * count (set (c .before))
+  length-read : length (frameIn (block (c .before)) (client (c .before))) ≡ 10 + 9 * count
+      (set (c .before))
   length-read =
       length-frameIn-read (block (c .before)) (client (c .before)) (word (c .before)) is-read
       ∙ ap (λ (s : ℕ). 10 + 9 * count s) (sym (same-set (c .before)))
@@ -56,7 +60,8 @@ module _ (c : tie.At-match-rest) where
   no-read : at (block (c .before)) scalars (lastKindAt (client (c .before))) ≡ 1 → ⊥
   no-read e = c .match .rest .1 (c .before .last-kind .ensures ∙ e)
 
-  length-write : length (frameIn (block (c .before)) (client (c .before))) ≡ 14 + 4 * count (set (c .before))
+  length-write : length (frameIn (block (c .before)) (client (c .before))) ≡ 14 + 4 * count
+      (set (c .before))
   length-write =
       length-frameIn-write (block (c .before)) (client (c .before)) (word (c .before)) some no-read
       ∙ ap (λ (s : ℕ). 14 + 4 * count s) (sym (same-set (c .before)))
@@ -75,7 +80,8 @@ write-write-requires c κs = omega (arith, length-write (c .before))
 
 returns : tie.Need-returns
 returns c =
-    none _ _ (frameIn-nothing (block (c .before)) (client (c .before)) (sym (c .before .last-kind .ensures) ∙ c .match .keys1))
+    none _ _ (frameIn-nothing (block (c .before)) (client (c .before))
+    (sym (c .before .last-kind .ensures) ∙ c .match .keys1))
 
 same-length : tie.Need-same-length
 same-length c = search needs
@@ -86,7 +92,8 @@ returns-2 c =
     let arm = wrote .before .before in
     let look = arm .before in
     front _ _ _ _ (wrote .write-read .ensures)
-    (ap (readFrame (block look) (client look)) (same-set look) ∙ sym (frameIn-read (block look) (client look) (is-read arm)))
+    (ap (readFrame (block look) (client look)) (same-set look)
+    ∙ sym (frameIn-read (block look) (client look) (is-read arm)))
     (look .before .before .before .before .pre .2)
 
 same-length-2 : tie.Need-same-length-2
@@ -98,7 +105,8 @@ returns-3 c =
     let arm = wrote .before .before in
     let look = arm .before in
     front _ _ _ _ (wrote .write-write .ensures)
-    (ap (λ (s : ℕ). writeFrame (block look) (client look) s (numberOf (at (block look) scalars (lastStampAt (client look))))) (same-set look)
+    (ap (λ (s : ℕ). writeFrame (block look) (client look) s
+    (numberOf (at (block look) scalars (lastStampAt (client look))))) (same-set look)
     ∙ sym (frameIn-write (block look) (client look) (some arm) (no-read arm)))
     (look .before .before .before .before .pre .2)
 

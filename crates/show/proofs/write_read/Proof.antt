@@ -11,7 +11,8 @@ use Rattle.show.proofs.Frames.{length-head}
 use Rattle.show.proofs.write_read.Statement.{statement}
 use Rattle.show.proofs.write_read.Tie as tie
 
-joined : (out first second entries : List ℕ) (d s : ℕ) → first ≡ sets out 0 (head 0x21 d s) → second ≡ sets first 10 entries
+joined : (out first second entries : List ℕ) (d s : ℕ) → first ≡ sets out 0 (head 0x21 d s)
+    → second ≡ sets first 10 entries
     → second ≡ sets out 0 (head 0x21 d s ++ entries)
 joined out first second entries d s p q =
     q
@@ -32,7 +33,8 @@ returns c =
     let entries = c .before .before in
     let head = entries .before .before .before .before in
     let given = head .before .before .before .before .args in
-    joined (given .out .now) _ _ _ (given .d) (given .s) (head .put-head .ensures) (entries .put-entries .ensures)
+    joined (given .out .now) _ _ _ (given .d) (given .s) (head .put-head .ensures)
+    (entries .put-entries .ensures)
 
 pub write-read-spec : {M : Type 1} → statement M
 write-read-spec = tie.close (tie.spec put-head-requires put-entries-requires same-length returns)

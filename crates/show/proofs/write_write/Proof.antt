@@ -1,4 +1,5 @@
--- `show::write_write` meets its contract: the number is stored right behind the head, and the values right behind the number.
+-- `show::write_write` meets its contract: the number is stored right behind the head, and the
+-- values right behind the number.
 use mathlib.Core.List.{List, _++_}
 use mathlib.Core.Path.{_≡_, ap, _∙_}
 use Prim.Native.Nat.{ℕ}
@@ -23,9 +24,16 @@ joined out first second third values d s number p q r =
     let bytes = bigEndian 4 number in
     r
     ∙ ap (λ (l : List ℕ). sets l 14 values)
-    (q ∙ ap (λ (l : List ℕ). sets l 10 bytes) p ∙ sets-join out 0 10 (head 0x20 d s) bytes (omega (arith, length-head 0x20 d s)))
+    (q ∙ ap (λ (l : List ℕ). sets l 10 bytes) p
+    ∙ sets-join out 0 10 (head 0x20 d s) bytes (omega (arith, length-head 0x20 d s)))
     ∙ sets-join out 0 14 (head 0x20 d s ++ bytes) values
-    (omega (arith, length-append (head 0x20 d s) bytes, length-head 0x20 d s, length-bigEndian 4 number))
+    (omega (
+      arith,
+      length-append (head 0x20 d s) bytes,
+      length-head 0x20 d s,
+      length-bigEndian 4
+          number,
+    ))
 
 last-number-requires : tie.Need-last-number-requires
 last-number-requires c κs = search needs
@@ -50,7 +58,8 @@ returns c =
     let number = head .before .before in
     let given = number .before .before .before .args in
     rw (← number .last-number .ensures)
-    (joined (given .out .now) _ _ _ _ (given .d) (given .s) _ (head .put-head .ensures) (bytes .put-bytes .ensures) (values .put-values .ensures))
+    (joined (given .out .now) _ _ _ _ (given .d) (given .s) _ (head .put-head .ensures)
+    (bytes .put-bytes .ensures) (values .put-values .ensures))
 
 pub write-write-spec : {M : Type 1} → statement M
 write-write-spec =

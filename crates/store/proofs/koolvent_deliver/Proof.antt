@@ -11,13 +11,15 @@ deliver-requires : tie.Need-deliver-requires
 deliver-requires c κs = search needs
 
 number-of-requires : tie.Need-number-of-requires
-number-of-requires c κs = subst Fits (sym (c .before .before .deliver .ensures .0)) (answer-fits _ _)
+number-of-requires c κs = subst Fits (sym (c .before .before .deliver .ensures .0))
+    (answer-fits _ _)
 
 same-length : tie.Need-same-length
 same-length c = search needs
 
 returns : tie.Need-returns
-returns c = let x = c .before .before .before .deliver .ensures in (c .number-of .ensures ∙ ap numberOfAnswer (x .0), (x .1 .0, x .1 .1))
+returns c = let x = c .before .before .before .deliver .ensures in
+    (c .number-of .ensures ∙ ap numberOfAnswer (x .0), (x .1 .0, x .1 .1))
 
 pub koolvent-deliver-spec : {M : Type 1} → statement M
 koolvent-deliver-spec =

@@ -17,7 +17,8 @@ same-length : tie.Need-same-length
 same-length c = search needs
 
 returns : tie.Need-returns
-returns c = let x = c .before .before .before .fresh .ensures in (c .number-of .ensures ∙ ap numberOfAnswer (x .0), (x .1 .0, x .1 .1))
+returns c = let x = c .before .before .before .fresh .ensures in
+    (c .number-of .ensures ∙ ap numberOfAnswer (x .0), (x .1 .0, x .1 .1))
 
 pub koolvent-fresh-spec : {M : Type 1} → statement M
 koolvent-fresh-spec = tie.close (tie.spec fresh-requires number-of-requires same-length returns)

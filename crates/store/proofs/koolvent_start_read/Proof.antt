@@ -11,13 +11,15 @@ start-read-requires : tie.Need-start-read-requires
 start-read-requires c κs = search needs
 
 number-of-requires : tie.Need-number-of-requires
-number-of-requires c κs = subst Fits (sym (c .before .before .start-read .ensures .0)) (answer-fits _ _)
+number-of-requires c κs = subst Fits (sym (c .before .before .start-read .ensures .0))
+    (answer-fits _ _)
 
 same-length : tie.Need-same-length
 same-length c = search needs
 
 returns : tie.Need-returns
-returns c = let x = c .before .before .before .start-read .ensures in (c .number-of .ensures ∙ ap numberOfAnswer (x .0), (x .1 .0, x .1 .1))
+returns c = let x = c .before .before .before .start-read .ensures in
+    (c .number-of .ensures ∙ ap numberOfAnswer (x .0), (x .1 .0, x .1 .1))
 
 pub koolvent-start-read-spec : {M : Type 1} → statement M
 koolvent-start-read-spec =

@@ -1,4 +1,5 @@
--- `store::number_of` meets its contract: case by case, the number is the definition's, and each part fits its bits.
+-- `store::number_of` meets its contract: case by case, the number is the definition's, and each
+-- part fits its bits.
 use mathlib.Core.Path.{refl}
 use Prim.Native.Nat.{_<_, _^_}
 use native.Mathlib.Omega.{arith}
@@ -28,11 +29,13 @@ enum-known-a-3 c = search needs
 
 -- the parts of a delivery's answer
 fitting : (c : tie.After-known-told3)
-    → (c .before .a3 .given .0 .0 < 2 ^ 8) × (c .before .a3 .given .0 .1 .0 < 2 ^ 16) × (c .before .a3 .given .0 .1 .1 .0 < 2 ^ 8)
+    → (c .before .a3 .given .0 .0 < 2 ^ 8) × (c .before .a3 .given .0 .1 .0 < 2 ^ 16)
+    × (c .before .a3 .given .0 .1 .1 .0 < 2 ^ 8)
 fitting c =
     let start = c .before .before .before in
     let answer = c .before .a3 .given in
-    fits-delivered (start .args .a) (answer .0 .0) (answer .0 .1 .0) (answer .0 .1 .1 .0) (answer .1) (search needs)
+    fits-delivered (start .args .a) (answer .0 .0) (answer .0 .1 .0) (answer .0 .1 .1 .0)
+    (answer .1) (search needs)
 
 mul-result-2 : tie.Need-mul-result-2
 mul-result-2 c = omega (arith, fitting c)

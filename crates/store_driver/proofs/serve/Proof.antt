@@ -6,7 +6,8 @@ use Rattle.store_driver.proofs.serve.Statement.{statement}
 use Rattle.store_driver.proofs.serve.Tie as tie
 
 abbrev Inv-loop : tie.InvT-loop
-Inv-loop b₀ line₀ buf₀ reply₀ at₀ turns₀ b line buf reply at turns = (length b ≡ length b₀) × (length buf ≡ length buf₀)
+Inv-loop b₀ line₀ buf₀ reply₀ at₀ turns₀ b line buf reply at turns =
+    (length b ≡ length b₀) × (length buf ≡ length buf₀)
 
 abbrev μ-loop : tie.MeasureT-loop
 μ-loop b₀ line₀ buf₀ reply₀ at₀ turns₀ b line buf reply at turns = turns

@@ -7,7 +7,8 @@ use Rattle.store_driver.proofs.take_bytes.Statement.{statement}
 use Rattle.store_driver.proofs.take_bytes.Tie as tie
 
 abbrev Inv-loop : tie.InvT-loop
-Inv-loop b₀ line₀ at input reply₀ kept₀ i₀ b line reply kept i = (i ≤ length input) × (length b ≡ length b₀)
+Inv-loop b₀ line₀ at input reply₀ kept₀ i₀ b line reply kept i =
+    (i ≤ length input) × (length b ≡ length b₀)
 
 abbrev μ-loop : tie.MeasureT-loop
 μ-loop b₀ line₀ at input reply₀ kept₀ i₀ b line reply kept i = length input - i

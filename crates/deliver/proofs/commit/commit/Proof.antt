@@ -1,4 +1,5 @@
--- `deliver::commit::commit` meets its contract. The invariant: the block is the fold over the versions passed. The measure is what is left.
+-- `deliver::commit::commit` meets its contract. The invariant: the block is the fold over the
+-- versions passed. The measure is what is left.
 use mathlib.Core.Path.{_≡_, refl, _∙_}
 use Prim.Native.Nat.{_-_, _≤_}
 use native.Mathlib.Omega.{arith}
@@ -11,7 +12,8 @@ use Rattle.deliver.proofs.commit.commit.Statement.{statement}
 use Rattle.deliver.proofs.commit.commit.Tie as tie
 
 abbrev Inv-loop : tie.InvT-loop
-Inv-loop b₀ partitions versions p stamp i₀ b i = (i ≤ versions) × (b ≡ upTo (commitVersion partitions p stamp) b₀ i) × (length b ≡ length b₀)
+Inv-loop b₀ partitions versions p stamp i₀ b i =
+    (i ≤ versions) × (b ≡ upTo (commitVersion partitions p stamp) b₀ i) × (length b ≡ length b₀)
 
 abbrev μ-loop : tie.MeasureT-loop
 μ-loop b₀ partitions versions p stamp i₀ b i = versions - i
@@ -39,7 +41,8 @@ same-length c = search needs
 
 returns : tie.Need-returns Inv-loop μ-loop
 unfolding commitDelivered
-returns c = let at = c .before .loop in turn-last _ _ _ _ _ (at .inv .1) (at .inv .0) (c .loop-test .left)
+returns c = let at = c .before .loop in
+    turn-last _ _ _ _ _ (at .inv .1) (at .inv .0) (c .loop-test .left)
 
 pub commit-spec : {M : Type 1} → statement M
 commit-spec =

@@ -25,7 +25,8 @@ later-requires c κs = search needs
 put-latest-requires : tie.Need-put-latest-requires
 put-latest-requires c κs =
     let a = c .before .before .before .before .before .before .args in
-    ltb-true _ _ (and-right (eqb (a .v .item % a .partitions) (a .p)) _ (c .before .before .before .before .if1 .taken))
+    ltb-true _ _ (and-right (eqb (a .v .item % a .partitions) (a .p)) _
+    (c .before .before .before .before .if1 .taken))
 
 same-length : tie.Need-same-length
 same-length c = search needs
@@ -34,7 +35,9 @@ returns : tie.Need-returns
 returns c =
     let a = c .before .before .before .before .before .before .before .before .before .args in
     when _ _ _ _ (c .before .before .before .before .before .before .before .if1 .taken)
-    (later-put (storeLatest (now (a .b)) (a .v .item)) _ _ _ _ _ (c .before .before .put-latest .ensures) (c .before .before .before .before .later .ensures) (c .before .before .before .before .before .latest .ensures))
+    (later-put (storeLatest (now (a .b)) (a .v .item)) _ _ _ _ _
+    (c .before .before .put-latest .ensures) (c .before .before .before .before .later .ensures)
+    (c .before .before .before .before .before .latest .ensures))
 
 returns-2 : tie.Need-returns-2
 returns-2 c = unless _ _ _ _ (c .if1 .left) refl

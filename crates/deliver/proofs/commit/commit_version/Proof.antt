@@ -23,14 +23,19 @@ same-length c = search needs
 returns : tie.Need-returns
 returns c =
     let a = c .before .before .before .before .before .before .before .before .before .before .args in
-    when _ _ _ _ (eq-eqb _ _ (sym (c .before .before .before .before .before .before .before .stamp-of .ensures) ∙ c .before .before .before .before .before .before .if1 .taken))
-    (c .before .before .commit-item .ensures ∙ ap (commitItem (a .partitions) (a .p) (now (a .b))) (c .before .before .before .version .ensures))
+    when _ _ _ _ (eq-eqb _ _ (sym
+    (c .before .before .before .before .before .before .before .stamp-of .ensures)
+    ∙ c .before .before .before .before .before .before .if1 .taken))
+    (c .before .before .commit-item .ensures
+    ∙ ap (commitItem (a .partitions) (a .p) (now (a .b)))
+    (c .before .before .before .version .ensures))
 
 same-length-2 : tie.Need-same-length-2
 same-length-2 c = search needs
 
 returns-2 : tie.Need-returns-2
-returns-2 c = unless _ _ _ _ (ne-eqb _ _ (λ e. c .if1 .left (c .before .stamp-of .ensures ∙ e))) refl
+returns-2 c = unless _ _ _ _ (ne-eqb _ _ (λ e. c .if1 .left (c .before .stamp-of .ensures ∙ e)))
+    refl
 
 pub commit-version-spec : {M : Type 1} → statement M
 commit-version-spec =

@@ -30,7 +30,10 @@ returns c =
     let a = c .before .before .before .before .before .before .before .before .before .before .before .before .args in
     c .before .before .put-value .ensures
     ∙ ap (λ (x : List ℕ). store x values (itemAt (a .d) (a .v .item)) (a .v .value))
-    (later-put (storeView (now (a .b)) (a .d) (a .v .item)) _ _ _ _ _ (c .before .before .before .before .before .before .put-view .ensures) (c .before .before .before .before .before .before .before .before .later .ensures) (c .before .before .before .before .before .before .before .before .before .view .ensures))
+    (later-put (storeView (now (a .b)) (a .d) (a .v .item)) _ _ _ _ _
+    (c .before .before .before .before .before .before .put-view .ensures)
+    (c .before .before .before .before .before .before .before .before .later .ensures)
+    (c .before .before .before .before .before .before .before .before .before .view .ensures))
 
 pub answer-spec : {M : Type 1} → statement M
 answer-spec =

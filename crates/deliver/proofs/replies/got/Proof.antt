@@ -24,8 +24,10 @@ same-length c = search needs
 
 returns : tie.Need-returns
 returns c =
-    got-last _ _ _ _ _ _ _ _ _ (c .before .before .before .before .before .before .before .before .before .before .awaited .ensures)
-    (c .before .before .before .before .before .before .before .before .before .remove .ensures) (c .before .before .before .before .before .before .before .answer .ensures)
+    got-last _ _ _ _ _ _ _ _ _
+    (c .before .before .before .before .before .before .before .before .before .before .awaited .ensures)
+    (c .before .before .before .before .before .before .before .before .before .remove .ensures)
+    (c .before .before .before .before .before .before .before .answer .ensures)
     (c .before .before .before .before .if1 .taken) (c .before .before .read-end .ensures)
 
 same-length-2 : tie.Need-same-length-2
@@ -33,8 +35,10 @@ same-length-2 c = search needs
 
 returns-2 : tie.Need-returns-2
 returns-2 c =
-    got-more _ _ _ _ _ _ _ _ _ (c .before .before .before .before .before .before .before .before .before .before .awaited .ensures)
-    (c .before .before .before .before .before .before .before .before .before .remove .ensures) (c .before .before .before .before .before .before .before .answer .ensures)
+    got-more _ _ _ _ _ _ _ _ _
+    (c .before .before .before .before .before .before .before .before .before .before .awaited .ensures)
+    (c .before .before .before .before .before .before .before .before .before .remove .ensures)
+    (c .before .before .before .before .before .before .before .answer .ensures)
     (c .before .before .before .before .if1 .left) (c .before .before .put-awaited .ensures)
 
 pub got-spec : {M : Type 1} → statement M

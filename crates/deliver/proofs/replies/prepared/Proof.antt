@@ -21,7 +21,9 @@ same-length c = search needs
 
 returns : tie.Need-returns
 returns c =
-    prepared-last _ _ _ _ _ _ _ _ (c .before .before .before .before .before .before .awaited .ensures) (c .before .before .before .before .before .remove .ensures)
+    prepared-last _ _ _ _ _ _ _ _
+    (c .before .before .before .before .before .before .awaited .ensures)
+    (c .before .before .before .before .before .remove .ensures)
     (c .before .before .before .before .if1 .taken) (c .before .before .write-end .ensures)
 
 same-length-2 : tie.Need-same-length-2
@@ -29,7 +31,9 @@ same-length-2 c = search needs
 
 returns-2 : tie.Need-returns-2
 returns-2 c =
-    prepared-more _ _ _ _ _ _ _ _ (c .before .before .before .before .before .before .awaited .ensures) (c .before .before .before .before .before .remove .ensures)
+    prepared-more _ _ _ _ _ _ _ _
+    (c .before .before .before .before .before .before .awaited .ensures)
+    (c .before .before .before .before .before .remove .ensures)
     (c .before .before .before .before .if1 .left) (c .before .before .put-awaited .ensures)
 
 pub prepared-spec : {M : Type 1} → statement M

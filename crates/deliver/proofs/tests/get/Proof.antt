@@ -28,7 +28,11 @@ version-requires c κs =
     let a = c .before .before .before .before .before .args in
     let i = c .before .place .given .0 .0 in
     let e : firstAlike (now (a .b)) (a .n) (a .item) (a .stamp) ≡ At i = cc in
-    omega (arith, first-below (λ j. alike (a .item) (a .stamp) (versionIn (now (a .b)) j)) (a .n) i e)
+    omega (
+      arith,
+      first-below (λ j. alike (a .item) (a .stamp) (versionIn (now (a .b)) j))
+          (a .n) i e,
+    )
 
 enum-told : tie.Need-enum-told
 enum-told c = search needs
@@ -42,7 +46,8 @@ returns c =
     let i = c .before .before .place .given .0 .0 in
     let f = versionIn (now (a .b)) in
     let e : firstAlike (now (a .b)) (a .n) (a .item) (a .stamp) ≡ At i = cc in
-    let s : stored (table (a .n) f) (a .item) (a .stamp) ≡ true = stored-first (a .n) f (a .item) (a .stamp) ∙ ap isAt e in
+    let s : stored (table (a .n) f) (a .item) (a .stamp) ≡ true =
+    stored-first (a .n) f (a .item) (a .stamp) ∙ ap isAt e in
     let v : found (table (a .n) f) (a .item) (a .stamp) ≡ f i =
     found-first (a .n) f (a .item) (a .stamp) ∙ ap (foundAt f (a .item) (a .stamp)) e
     in
@@ -52,8 +57,10 @@ returns-2 : tie.Need-returns-2
 returns-2 c =
     let a = c .before .before .before .before .before .args in
     let f = versionIn (now (a .b)) in
-    let e : firstAlike (now (a .b)) (a .n) (a .item) (a .stamp) ≡ Nothing = sym (c .before .before .before .find .ensures) ∙ c .before .enum-told .given .1 in
-    let s : stored (table (a .n) f) (a .item) (a .stamp) ≡ false = stored-first (a .n) f (a .item) (a .stamp) ∙ ap isAt e in
+    let e : firstAlike (now (a .b)) (a .n) (a .item) (a .stamp) ≡ Nothing =
+    sym (c .before .before .before .find .ensures) ∙ c .before .enum-told .given .1 in
+    let s : stored (table (a .n) f) (a .item) (a .stamp) ≡ false =
+    stored-first (a .n) f (a .item) (a .stamp) ∙ ap isAt e in
     let v : found (table (a .n) f) (a .item) (a .stamp) ≡ version (a .item) 0 (a .stamp) 0 =
     found-first (a .n) f (a .item) (a .stamp) ∙ ap (foundAt f (a .item) (a .stamp)) e
     in

@@ -24,7 +24,8 @@ same-length : tie.Need-same-length
 same-length c = search needs
 
 returns : tie.Need-returns
-returns c = when _ _ _ _ (sym (c .before .before .before .before .before .before .before .before .before .before .before .before .before .has .ensures) ∙ c .before .before .before .before .before .before .before .before .before .before .before .before .if1 .taken) (cc)
+returns c = when _ _ _ _ (sym
+    (c .before .before .before .before .before .before .before .before .before .before .before .before .before .has .ensures) ∙ c .before .before .before .before .before .before .before .before .before .before .before .before .if1 .taken) (cc)
 
 returns-2 : tie.Need-returns-2
 returns-2 c = unless _ _ _ _ (sym (c .before .has .ensures) ∙ c .if1 .left) refl

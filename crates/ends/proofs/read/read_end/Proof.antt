@@ -18,7 +18,10 @@ same-length c = search needs
 
 returns : tie.Need-returns
 returns c =
-    read-row _ _ _ _ _ (c .before .before .before .before .before .before .before .before .set-of .ensures) (c .before .before .before .before .before .before .keep-answers .ensures) (c .before .before .end .ensures)
+    read-row _ _ _ _ _
+    (c .before .before .before .before .before .before .before .before .set-of .ensures)
+    (c .before .before .before .before .before .before .keep-answers .ensures)
+    (c .before .before .end .ensures)
 
 pub read-end-spec : {M : Type 1} → statement M
 read-end-spec =

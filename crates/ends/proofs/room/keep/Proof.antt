@@ -26,7 +26,9 @@ unfolding keep
 returns c =
     let a = c .before .before .before .before .before .before .before .before .args in
     when _ _ _ _ (lt-ltb (at (now (a .b)) header versionsAt) 512 (omega arith))
-    (c .before .before .append .ensures ∙ ap (λ (n : ℕ). appendVersion (now (a .b)) n (a .v)) (c .before .before .before .before .before .version-count .ensures))
+    (c .before .before .append .ensures
+    ∙ ap (λ (n : ℕ). appendVersion (now (a .b)) n (a .v))
+    (c .before .before .before .before .before .version-count .ensures))
 
 same-length-2 : tie.Need-same-length-2
 same-length-2 c = search needs

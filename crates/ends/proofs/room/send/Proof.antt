@@ -26,7 +26,9 @@ unfolding send
 returns c =
     let a = c .before .before .before .before .before .before .before .before .args in
     when _ _ _ _ (lt-ltb (at (now (a .b)) header messagesAt) 128 (omega arith))
-    (c .before .before .append .ensures ∙ ap (λ (n : ℕ). appendMessage (now (a .b)) n (a .m)) (c .before .before .before .before .before .message-count .ensures))
+    (c .before .before .append .ensures
+    ∙ ap (λ (n : ℕ). appendMessage (now (a .b)) n (a .m))
+    (c .before .before .before .before .before .message-count .ensures))
 
 same-length-2 : tie.Need-same-length-2
 same-length-2 c = search needs

@@ -1,4 +1,5 @@
--- `ends::write::keep_values` meets its contract. The invariant: the block is the fold over the items passed. The measure is what is left.
+-- `ends::write::keep_values` meets its contract. The invariant: the block is the fold over the
+-- items passed. The measure is what is left.
 use mathlib.Core.Path.{_≡_, refl, _∙_}
 use Prim.Native.Nat.{_-_, _≤_}
 use native.Mathlib.Omega.{arith}
@@ -11,7 +12,8 @@ use Rattle.ends.proofs.write.keep_values.Statement.{statement}
 use Rattle.ends.proofs.write.keep_values.Tie as tie
 
 abbrev Inv-loop : tie.InvT-loop
-Inv-loop b₀ items d s k₀ b k = (k ≤ items) × (b ≡ upTo (keepValue d s) b₀ k) × (length b ≡ length b₀)
+Inv-loop b₀ items d s k₀ b k = (k ≤ items) × (b ≡ upTo (keepValue d s) b₀ k)
+    × (length b ≡ length b₀)
 
 abbrev μ-loop : tie.MeasureT-loop
 μ-loop b₀ items d s k₀ b k = items - k
@@ -38,7 +40,8 @@ same-length : tie.Need-same-length Inv-loop μ-loop
 same-length c = search needs
 
 returns : tie.Need-returns Inv-loop μ-loop
-returns c = let at = c .before .loop in turn-last _ _ _ _ _ (at .inv .1) (at .inv .0) (c .loop-test .left)
+returns c = let at = c .before .loop in
+    turn-last _ _ _ _ _ (at .inv .1) (at .inv .0) (c .loop-test .left)
 
 pub keep-values-spec : {M : Type 1} → statement M
 keep-values-spec =

@@ -25,8 +25,12 @@ same-length c = search needs
 returns : tie.Need-returns
 returns c =
     let a = c .before .before .before .before .before .before .before .before .before .before .args in
-    when _ _ _ _ (sym (c .before .before .before .before .before .before .before .before .has .ensures) ∙ c .before .before .before .before .before .before .before .if1 .taken)
-    (later-put (storeView (now (a .b)) (a .d) (a .k)) _ _ _ _ _ (c .before .before .put-view .ensures) (c .before .before .before .before .later .ensures) (c .before .before .before .before .before .view .ensures))
+    when _ _ _ _ (sym
+    (c .before .before .before .before .before .before .before .before .has .ensures)
+    ∙ c .before .before .before .before .before .before .before .if1 .taken)
+    (later-put (storeView (now (a .b)) (a .d) (a .k)) _ _ _ _ _
+    (c .before .before .put-view .ensures) (c .before .before .before .before .later .ensures)
+    (c .before .before .before .before .before .view .ensures))
 
 returns-2 : tie.Need-returns-2
 returns-2 c = unless _ _ _ _ (sym (c .before .has .ensures) ∙ c .if1 .left) refl

@@ -1,4 +1,5 @@
--- `ends::write::send_commits` meets its contract. The invariant: the block is the fold over the partitions passed. The measure is what is left.
+-- `ends::write::send_commits` meets its contract. The invariant: the block is the fold over the
+-- partitions passed. The measure is what is left.
 use mathlib.Core.Path.{_≡_, refl, _∙_}
 use Prim.Native.Nat.{_-_, _≤_}
 use native.Mathlib.Omega.{arith}
@@ -11,7 +12,8 @@ use Rattle.ends.proofs.write.send_commits.Statement.{statement}
 use Rattle.ends.proofs.write.send_commits.Tie as tie
 
 abbrev Inv-loop : tie.InvT-loop
-Inv-loop b₀ partitions ps stamp p₀ b p = (p ≤ partitions) × (b ≡ upTo (sendCommit ps stamp) b₀ p) × (length b ≡ length b₀)
+Inv-loop b₀ partitions ps stamp p₀ b p =
+    (p ≤ partitions) × (b ≡ upTo (sendCommit ps stamp) b₀ p) × (length b ≡ length b₀)
 
 abbrev μ-loop : tie.MeasureT-loop
 μ-loop b₀ partitions ps stamp p₀ b p = partitions - p
@@ -38,7 +40,8 @@ same-length : tie.Need-same-length Inv-loop μ-loop
 same-length c = search needs
 
 returns : tie.Need-returns Inv-loop μ-loop
-returns c = let at = c .before .loop in turn-last _ _ _ _ _ (at .inv .1) (at .inv .0) (c .loop-test .left)
+returns c = let at = c .before .loop in
+    turn-last _ _ _ _ _ (at .inv .1) (at .inv .0) (c .loop-test .left)
 
 pub send-commits-spec : {M : Type 1} → statement M
 send-commits-spec =

@@ -15,7 +15,8 @@ insert-requires : tie.Need-insert-requires
 insert-requires c κs = search needs
 
 returns : tie.Need-returns
-returns c = when _ _ _ _ (sym (c .before .before .has .ensures) ∙ c .before .if1 .taken) (c .insert .ensures)
+returns c = when _ _ _ _ (sym (c .before .before .has .ensures) ∙ c .before .if1 .taken)
+    (c .insert .ensures)
 
 returns-2 : tie.Need-returns-2
 returns-2 c = unless _ _ _ _ (sym (c .before .has .ensures) ∙ c .if1 .left) refl

@@ -1,4 +1,5 @@
--- `ends::write::touched` meets its contract. The invariant: the set is the fold over the items passed. The measure is what is left.
+-- `ends::write::touched` meets its contract. The invariant: the set is the fold over the items
+-- passed. The measure is what is left.
 use mathlib.Core.Path.{_≡_}
 use Prim.Native.Nat.{_-_, _≤_}
 use native.Mathlib.Omega.{arith}
@@ -35,7 +36,8 @@ loop-again c =
 
 returns : tie.Need-returns Inv-loop μ-loop
 unfolding touched
-returns c = let at = c .before .loop in turn-last _ _ _ _ _ (at .inv .1) (at .inv .0) (c .loop-test .left)
+returns c = let at = c .before .loop in
+    turn-last _ _ _ _ _ (at .inv .1) (at .inv .0) (c .loop-test .left)
 
 pub touched-spec : {M : Type 1} → statement M
 touched-spec =

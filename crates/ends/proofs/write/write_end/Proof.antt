@@ -21,8 +21,11 @@ same-length c = search needs
 
 returns : tie.Need-returns
 returns c =
-    write-row _ _ _ _ _ _ _ (c .before .before .before .before .before .before .before .before .before .set-of .ensures) (c .before .before .before .before .before .before .before .before .touched .ensures)
-    (c .before .before .before .before .before .before .write-kept .ensures) (c .before .before .send-commits .ensures)
+    write-row _ _ _ _ _ _ _
+    (c .before .before .before .before .before .before .before .before .before .set-of .ensures)
+    (c .before .before .before .before .before .before .before .before .touched .ensures)
+    (c .before .before .before .before .before .before .write-kept .ensures)
+    (c .before .before .send-commits .ensures)
 
 pub write-end-spec : {M : Type 1} → statement M
 write-end-spec =

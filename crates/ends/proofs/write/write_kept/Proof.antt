@@ -21,9 +21,11 @@ same-length c = search needs
 
 returns : tie.Need-returns
 returns c =
-    kept-row _ _ _ _ _ _ (c .before .before .before .before .before .before .before .before .before .before .before .before .before .before .see .ensures)
+    kept-row _ _ _ _ _ _
+    (c .before .before .before .before .before .before .before .before .before .before .before .before .before .before .see .ensures)
     (c .before .before .before .before .before .before .before .before .before .before .keep-values .ensures)
-    (c .before .before .before .before .before .before .end .ensures) (c .before .before .put-last-stamp .ensures)
+    (c .before .before .before .before .before .before .end .ensures)
+    (c .before .before .put-last-stamp .ensures)
 
 pub write-kept-spec : {M : Type 1} → statement M
 write-kept-spec =

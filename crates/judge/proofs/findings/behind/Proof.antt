@@ -1,4 +1,5 @@
--- `judge::findings::behind` meets its contract. The invariant: what is left from item k on decides as the whole does. The measure is what is left.
+-- `judge::findings::behind` meets its contract. The invariant: what is left from item k on decides
+-- as the whole does. The measure is what is left.
 use mathlib.Core.Path.{_≡_, refl, sym, _∙_}
 use Prim.Native.Nat.{_-_}
 use Rattle.judge.specs.Findings.{behind}
@@ -12,7 +13,9 @@ use Rattle.judge.proofs.findings.behind.Statement.{statement}
 use Rattle.judge.proofs.findings.behind.Tie as tie
 
 abbrev Inv-loop : tie.InvT-loop
-Inv-loop r w items wrote stamp k₀ k = someFrom (64 - k) k (behindAt r items wrote stamp) ≡ someFrom 64 0 (behindAt r items wrote stamp)
+Inv-loop r w items wrote stamp k₀ k =
+    someFrom (64 - k) k (behindAt r items wrote stamp) ≡ someFrom 64 0
+    (behindAt r items wrote stamp)
 
 abbrev μ-loop : tie.MeasureT-loop
 μ-loop r w items wrote stamp k₀ k = 64 - k
@@ -34,9 +37,12 @@ behind-at-requires c κs = search needs
 
 returns : tie.Need-returns Inv-loop μ-loop
 returns c =
-    sym (someFrom-here 64 _ _ (c .before .before .loop-test .taken) (sym (c .before .behind-at .ensures) ∙ c .if1 .taken))
+    sym (someFrom-here 64 _ _ (c .before .before .loop-test .taken)
+    (sym (c .before .behind-at .ensures) ∙ c .if1 .taken))
     ∙ c .before .before .before .loop .inv
-    ∙ behind-search _ _ _ _ _ (c .before .before .before .before .before .before .shown .ensures) (c .before .before .before .before .before .written .ensures) (c .before .before .before .before .written-stamp .ensures)
+    ∙ behind-search _ _ _ _ _ (c .before .before .before .before .before .before .shown .ensures)
+    (c .before .before .before .before .before .written .ensures)
+    (c .before .before .before .before .written-stamp .ensures)
 
 add-k : tie.Need-add-k Inv-loop μ-loop
 add-k c = search needs
@@ -46,11 +52,14 @@ loop-less c = search needs
 
 loop-again : tie.Need-loop-again Inv-loop μ-loop
 loop-again c =
-    sym (someFrom-next 64 _ _ (c .before .before .loop-test .taken) (sym (c .before .behind-at .ensures) ∙ c .if1 .left))
+    sym (someFrom-next 64 _ _ (c .before .before .loop-test .taken)
+    (sym (c .before .behind-at .ensures) ∙ c .if1 .left))
     ∙ c .before .before .before .loop .inv
 
 returns-2 : tie.Need-returns-2 Inv-loop μ-loop
-returns-2 c = sym (someFrom-end 64 _ _ (c .loop-test .left)) ∙ c .before .loop .inv ∙ behind-search _ _ _ _ _ (c .before .before .before .before .shown .ensures) (c .before .before .before .written .ensures) (c .before .before .written-stamp .ensures)
+returns-2 c = sym (someFrom-end 64 _ _ (c .loop-test .left)) ∙ c .before .loop .inv
+    ∙ behind-search _ _ _ _ _ (c .before .before .before .before .shown .ensures)
+    (c .before .before .before .written .ensures) (c .before .before .written-stamp .ensures)
 
 pub behind-spec : {M : Type 1} → statement M
 behind-spec =

@@ -21,12 +21,16 @@ returns : tie.Need-returns
 returns c =
     let a = c .before .before .before .before .before .args in
     ap (λ (s : ℕ). ltb s (a .stamp)) (c .shown-stamp .ensures)
-    ∙ sym (behindAt-shown (a .r .now) (a .items) (a .written) (a .stamp) (a .item) (ap₂ _&&_ (sym (c .before .before .before .has .ensures)) (sym (c .before .before .has2 .ensures)) ∙ c .before .if1 .taken))
+    ∙ sym (behindAt-shown (a .r .now) (a .items) (a .written) (a .stamp) (a .item)
+    (ap₂ _&&_ (sym (c .before .before .before .has .ensures))
+    (sym (c .before .before .has2 .ensures)) ∙ c .before .if1 .taken))
 
 returns-2 : tie.Need-returns-2
 returns-2 c =
     let a = c .before .before .before .before .args in
-    sym (behindAt-not (a .r .now) (a .items) (a .written) (a .stamp) (a .item) (ap₂ _&&_ (sym (c .before .before .has .ensures)) (sym (c .before .has2 .ensures)) ∙ c .if1 .left))
+    sym (behindAt-not (a .r .now) (a .items) (a .written) (a .stamp) (a .item)
+    (ap₂ _&&_ (sym (c .before .before .has .ensures)) (sym (c .before .has2 .ensures))
+    ∙ c .if1 .left))
 
 pub behind-at-spec : {M : Type 1} → statement M
 behind-at-spec =

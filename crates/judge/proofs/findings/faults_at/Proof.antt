@@ -26,7 +26,8 @@ returns c =
     let a = s .args in
     c .fractures .ensures
     ∙ ap (fractures (a .r .now) (a .item) (a .stamp)) (c .before .frame .ensures)
-    ∙ faults-equal _ (a .item) (a .stamp) (a .r .now) (a .of) (ltb (a .write) (a .line)) (sym (s .pre .2) ∙ c .before .before .if1 .taken)
+    ∙ faults-equal _ (a .item) (a .stamp) (a .r .now) (a .of) (ltb (a .write) (a .line))
+    (sym (s .pre .2) ∙ c .before .before .if1 .taken)
 
 frame-requires-2 : tie.Need-frame-requires-2
 frame-requires-2 c κs = search needs
@@ -40,13 +41,17 @@ returns-2 c =
     let a = s .args in
     c .outdates .ensures
     ∙ ap (outdates (a .of) (a .item) (a .stamp)) (c .before .frame2 .ensures)
-    ∙ faults-later _ (a .item) (a .stamp) (a .r .now) (a .of) (ltb (a .write) (a .line)) (λ e. c .before .before .before .if1 .left (s .pre .2 ∙ e)) (and-right (ltb (a .stamp) _) (ltb (a .write) (a .line)) (c .before .before .if2 .taken))
+    ∙ faults-later _ (a .item) (a .stamp) (a .r .now) (a .of) (ltb (a .write) (a .line))
+    (λ e. c .before .before .before .if1 .left (s .pre .2 ∙ e))
+    (and-right (ltb (a .stamp) _) (ltb (a .write) (a .line))
+    (c .before .before .if2 .taken))
 
 returns-3 : tie.Need-returns-3
 returns-3 c =
     let s = c .before .before .before .before .before .before .before in
     let a = s .args in
-    faults-none _ (a .item) (a .stamp) (a .r .now) (a .of) (ltb (a .write) (a .line)) _ (s .pre .2) (c .before .if1 .left) (c .if2 .left)
+    faults-none _ (a .item) (a .stamp) (a .r .now) (a .of) (ltb (a .write) (a .line)) _ (s .pre .2)
+    (c .before .if1 .left) (c .if2 .left)
 
 pub faults-at-spec : {M : Type 1} → statement M
 faults-at-spec =

@@ -23,13 +23,16 @@ returns : tie.Need-returns
 unfolding fractures
 returns c =
     let a = c .before .before .before .before .before .before .before .args in
-    rw (eq-eqb (writtenStamp (a .w .now)) (a .stamp) (sym (c .before .before .before .before .written-stamp .ensures) ∙ c .before .before .before .if1 .taken)) (cc)
+    rw (eq-eqb (writtenStamp (a .w .now)) (a .stamp)
+    (sym (c .before .before .before .before .written-stamp .ensures)
+    ∙ c .before .before .before .if1 .taken)) (cc)
 
 returns-2 : tie.Need-returns-2
 unfolding fractures
 returns-2 c =
     let a = c .before .before .before .before .args in
-    rw (ne-eqb (writtenStamp (a .w .now)) (a .stamp) (λ e. c .if1 .left (c .before .written-stamp .ensures ∙ e)))
+    rw (ne-eqb (writtenStamp (a .w .now)) (a .stamp)
+    (λ e. c .if1 .left (c .before .written-stamp .ensures ∙ e)))
 
 pub fractures-spec : {M : Type 1} → statement M
 fractures-spec =

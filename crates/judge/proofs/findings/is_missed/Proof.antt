@@ -1,4 +1,5 @@
--- `judge::findings::is_missed` meets its contract. The invariant: what is left from frame j on decides as the whole does. The measure is what is left.
+-- `judge::findings::is_missed` meets its contract. The invariant: what is left from frame j on
+-- decides as the whole does. The measure is what is left.
 use mathlib.Core.Path.{_≡_, refl, sym, ap, _∙_}
 use Prim.Native.Nat.{_-_}
 use lib.ListN.{drop}
@@ -11,7 +12,9 @@ use Rattle.judge.proofs.findings.is_missed.Statement.{statement}
 use Rattle.judge.proofs.findings.is_missed.Tie as tie
 
 abbrev Inv-loop : tie.InvT-loop
-Inv-loop bytes starts n of item stamp j₀ j = some (outdates of item stamp) (drop j (framesIn bytes starts n)) ≡ some (outdates of item stamp) (framesIn bytes starts n)
+Inv-loop bytes starts n of item stamp j₀ j =
+    some (outdates of item stamp) (drop j (framesIn bytes starts n)) ≡ some (outdates of item stamp)
+    (framesIn bytes starts n)
 
 abbrev μ-loop : tie.MeasureT-loop
 μ-loop bytes starts n of item stamp j₀ j = n - j
@@ -20,8 +23,11 @@ module _ (c : tie.After-outdates Inv-loop μ-loop) where
   abbrev start : tie.Start Inv-loop μ-loop
   start = c .before .before .before .before .before .before
 
-  test : outdates (start .args .of) (start .args .item) (start .args .stamp) (frameIn (start .args .bytes .now) (start .args .starts .now) (c .before .before .before .loop .j)) ≡ c .outdates .result
-  test = ap (outdates (start .args .of) (start .args .item) (start .args .stamp)) (sym (c .before .frame .ensures)) ∙ sym (c .outdates .ensures)
+  test : outdates (start .args .of) (start .args .item) (start .args .stamp)
+      (frameIn (start .args .bytes .now) (start .args .starts .now)
+      (c .before .before .before .loop .j)) ≡ c .outdates .result
+  test = ap (outdates (start .args .of) (start .args .item) (start .args .stamp))
+      (sym (c .before .frame .ensures)) ∙ sym (c .outdates .ensures)
 
 loop-holds : tie.Need-loop-holds Inv-loop μ-loop
 loop-holds c = refl
@@ -34,7 +40,8 @@ outdates-requires c κs = search needs
 
 returns : tie.Need-returns Inv-loop μ-loop
 returns c =
-    sym (cut-here _ _ _ _ _ (c .before .before .before .loop-test .taken) (test (c .before) ∙ c .if1 .taken))
+    sym (cut-here _ _ _ _ _ (c .before .before .before .loop-test .taken)
+    (test (c .before) ∙ c .if1 .taken))
     ∙ c .before .before .before .before .loop .inv
 
 add-j : tie.Need-add-j Inv-loop μ-loop
@@ -45,7 +52,8 @@ loop-less c = search needs
 
 loop-again : tie.Need-loop-again Inv-loop μ-loop
 loop-again c =
-    sym (cut-next _ _ _ _ _ (c .before .before .before .loop-test .taken) (test (c .before) ∙ c .if1 .left))
+    sym (cut-next _ _ _ _ _ (c .before .before .before .loop-test .taken)
+    (test (c .before) ∙ c .if1 .left))
     ∙ c .before .before .before .before .loop .inv
 
 returns-2 : tie.Need-returns-2 Inv-loop μ-loop

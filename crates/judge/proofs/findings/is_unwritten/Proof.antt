@@ -16,11 +16,13 @@ is-written-requires c κs = search needs
 
 returns-2 : tie.Need-returns-2
 unfolding isUnwritten
-returns-2 c = rw (ne-eqb _ 0 (c .before .before .if1 .left)) (ap not (sym (c .if2 .taken) ∙ c .before .is-written .ensures))
+returns-2 c = rw (ne-eqb _ 0 (c .before .before .if1 .left))
+    (ap not (sym (c .if2 .taken) ∙ c .before .is-written .ensures))
 
 returns-3 : tie.Need-returns-3
 unfolding isUnwritten
-returns-3 c = rw (ne-eqb _ 0 (c .before .before .if1 .left)) (ap not (sym (c .if2 .left) ∙ c .before .is-written .ensures))
+returns-3 c = rw (ne-eqb _ 0 (c .before .before .if1 .left))
+    (ap not (sym (c .if2 .left) ∙ c .before .is-written .ensures))
 
 pub is-unwritten-spec : {M : Type 1} → statement M
 is-unwritten-spec = tie.close (tie.spec returns is-written-requires returns-2 returns-3)

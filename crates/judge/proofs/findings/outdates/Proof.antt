@@ -24,7 +24,9 @@ unfolding outdates
 returns c =
     let w = c .before .before .before .before .before .before .args .w .now in
     let a = c .before .before .before .before .before .before .args in
-    rw (eq-eqb (clientOf w) (a .of) (sym (c .before .before .before .before .client .ensures .0) ∙ c .before .before .before .if1 .taken)) (cc)
+    rw (eq-eqb (clientOf w) (a .of)
+    (sym (c .before .before .before .before .client .ensures .0)
+    ∙ c .before .before .before .if1 .taken)) (cc)
 
 returns-2 : tie.Need-returns-2
 unfolding outdates

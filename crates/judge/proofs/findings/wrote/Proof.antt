@@ -24,14 +24,17 @@ unfolding wrote
 returns c =
     let w = c .before .before .before .before .before .before .args .w .now in
     let a = c .before .before .before .before .before .before .args in
-    rw (eq-eqb (writtenStamp w) (a .stamp) (sym (c .before .before .before .before .written-stamp .ensures) ∙ c .before .before .before .if1 .taken)) (cc)
+    rw (eq-eqb (writtenStamp w) (a .stamp)
+    (sym (c .before .before .before .before .written-stamp .ensures)
+    ∙ c .before .before .before .if1 .taken)) (cc)
 
 returns-2 : tie.Need-returns-2
 unfolding wrote
 returns-2 c =
     let w = c .before .before .before .args .w .now in
     let a = c .before .before .before .args in
-    rw (ne-eqb (writtenStamp w) (a .stamp) (λ e. c .if1 .left (c .before .written-stamp .ensures ∙ e)))
+    rw (ne-eqb (writtenStamp w) (a .stamp)
+    (λ e. c .if1 .left (c .before .written-stamp .ensures ∙ e)))
 
 pub wrote-spec : {M : Type 1} → statement M
 wrote-spec =

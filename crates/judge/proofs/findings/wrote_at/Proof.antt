@@ -26,7 +26,8 @@ returns c =
 returns-2 : tie.Need-returns-2
 returns-2 c =
     let s = c .before .before .before .before .before in
-    sym (mark-wrote _ (s .args .item) (s .args .stamp) (s .args .value) (λ e. c .if1 .left (s .pre .2 ∙ e)))
+    sym (mark-wrote _ (s .args .item) (s .args .stamp) (s .args .value)
+    (λ e. c .if1 .left (s .pre .2 ∙ e)))
 
 pub wrote-at-spec : {M : Type 1} → statement M
 wrote-at-spec =

@@ -1,4 +1,5 @@
--- `judge::marks::mark_lines` meets its contract. The invariant: the lines passed are marked. The measure is what is left.
+-- `judge::marks::mark_lines` meets its contract. The invariant: the lines passed are marked. The
+-- measure is what is left.
 use mathlib.Core.Path.{_≡_, refl, ap, _∙_, subst}
 use mathlib.Core.Path.{_≡_, refl, ap, _∙_}
 use Prim.Native.Nat.{ℕ, _-_, _≤_}
@@ -12,7 +13,8 @@ use Rattle.judge.proofs.marks.mark_lines.Statement.{statement}
 use Rattle.judge.proofs.marks.mark_lines.Tie as tie
 
 abbrev Inv-loop : tie.InvT-loop
-Inv-loop bytes starts n marks₀ j₀ marks j = Marked bytes starts j marks × (length marks ≡ length marks₀) × (j ≤ n)
+Inv-loop bytes starts n marks₀ j₀ marks j =
+    Marked bytes starts j marks × (length marks ≡ length marks₀) × (j ≤ n)
 
 abbrev μ-loop : tie.MeasureT-loop
 μ-loop bytes starts n marks₀ j₀ marks j = n - j
@@ -41,8 +43,13 @@ loop-less c = search needs
 loop-again : tie.Need-loop-again Inv-loop μ-loop
 loop-again c =
     let a = c .before .before .before .before .before .before .before .args in
-    let l = c .before .before .before .loop in
-    (marked-next (a .bytes .now) (a .starts .now) (l .marks) (l .j) (c .mark .result) (l .inv .0) (omega arith) (c .mark .ensures ∙ ap markOf (c .before .frame .ensures)), length-set (l .marks) (l .j) (c .mark .result) ∙ l .inv .1, omega arith)
+    let l = c .before .before .before .loop in (
+      marked-next (a .bytes .now) (a .starts .now) (l .marks) (l .j) (c .mark .result) (l .inv .0)
+          (omega arith) (c .mark .ensures ∙ ap markOf (c .before .frame .ensures)),
+      length-set
+          (l .marks) (l .j) (c .mark .result) ∙ l .inv .1,
+      omega arith,
+    )
 
 same-length : tie.Need-same-length Inv-loop μ-loop
 same-length c = search needs
@@ -51,7 +58,8 @@ returns : tie.Need-returns Inv-loop μ-loop
 returns c =
     let a = c .before .before .before .before .before .args in
     let l = c .before .loop in
-    subst (λ (k : ℕ). Marked (a .bytes .now) (a .starts .now) k (l .marks)) (le-antisymm (l .inv .2) (c .loop-test .left)) (l .inv .0)
+    subst (λ (k : ℕ). Marked (a .bytes .now) (a .starts .now) k (l .marks))
+    (le-antisymm (l .inv .2) (c .loop-test .left)) (l .inv .0)
 
 pub mark-lines-spec : {M : Type 1} → statement M
 mark-lines-spec =

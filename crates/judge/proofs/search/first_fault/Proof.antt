@@ -1,5 +1,6 @@
--- `judge::search::first_fault` meets its contract. Each loop's invariant: what is left decides as the whole does, and nothing is found yet.
--- The measures are what is left of the lines, the items and the writes.
+-- `judge::search::first_fault` meets its contract. Each loop's invariant: what is left decides as
+-- the whole does, and nothing is found yet. The measures are what is left of the lines, the items
+-- and the writes.
 use borrow.Author.Needs.{needs}
 use mathlib.Core.Bool.{true, false}
 use mathlib.Core.List.{List}
@@ -10,34 +11,40 @@ use native.Mathlib.Omega.{arith}
 use Rattle.judge_log.specs.Cut.{framesIn}
 use Rattle.judge.specs.Findings.{faultAt}
 use Rattle.judge.specs.Search.{itemFault, writeFault}
-use Rattle.judge.proofs.Searching.{fault-search, item-not, item-unwritten, item-writes, write-fault}
+use Rattle.judge.proofs.Searching.{fault-search, item-not, item-unwritten, item-writes}
+use Rattle.judge.proofs.Searching.{write-fault}
 use Rattle.judge_log.specs.Some.{someFrom, firstFrom}
-use Rattle.judge_log.proofs.Some.{someFrom-here, someFrom-next, someFrom-end, firstFrom-here, firstFrom-next, firstFrom-end}
+use Rattle.judge_log.proofs.Some.{someFrom-here, someFrom-next, someFrom-end, firstFrom-here}
+use Rattle.judge_log.proofs.Some.{firstFrom-next, firstFrom-end}
 use Rattle.judge.proofs.search.first_fault.Statement.{statement}
 use Rattle.judge.proofs.search.first_fault.Tie as tie
 
 abbrev Inv-writes : tie.InvT-writes
 Inv-writes bytes starts marks n found₀ i line r items of k item stamp value j₀ found j =
-    (someFrom (n - j) j (writeFault bytes starts line item) ≡ someFrom n 0 (writeFault bytes starts line item)) × (found ≡ n)
+    (someFrom (n - j) j (writeFault bytes starts line item) ≡ someFrom n 0
+    (writeFault bytes starts line item)) × (found ≡ n)
 
 abbrev μ-writes : tie.MeasureT-writes
 μ-writes bytes starts marks n found₀ i line r items of k item stamp value j₀ found j = n - j
 
 abbrev Inv-shown : tie.InvT-shown
 Inv-shown bytes starts marks n found₀ i line r items of k₀ found k =
-    (someFrom (64 - k) k (itemFault bytes starts n line) ≡ someFrom 64 0 (itemFault bytes starts n line)) × (found ≡ n)
+    (someFrom (64 - k) k (itemFault bytes starts n line) ≡ someFrom 64 0
+    (itemFault bytes starts n line)) × (found ≡ n)
 
 abbrev μ-shown : tie.MeasureT-shown
 μ-shown bytes starts marks n found₀ i line r items of k₀ found k = 64 - k
 
 abbrev Inv-lines : tie.InvT-lines
 Inv-lines bytes starts marks n found₀ i₀ found i =
-    (firstFrom (n - i) i (faultAt (framesIn bytes starts n)) ≡ firstFrom n 0 (faultAt (framesIn bytes starts n))) × (found ≡ n) × (i ≤ n)
+    (firstFrom (n - i) i (faultAt (framesIn bytes starts n)) ≡ firstFrom n 0
+    (faultAt (framesIn bytes starts n))) × (found ≡ n) × (i ≤ n)
 
 abbrev μ-lines : tie.MeasureT-lines
 μ-lines bytes starts marks n found₀ i₀ found i = n - i
 
-abbrev At : (tie.InvT-writes → tie.MeasureT-writes → tie.InvT-shown → tie.MeasureT-shown → tie.InvT-lines → tie.MeasureT-lines → Type 0) → Type 0
+abbrev At : (tie.InvT-writes → tie.MeasureT-writes → tie.InvT-shown → tie.MeasureT-shown
+    → tie.InvT-lines → tie.MeasureT-lines → Type 0) → Type 0
 At N = N Inv-writes μ-writes Inv-shown μ-shown Inv-lines μ-lines
 
 -- ---- a line
@@ -62,12 +69,20 @@ module _ (c : At tie.After-client) where
   below = c .before .before .before .lines-test .taken
 
 -- no item of a line is at fault: the next line
-next-line : (c : At tie.After-shown) → firstFrom (n (c .before .before) - (line (c .before .before) + 1)) (line (c .before .before) + 1) (faultAt (framesIn (bytes (c .before .before)) (starts (c .before .before)) (n (c .before .before)))) ≡ firstFrom (n (c .before .before)) 0 (faultAt (framesIn (bytes (c .before .before)) (starts (c .before .before)) (n (c .before .before))))
+next-line : (c : At tie.After-shown)
+    → firstFrom (n (c .before .before) - (line (c .before .before) + 1))
+    (line (c .before .before) + 1)
+    (faultAt (framesIn (bytes (c .before .before)) (starts (c .before .before))
+    (n (c .before .before)))) ≡ firstFrom (n (c .before .before)) 0
+    (faultAt (framesIn (bytes (c .before .before)) (starts (c .before .before))
+    (n (c .before .before))))
 next-line c =
     let l = c .before .before in
     let clean : faultAt (framesIn (bytes l) (starts l) (n l)) (line l) ≡ false =
-    sym (fault-search (bytes l) (starts l) (n l) (line l) (below l)) ∙ sym (c .before .shown .inv .0) ∙ someFrom-end 64 _ _ (c .shown-test .left) in
-    sym (firstFrom-next (n l) (line l) _ (below l) clean) ∙ l .before .before .before .before .lines .inv .0
+    sym (fault-search (bytes l) (starts l) (n l) (line l) (below l))
+    ∙ sym (c .before .shown .inv .0) ∙ someFrom-end 64 _ _ (c .shown-test .left) in
+    sym (firstFrom-next (n l) (line l) _ (below l) clean)
+    ∙ l .before .before .before .before .lines .inv .0
 
 -- ---- an item
 
@@ -79,28 +94,48 @@ module _ (c : At tie.In-shown) where
   item = c .before .shown .k
 
   -- it is at fault: so is the line
-  found : itemFault (bytes of-line) (starts of-line) (n of-line) (line of-line) item ≡ true → line of-line ≡ firstFrom (n of-line) 0 (faultAt (framesIn (bytes of-line) (starts of-line) (n of-line)))
+  found : itemFault (bytes of-line) (starts of-line) (n of-line) (line of-line) item ≡ true
+      → line of-line ≡ firstFrom (n of-line) 0
+      (faultAt (framesIn (bytes of-line) (starts of-line) (n of-line)))
   found e =
-      let fault : faultAt (framesIn (bytes of-line) (starts of-line) (n of-line)) (line of-line) ≡ true =
-      sym (fault-search (bytes of-line) (starts of-line) (n of-line) (line of-line) (below of-line)) ∙ sym (c .before .shown .inv .0) ∙ someFrom-here 64 item _ (c .shown-test .taken) e in
-      sym (firstFrom-here (n of-line) (line of-line) _ (below of-line) fault) ∙ of-line .before .before .before .before .lines .inv .0
+      let fault : faultAt (framesIn (bytes of-line) (starts of-line) (n of-line))
+      (line of-line) ≡ true =
+      sym (fault-search (bytes of-line) (starts of-line) (n of-line) (line of-line) (below of-line))
+      ∙ sym (c .before .shown .inv .0) ∙ someFrom-here 64 item _ (c .shown-test .taken) e in
+      sym (firstFrom-here (n of-line) (line of-line) _ (below of-line) fault)
+      ∙ of-line .before .before .before .before .lines .inv .0
 
   -- it isn't: the next item
   next-item : itemFault (bytes of-line) (starts of-line) (n of-line) (line of-line) item ≡ false
-      → someFrom (64 - (item + 1)) (item + 1) (itemFault (bytes of-line) (starts of-line) (n of-line) (line of-line)) ≡ someFrom 64 0 (itemFault (bytes of-line) (starts of-line) (n of-line) (line of-line))
+      → someFrom (64 - (item + 1)) (item + 1)
+      (itemFault (bytes of-line) (starts of-line) (n of-line) (line of-line)) ≡ someFrom 64 0
+      (itemFault (bytes of-line) (starts of-line) (n of-line) (line of-line))
   next-item e = sym (someFrom-next 64 item _ (c .shown-test .taken) e) ∙ c .before .shown .inv .0
 
-not-shown : (c : At tie.Else1) → itemFault (bytes (of-line (c .before .before))) (starts (of-line (c .before .before))) (n (of-line (c .before .before))) (line (of-line (c .before .before))) (item (c .before .before)) ≡ false
+not-shown : (c : At tie.Else1) → itemFault (bytes (of-line (c .before .before)))
+    (starts (of-line (c .before .before))) (n (of-line (c .before .before)))
+    (line (of-line (c .before .before))) (item (c .before .before)) ≡ false
 not-shown c =
     let l = of-line (c .before .before) in
-    item-not (bytes l) (starts l) (n l) (line l) (item (c .before .before)) _ (l .before .before .frame .ensures) _ (l .before .shown2 .ensures) (sym (c .before .has .ensures) ∙ c .if1 .left)
+    item-not (bytes l) (starts l) (n l) (line l) (item (c .before .before)) _
+    (l .before .before .frame .ensures) _ (l .before .shown2 .ensures)
+    (sym (c .before .has .ensures) ∙ c .if1 .left)
 
-unwritten : (c : At tie.Then2) → itemFault (bytes (of-line (c .before .before .before .before .before .before))) (starts (of-line (c .before .before .before .before .before .before))) (n (of-line (c .before .before .before .before .before .before))) (line (of-line (c .before .before .before .before .before .before))) (item (c .before .before .before .before .before .before)) ≡ true
+unwritten : (c : At tie.Then2) → itemFault
+    (bytes (of-line (c .before .before .before .before .before .before)))
+    (starts (of-line (c .before .before .before .before .before .before)))
+    (n (of-line (c .before .before .before .before .before .before)))
+    (line (of-line (c .before .before .before .before .before .before)))
+    (item (c .before .before .before .before .before .before)) ≡ true
 unwritten c =
     let l = of-line (c .before .before .before .before .before .before) in
-    item-unwritten (bytes l) (starts l) (n l) (line l) (item (c .before .before .before .before .before .before)) _ (l .before .before .frame .ensures) _ _ _ (l .before .shown2 .ensures)
-    (sym (c .before .before .before .before .before .has .ensures) ∙ c .before .before .before .before .if1 .taken)
-    (c .before .before .before .shown-stamp .ensures) (c .before .before .shown-value .ensures) (sym (c .before .is-unwritten .ensures) ∙ c .if2 .taken)
+    item-unwritten (bytes l) (starts l) (n l) (line l)
+    (item (c .before .before .before .before .before .before)) _
+    (l .before .before .frame .ensures) _ _ _ (l .before .shown2 .ensures)
+    (sym (c .before .before .before .before .before .has .ensures)
+    ∙ c .before .before .before .before .if1 .taken)
+    (c .before .before .before .shown-stamp .ensures) (c .before .before .shown-value .ensures)
+    (sym (c .before .is-unwritten .ensures) ∙ c .if2 .taken)
 
 -- ---- the writes
 
@@ -109,15 +144,26 @@ module _ (c : At tie.Else2) where
   of-item = c .before .before .before .before .before .before
 
   -- what is left are the writes
-  writes : itemFault (bytes (of-line of-item)) (starts (of-line of-item)) (n (of-line of-item)) (line (of-line of-item)) (item of-item) ≡ someFrom (n (of-line of-item)) 0 (writeFault (bytes (of-line of-item)) (starts (of-line of-item)) (line (of-line of-item)) (item of-item))
+  writes : itemFault (bytes (of-line of-item)) (starts (of-line of-item)) (n (of-line of-item))
+      (line (of-line of-item)) (item of-item) ≡ someFrom (n (of-line of-item)) 0
+      (writeFault (bytes (of-line of-item)) (starts (of-line of-item)) (line (of-line of-item))
+      (item of-item))
   writes =
       let l = of-line of-item in
-      item-writes (bytes l) (starts l) (n l) (line l) (item of-item) _ (l .before .before .frame .ensures) _ _ _ (l .before .shown2 .ensures)
-      (sym (c .before .before .before .before .before .has .ensures) ∙ c .before .before .before .before .if1 .taken)
-      (c .before .before .before .shown-stamp .ensures) (c .before .before .shown-value .ensures) (sym (c .before .is-unwritten .ensures) ∙ c .if2 .left)
+      item-writes (bytes l) (starts l) (n l) (line l) (item of-item) _
+      (l .before .before .frame .ensures) _ _ _ (l .before .shown2 .ensures)
+      (sym (c .before .before .before .before .before .has .ensures)
+      ∙ c .before .before .before .before .if1 .taken)
+      (c .before .before .before .shown-stamp .ensures) (c .before .before .shown-value .ensures)
+      (sym (c .before .is-unwritten .ensures) ∙ c .if2 .left)
 
-no-writes : (c : At tie.After-writes) → itemFault (bytes (of-line (of-item (c .before .before)))) (starts (of-line (of-item (c .before .before)))) (n (of-line (of-item (c .before .before)))) (line (of-line (of-item (c .before .before)))) (item (of-item (c .before .before))) ≡ false
-no-writes c = writes (c .before .before) ∙ sym (c .before .writes .inv .0) ∙ someFrom-end _ _ _ (c .writes-test .left)
+no-writes : (c : At tie.After-writes)
+    → itemFault (bytes (of-line (of-item (c .before .before))))
+    (starts (of-line (of-item (c .before .before)))) (n (of-line (of-item (c .before .before))))
+    (line (of-line (of-item (c .before .before))))
+    (item (of-item (c .before .before))) ≡ false
+no-writes c = writes (c .before .before) ∙ sym (c .before .writes .inv .0)
+    ∙ someFrom-end _ _ _ (c .writes-test .left)
 
 module _ (c : At tie.After-faults-at) where
   abbrev of-write : At tie.Else2
@@ -130,20 +176,30 @@ module _ (c : At tie.After-faults-at) where
   write = c .before .before .writes .j
 
   -- the test of one write
-  tested : writeFault (bytes of-read) (starts of-read) (line of-read) (item (of-item of-write)) write ≡ c .faults-at .result
+  tested : writeFault (bytes of-read) (starts of-read) (line of-read)
+      (item (of-item of-write)) write ≡ c .faults-at .result
   tested =
-      write-fault (bytes of-read) (starts of-read) (n of-read) (line of-read) (item (of-item of-write)) _ (of-read .before .before .frame .ensures) _ _ write _
+      write-fault (bytes of-read) (starts of-read) (n of-read) (line of-read)
+      (item (of-item of-write)) _ (of-read .before .before .frame .ensures) _ _ write _
       (of-read .client .ensures .0) (of-write .before .before .before .shown-stamp .ensures) refl
       ∙ sym (c .faults-at .ensures)
 
   next-write : c .faults-at .result ≡ false
-      → someFrom (n of-read - (write + 1)) (write + 1) (writeFault (bytes of-read) (starts of-read) (line of-read) (item (of-item of-write))) ≡ someFrom (n of-read) 0 (writeFault (bytes of-read) (starts of-read) (line of-read) (item (of-item of-write)))
-  next-write e = sym (someFrom-next _ write _ (c .before .writes-test .taken) (tested ∙ e)) ∙ c .before .before .writes .inv .0
+      → someFrom (n of-read - (write + 1)) (write + 1)
+      (writeFault (bytes of-read) (starts of-read) (line of-read) (item (of-item of-write)))
+      ≡ someFrom (n of-read) 0
+      (writeFault (bytes of-read) (starts of-read) (line of-read)
+      (item (of-item of-write)))
+  next-write e = sym (someFrom-next _ write _ (c .before .writes-test .taken) (tested ∙ e))
+      ∙ c .before .before .writes .inv .0
 
-by-write : (c : At tie.Then3) → itemFault (bytes (of-read (c .before))) (starts (of-read (c .before))) (n (of-read (c .before))) (line (of-read (c .before))) (item (of-item (of-write (c .before)))) ≡ true
+by-write : (c : At tie.Then3) → itemFault (bytes (of-read (c .before)))
+    (starts (of-read (c .before))) (n (of-read (c .before))) (line (of-read (c .before)))
+    (item (of-item (of-write (c .before)))) ≡ true
 by-write c =
     writes (of-write (c .before)) ∙ sym (c .before .before .before .writes .inv .0)
-    ∙ someFrom-here _ (write (c .before)) _ (c .before .before .writes-test .taken) (tested (c .before) ∙ c .if3 .taken)
+    ∙ someFrom-here _ (write (c .before)) _ (c .before .before .writes-test .taken)
+    (tested (c .before) ∙ c .if3 .taken)
 
 -- ---- the needs
 
@@ -187,7 +243,10 @@ is-unwritten-requires : At tie.Need-is-unwritten-requires
 is-unwritten-requires c κs = search needs
 
 writes-holds : At tie.Need-writes-holds
-writes-holds c = (rw sub-zero, c .before .before .before .before .before .before .before .shown .inv .1)
+writes-holds c = (
+  rw sub-zero,
+  c .before .before .before .before .before .before .before .shown .inv .1,
+)
 
 shown-less : At tie.Need-shown-less
 shown-less c = search needs
@@ -200,8 +259,13 @@ add-j c = search needs
 
 faults-at-requires : At tie.Need-faults-at-requires
 faults-at-requires c κs =
-    let t = start (of-line (of-item (c .before .before))) .pre in
-    (omega (arith, t .few, c .writes-test .taken), omega (arith, t .long, c .writes-test .taken), t .marked (c .before .writes .j) (c .writes-test .taken))
+    let t = start (of-line (of-item (c .before .before))) .pre in (
+      omega (arith, t .few, c .writes-test .taken),
+      omega
+          (arith, t .long, c .writes-test .taken),
+      t .marked (c .before .writes .j)
+          (c .writes-test .taken),
+    )
 
 writes-less : At tie.Need-writes-less
 writes-less c = search needs
@@ -213,7 +277,10 @@ shown-less-2 : At tie.Need-shown-less-2
 shown-less-2 c = search needs
 
 shown-again-2 : At tie.Need-shown-again-2
-shown-again-2 c = (next-item (c .before .before) (not-shown c), c .before .before .before .shown .inv .1)
+shown-again-2 c = (
+  next-item (c .before .before) (not-shown c),
+  c .before .before .before .shown .inv .1,
+)
 
 returns : At tie.Need-returns
 returns c =

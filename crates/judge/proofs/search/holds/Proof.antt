@@ -21,7 +21,9 @@ returns : tie.Need-returns
 returns c =
     let s = c .before .before .before .before .before .before .before .before in
     c .is-unwritten .ensures
-    ∙ finding-one _ _ (s .args .n) _ (s .args .item) _ (s .pre .1) (c .before .before .before .before .frame .ensures) _ _ _ (c .before .before .if1 .taken) (c .before .before .before .shown-stamp .ensures) (c .before .shown-value .ensures)
+    ∙ finding-one _ _ (s .args .n) _ (s .args .item) _ (s .pre .1)
+    (c .before .before .before .before .frame .ensures) _ _ _ (c .before .before .if1 .taken)
+    (c .before .before .before .shown-stamp .ensures) (c .before .shown-value .ensures)
 
 is-fractured-requires : tie.Need-is-fractured-requires
 is-fractured-requires c κs = search needs
@@ -30,7 +32,9 @@ returns-2 : tie.Need-returns-2
 returns-2 c =
     let s = c .before .before .before .before .before .before .before .before in
     c .is-fractured .ensures
-    ∙ finding-two _ _ (s .args .n) _ (s .args .item) _ (s .pre .1) (c .before .before .before .before .frame .ensures) _ _ (c .before .if2 .taken) (c .before .before .before .shown-stamp .ensures)
+    ∙ finding-two _ _ (s .args .n) _ (s .args .item) _ (s .pre .1)
+    (c .before .before .before .before .frame .ensures) _ _ (c .before .if2 .taken)
+    (c .before .before .before .shown-stamp .ensures)
 
 client-requires : tie.Need-client-requires
 client-requires c κs = search needs
@@ -42,7 +46,11 @@ returns-3 : tie.Need-returns-3
 returns-3 c =
     let s = c .before .before .before .before .before .before .before .before .before in
     c .is-missed .ensures
-    ∙ finding-three _ _ (s .args .n) _ (s .args .item) _ (s .pre .1) (c .before .before .before .before .before .frame .ensures) _ _ _ (c .before .before .before .if1 .left) (c .before .before .if2 .left) (c .before .client .ensures .0) (c .before .before .before .before .shown-stamp .ensures)
+    ∙ finding-three _ _ (s .args .n) _ (s .args .item) _ (s .pre .1)
+    (c .before .before .before .before .before .frame .ensures) _ _ _
+    (c .before .before .before .if1 .left) (c .before .before .if2 .left)
+    (c .before .client .ensures .0)
+    (c .before .before .before .before .shown-stamp .ensures)
 
 pub holds-spec : {M : Type 1} → statement M
 holds-spec =

@@ -1,4 +1,5 @@
--- `judge::search::holds_at` meets its contract. The invariant: what is left from item k on decides as the whole does. The measure is what is left.
+-- `judge::search::holds_at` meets its contract. The invariant: what is left from item k on decides
+-- as the whole does. The measure is what is left.
 use mathlib.Core.Path.{_≡_, refl, sym, ap, ap₂, _∙_}
 use mathlib.Core.Bool.{_&&_}
 use Prim.Native.Nat.{_-_}
@@ -14,7 +15,9 @@ use Rattle.judge.proofs.search.holds_at.Statement.{statement}
 use Rattle.judge.proofs.search.holds_at.Tie as tie
 
 abbrev Inv-loop : tie.InvT-loop
-Inv-loop finding bytes starts marks n line items k₀ k = someFrom (64 - k) k (λ j. has items j && findingOf finding (framesIn bytes starts n) line j) ≡ someFrom 64 0 (λ j. has items j && findingOf finding (framesIn bytes starts n) line j)
+Inv-loop finding bytes starts marks n line items k₀ k =
+    someFrom (64 - k) k (λ j. has items j && findingOf finding (framesIn bytes starts n) line j)
+    ≡ someFrom 64 0 (λ j. has items j && findingOf finding (framesIn bytes starts n) line j)
 
 abbrev μ-loop : tie.MeasureT-loop
 μ-loop finding bytes starts marks n line items k₀ k = 64 - k
@@ -37,9 +40,14 @@ holds-requires c κs = search needs
 returns : tie.Need-returns Inv-loop μ-loop
 returns c =
     let s = c .before .before .before .before .before .before .before .before .before .before in
-    sym (someFrom-here 64 _ _ (c .before .before .before .loop-test .taken) (ap₂ _&&_ (sym (c .before .before .has .ensures)) (sym (c .before .holds .ensures)) ∙ c .if1 .taken))
+    sym (someFrom-here 64 _ _ (c .before .before .before .loop-test .taken)
+    (ap₂ _&&_ (sym (c .before .before .has .ensures)) (sym (c .before .holds .ensures))
+    ∙ c .if1 .taken))
     ∙ c .before .before .before .before .loop .inv
-    ∙ holds-search (s .args .bytes .now) (s .args .starts .now) (s .args .n) (s .args .line) (s .args .finding) _ (s .pre .1) (c .before .before .before .before .before .shown .ensures ∙ ap shown (c .before .before .before .before .before .before .frame .ensures))
+    ∙ holds-search (s .args .bytes .now) (s .args .starts .now) (s .args .n) (s .args .line)
+    (s .args .finding) _ (s .pre .1)
+    (c .before .before .before .before .before .shown .ensures
+    ∙ ap shown (c .before .before .before .before .before .before .frame .ensures))
 
 add-k : tie.Need-add-k Inv-loop μ-loop
 add-k c = search needs
@@ -49,7 +57,9 @@ loop-less c = search needs
 
 loop-again : tie.Need-loop-again Inv-loop μ-loop
 loop-again c =
-    sym (someFrom-next 64 _ _ (c .before .before .before .loop-test .taken) (ap₂ _&&_ (sym (c .before .before .has .ensures)) (sym (c .before .holds .ensures)) ∙ c .if1 .left))
+    sym (someFrom-next 64 _ _ (c .before .before .before .loop-test .taken)
+    (ap₂ _&&_ (sym (c .before .before .has .ensures)) (sym (c .before .holds .ensures))
+    ∙ c .if1 .left))
     ∙ c .before .before .before .before .loop .inv
 
 returns-2 : tie.Need-returns-2 Inv-loop μ-loop
@@ -57,7 +67,10 @@ returns-2 c =
     let s = c .before .before .before .before .before .before .before in
     sym (someFrom-end 64 _ _ (c .loop-test .left))
     ∙ c .before .loop .inv
-    ∙ holds-search (s .args .bytes .now) (s .args .starts .now) (s .args .n) (s .args .line) (s .args .finding) _ (s .pre .1) (c .before .before .shown .ensures ∙ ap shown (c .before .before .before .frame .ensures))
+    ∙ holds-search (s .args .bytes .now) (s .args .starts .now) (s .args .n) (s .args .line)
+    (s .args .finding) _ (s .pre .1)
+    (c .before .before .shown .ensures
+    ∙ ap shown (c .before .before .before .frame .ensures))
 
 pub holds-at-spec : {M : Type 1} → statement M
 holds-at-spec =

@@ -13,7 +13,13 @@ cast-result : tie.Need-cast-result
 cast-result c = omega (arith, c .shared-slice-known .given (c .before .before .args .at))
 
 returns : tie.Need-returns
-returns c = (search needs, omega (arith, c .shared-slice-known .given (c .before .before .args .at)))
+returns c = (
+  search needs,
+  omega (
+    arith,
+    c .shared-slice-known .given (c .before .before .args .at),
+  ),
+)
 
 returns-2 : tie.Need-returns-2
 returns-2 c =

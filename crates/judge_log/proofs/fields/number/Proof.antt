@@ -1,5 +1,5 @@
--- `judge_log::fields::number` meets its contract. The invariant: `number` is the number of the k bytes read, so that it is below 256 ^ k.
--- The measure is what is left of n.
+-- `judge_log::fields::number` meets its contract. The invariant: `number` is the number of the k
+-- bytes read, so that it is below 256 ^ k. The measure is what is left of n.
 use borrow.Author.Needs.{needs}
 use mathlib.Core.List.{List}
 use mathlib.Core.Path.{_≡_, refl, sym, ap₂, _∙_}
@@ -36,8 +36,14 @@ module _ (c : tie.After-byte Inv-loop μ-loop) where
 
   fits : c .before .before .loop .number * 256 + c .byte .result < 256 ^ 8
   fits =
-      omega
-      (arith, turn, numberAt-lt (k + 1) f at (λ i. c .before .before .before .shared-slice-known .given i .fits), pow-le-pow-right {n = 256} (lit< tt) {i = k + 1} {j = 8} (omega arith))
+      omega (
+        arith,
+        turn,
+        numberAt-lt (k + 1) f at
+            (λ i. c .before .before .before .shared-slice-known .given i .fits),
+        pow-le-pow-right
+            {n = 256} (lit< tt) {i = k + 1} {j = 8} (omega arith),
+      )
 
 loop-holds : tie.Need-loop-holds Inv-loop μ-loop
 unfolding numberAt

@@ -20,8 +20,16 @@ returns : tie.Need-returns
 returns c =
     let f = c .before .before .before .args .f .now in
     let item = c .before .before .before .args .item in
-    let e = c .rank .ensures ∙ ap (λ (s : ℕ). rank s item) (c .before .set .ensures) in
-    (e, omega (arith, e, rank-count (numberAt 8 f 2) item, count-le (numberAt 8 f 2) 64 (numberAt-lt 8 f 2 (λ i. c .before .before .shared-slice-known .given i .fits))))
+    let e = c .rank .ensures ∙ ap (λ (s : ℕ). rank s item) (c .before .set .ensures) in (
+      e,
+      omega (
+        arith,
+        e,
+        rank-count (numberAt 8 f 2) item,
+        count-le (numberAt 8 f 2) 64
+            (numberAt-lt 8 f 2 (λ i. c .before .before .shared-slice-known .given i .fits)),
+      ),
+    )
 
 pub place-spec : {M : Type 1} → statement M
 place-spec = tie.close (tie.spec set-requires rank-requires returns)

@@ -1,4 +1,5 @@
--- `judge_log::fields::shown` meets its contract: the set where the kind is the one asked for, else none.
+-- `judge_log::fields::shown` meets its contract: the set where the kind is the one asked for, else
+-- none.
 use mathlib.Core.Path.{sym, _∙_}
 use lib.ListN.{getD}
 use borrow.Author.Tests.{eq-eqb, ne-eqb}
@@ -17,7 +18,8 @@ returns : tie.Need-returns
 unfolding shown
 returns c =
     let f = c .before .before .before .before .args .f .now in
-    rw (eq-eqb (getD f 0 0) 0x21 (sym (c .before .before .byte .ensures .0) ∙ c .before .if1 .taken)) (c .set .ensures)
+    rw (eq-eqb (getD f 0 0) 0x21 (sym (c .before .before .byte .ensures .0)
+    ∙ c .before .if1 .taken)) (c .set .ensures)
 
 returns-2 : tie.Need-returns-2
 unfolding shown

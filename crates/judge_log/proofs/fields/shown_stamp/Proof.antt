@@ -36,8 +36,10 @@ returns : tie.Need-returns
 unfolding shownStamp
 returns c =
     let f = c .before .before .before .before .args .f .now in
-    ap₂ (λ (number writer : ℕ). number * 16 + writer) (c .before .word .ensures .0) (c .byte .ensures .0)
-    ∙ ap (λ (i : ℕ). numberAt 4 f (10 + 9 * i) * 16 + getD f (10 + 9 * i + 4) 0) (c .before .before .place .ensures .0)
+    ap₂ (λ (number writer : ℕ). number * 16 + writer) (c .before .word .ensures .0)
+    (c .byte .ensures .0)
+    ∙ ap (λ (i : ℕ). numberAt 4 f (10 + 9 * i) * 16 + getD f (10 + 9 * i + 4) 0)
+    (c .before .before .place .ensures .0)
 
 pub shown-stamp-spec : {M : Type 1} → statement M
 shown-stamp-spec =

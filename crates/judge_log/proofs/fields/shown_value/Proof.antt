@@ -26,7 +26,8 @@ returns : tie.Need-returns
 unfolding shownValue
 returns c =
     c .word .ensures .0
-    ∙ ap (λ (i : ℕ). numberAt 4 (c .before .before .before .args .f .now) (10 + 9 * i + 5)) (c .before .place .ensures .0)
+    ∙ ap (λ (i : ℕ). numberAt 4 (c .before .before .before .args .f .now) (10 + 9 * i + 5))
+    (c .before .place .ensures .0)
 
 pub shown-value-spec : {M : Type 1} → statement M
 shown-value-spec =

@@ -9,8 +9,16 @@ number-requires : tie.Need-number-requires
 number-requires c κs = search needs
 
 returns : tie.Need-returns
-returns c =
-    (c .number .ensures, omega (arith, c .number .ensures, numberAt-lt 4 (c .before .before .args .f .now) (c .before .before .args .at) (λ i. c .before .shared-slice-known .given i .fits)))
+returns c = (
+  c .number .ensures,
+  omega (
+    arith,
+    c .number .ensures,
+    numberAt-lt 4
+        (c .before .before .args .f .now) (c .before .before .args .at)
+        (λ i. c .before .shared-slice-known .given i .fits),
+  ),
+)
 
 pub word-spec : {M : Type 1} → statement M
 word-spec = tie.close (tie.spec number-requires returns)

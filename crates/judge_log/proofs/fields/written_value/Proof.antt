@@ -23,7 +23,8 @@ returns : tie.Need-returns
 unfolding writtenValue
 returns c =
     c .word .ensures .0
-    ∙ ap (λ (i : ℕ). numberAt 4 (c .before .before .before .args .f .now) (14 + 4 * i)) (c .before .place .ensures .0)
+    ∙ ap (λ (i : ℕ). numberAt 4 (c .before .before .before .args .f .now) (14 + 4 * i))
+    (c .before .place .ensures .0)
 
 pub written-value-spec : {M : Type 1} → statement M
 written-value-spec = tie.close (tie.spec place-requires mul-word add-word word-requires returns)

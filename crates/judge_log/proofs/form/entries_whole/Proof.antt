@@ -1,4 +1,5 @@
--- `judge_log::form::entries_whole` meets its contract. The invariant: the entries passed are whole. The measure is what is left.
+-- `judge_log::form::entries_whole` meets its contract. The invariant: the entries passed are whole.
+-- The measure is what is left.
 use mathlib.Core.Bool.{true}
 use mathlib.Core.Path.{_≡_, refl, sym, ap, _∙_}
 use Prim.Native.Nat.{ℕ, _-_, _≤_}
@@ -38,8 +39,11 @@ loop-less c = search needs
 loop-again : tie.Need-loop-again Inv-loop μ-loop
 unfolding every
 loop-again c =
-    rw (add-one (c .before .before .before .loop .i))
-    (and-both _ _ (c .before .before .before .loop .inv .0) (sym (c .before .entry-whole .ensures) ∙ c .if1 .taken), omega arith)
+    rw (add-one (c .before .before .before .loop .i)) (
+      and-both _ _ (c .before .before .before .loop .inv .0)
+          (sym (c .before .entry-whole .ensures) ∙ c .if1 .taken),
+      omega arith,
+    )
 
 returns : tie.Need-returns Inv-loop μ-loop
 unfolding entriesWhole
@@ -47,8 +51,11 @@ returns c =
     let f = c .before .before .before .before .before .before .args .f .now in
     let n = c .before .before .before .before .items .ensures .0 in
     sym
-    (by-test (every (c .before .before .before .before .items .result) (λ i. isWhole (entryNumber f i) (entryWriter f i)))
-    (λ t. not-both (every-at _ _ t (c .before .before .before .loop .i) (c .before .before .loop-test .taken)) (sym (c .before .entry-whole .ensures) ∙ c .if1 .left))
+    (by-test (every (c .before .before .before .before .items .result)
+    (λ i. isWhole (entryNumber f i) (entryWriter f i)))
+    (λ t. not-both (every-at _ _ t (c .before .before .before .loop .i)
+    (c .before .before .loop-test .taken))
+    (sym (c .before .entry-whole .ensures) ∙ c .if1 .left))
     (λ t. ap (λ (m : ℕ). every m (λ i. isWhole (entryNumber f i) (entryWriter f i))) (sym n) ∙ t))
 
 returns-2 : tie.Need-returns-2 Inv-loop μ-loop
@@ -56,7 +63,9 @@ unfolding entriesWhole
 returns-2 c =
     let f = c .before .before .before .before .args .f .now in
     sym
-    (ap (λ (m : ℕ). every m (λ i. isWhole (entryNumber f i) (entryWriter f i))) (sym (c .before .before .items .ensures .0) ∙ sym (le-antisymm (c .before .loop .inv .1) (c .loop-test .left)))
+    (ap (λ (m : ℕ). every m (λ i. isWhole (entryNumber f i) (entryWriter f i)))
+    (sym (c .before .before .items .ensures .0)
+    ∙ sym (le-antisymm (c .before .loop .inv .1) (c .loop-test .left)))
     ∙ c .before .loop .inv .0)
 
 pub entries-whole-spec : {M : Type 1} → statement M

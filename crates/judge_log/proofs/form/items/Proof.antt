@@ -19,8 +19,15 @@ count-requires c κs = search needs
 returns : tie.Need-returns
 returns c =
     let f = c .before .before .before .args .f .now in
-    let e = c .count .ensures ∙ ap (λ (s : ℕ). count s) (c .before .set .ensures) in
-    (e, omega (arith, e, count-le (numberAt 8 f 2) 64 (numberAt-lt 8 f 2 (λ i. c .before .before .shared-slice-known .given i .fits))))
+    let e = c .count .ensures ∙ ap (λ (s : ℕ). count s) (c .before .set .ensures) in (
+      e,
+      omega (
+        arith,
+        e,
+        count-le (numberAt 8 f 2) 64
+            (numberAt-lt 8 f 2 (λ i. c .before .before .shared-slice-known .given i .fits)),
+      ),
+    )
 
 pub items-spec : {M : Type 1} → statement M
 items-spec = tie.close (tie.spec set-requires count-requires returns)

@@ -16,7 +16,8 @@ write-number-requires c κs = search needs
 
 returns : tie.Need-returns
 unfolding parsed
-returns c = rw (sym (c .before .before .before .write-shaped .ensures) ∙ c .before .before .if1 .taken) (cc)
+returns c = rw (sym (c .before .before .before .write-shaped .ensures)
+    ∙ c .before .before .if1 .taken) (cc)
 
 read-shaped-requires : tie.Need-read-shaped-requires
 read-shaped-requires c κs = search needs
@@ -27,15 +28,22 @@ client-requires-2 c κs = search needs
 returns-2 : tie.Need-returns-2
 unfolding parsed
 returns-2 c =
-    rw
-    (sym (c .before .before .before .before .write-shaped .ensures) ∙ c .before .before .before .if1 .left, sym (c .before .before .read-shaped .ensures) ∙ c .before .if2 .taken)
+    rw (
+      sym (c .before .before .before .before .write-shaped .ensures)
+          ∙ c .before .before .before .if1 .left,
+      sym (c .before .before .read-shaped .ensures)
+          ∙ c .before .if2 .taken,
+    )
     (cc)
 
 returns-3 : tie.Need-returns-3
 unfolding parsed
 returns-3 c =
-    rw
-    (sym (c .before .before .before .write-shaped .ensures) ∙ c .before .before .if1 .left, sym (c .before .read-shaped .ensures) ∙ c .if2 .left)
+    rw (
+      sym (c .before .before .before .write-shaped .ensures)
+          ∙ c .before .before .if1 .left,
+      sym (c .before .read-shaped .ensures) ∙ c .if2 .left,
+    )
 
 pub parse-spec : {M : Type 1} → statement M
 parse-spec =

@@ -1,4 +1,5 @@
--- `judge_log::limits::ends` meets its contract. The invariant: the ends counted and those left are all of them. The measure is what is left.
+-- `judge_log::limits::ends` meets its contract. The invariant: the ends counted and those left are
+-- all of them. The measure is what is left.
 use mathlib.Core.Bool.{cond}
 use mathlib.Core.Path.{_≡_}
 use mathlib.Core.List.{List}
@@ -15,12 +16,15 @@ use Rattle.judge_log.proofs.limits.ends.Statement.{statement}
 use Rattle.judge_log.proofs.limits.ends.Tie as tie
 
 abbrev Inv-loop : tie.InvT-loop
-Inv-loop log n₀ i₀ n i = (n + counted (λ c. eqb c 0x0a) (drop i log) ≡ counted (λ c. eqb c 0x0a) log) × (n ≤ i)
+Inv-loop log n₀ i₀ n i = (n + counted (λ c. eqb c 0x0a) (drop i log) ≡ counted
+    (λ c. eqb c 0x0a) log) × (n ≤ i)
 
 abbrev μ-loop : tie.MeasureT-loop
 μ-loop log n₀ i₀ n i = length log - i
 
-counted-next : (log : List ℕ) (i : ℕ) → i < length log → counted (λ c. eqb c 0x0a) (drop i log) ≡ cond (eqb (getD log i 0) 0x0a) 1 0 + counted (λ c. eqb c 0x0a) (drop (i + 1) log)
+counted-next : (log : List ℕ) (i : ℕ) → i < length log
+    → counted (λ c. eqb c 0x0a) (drop i log) ≡ cond (eqb (getD log i 0) 0x0a) 1 0 + counted
+    (λ c. eqb c 0x0a) (drop (i + 1) log)
 unfolding counted
 counted-next log i h = rw (drop-cons log i 0 h, add-one i)
 
@@ -47,10 +51,24 @@ loop-less : tie.Need-loop-less Inv-loop μ-loop
 loop-less c = search needs
 
 loop-again : tie.Need-loop-again Inv-loop μ-loop
-loop-again c = (omega (arith, counted-next (c .before .before .before .before .before .args .log .now) (c .before .before .before .loop .i) (c .before .before .loop-test .taken), c .is-end .ensures .0), omega arith)
+loop-again c = (
+  omega (
+    arith,
+    counted-next
+        (c .before .before .before .before .before .args .log .now) (c .before .before .before .loop .i)
+        (c .before .before .loop-test .taken),
+    c .is-end .ensures .0,
+  ),
+  omega arith,
+)
 
 returns : tie.Need-returns Inv-loop μ-loop
-returns c = omega (arith, counted-end (c .before .before .before .args .log .now) (c .before .loop .i) (c .loop-test .left), c .before .loop .inv .0)
+returns c = omega (
+  arith,
+  counted-end (c .before .before .before .args .log .now)
+      (c .before .loop .i) (c .loop-test .left),
+  c .before .loop .inv .0,
+)
 
 pub ends-spec : {M : Type 1} → statement M
 ends-spec =

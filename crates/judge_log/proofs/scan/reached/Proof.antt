@@ -1,4 +1,5 @@
--- `judge_log::scan::reached` meets its contract. The invariant: what is left from frame j on decides as the whole does. The measure is what is left.
+-- `judge_log::scan::reached` meets its contract. The invariant: what is left from frame j on
+-- decides as the whole does. The measure is what is left.
 use mathlib.Core.Path.{_≡_, refl, sym, ap, _∙_}
 use Prim.Native.Nat.{_-_}
 use lib.ListN.{drop}
@@ -11,7 +12,9 @@ use Rattle.judge_log.proofs.scan.reached.Statement.{statement}
 use Rattle.judge_log.proofs.scan.reached.Tie as tie
 
 abbrev Inv-loop : tie.InvT-loop
-Inv-loop bytes starts n of number j₀ j = some (reaches of number) (drop j (framesIn bytes starts n)) ≡ some (reaches of number) (framesIn bytes starts n)
+Inv-loop bytes starts n of number j₀ j =
+    some (reaches of number) (drop j (framesIn bytes starts n)) ≡ some (reaches of number)
+    (framesIn bytes starts n)
 
 abbrev μ-loop : tie.MeasureT-loop
 μ-loop bytes starts n of number j₀ j = n - j
@@ -20,8 +23,11 @@ module _ (c : tie.After-reaches Inv-loop μ-loop) where
   abbrev start : tie.Start Inv-loop μ-loop
   start = c .before .before .before .before .before .before
 
-  test : reaches (start .args .of) (start .args .number) (frameIn (start .args .bytes .now) (start .args .starts .now) (c .before .before .before .loop .j)) ≡ c .reaches .result
-  test = ap (reaches (start .args .of) (start .args .number)) (sym (c .before .frame .ensures)) ∙ sym (c .reaches .ensures)
+  test : reaches (start .args .of) (start .args .number)
+      (frameIn (start .args .bytes .now) (start .args .starts .now)
+      (c .before .before .before .loop .j)) ≡ c .reaches .result
+  test = ap (reaches (start .args .of) (start .args .number)) (sym (c .before .frame .ensures))
+      ∙ sym (c .reaches .ensures)
 
 loop-holds : tie.Need-loop-holds Inv-loop μ-loop
 loop-holds c = refl
@@ -34,7 +40,8 @@ reaches-requires c κs = search needs
 
 returns : tie.Need-returns Inv-loop μ-loop
 returns c =
-    sym (cut-here _ _ _ _ _ (c .before .before .before .loop-test .taken) (test (c .before) ∙ c .if1 .taken))
+    sym (cut-here _ _ _ _ _ (c .before .before .before .loop-test .taken)
+    (test (c .before) ∙ c .if1 .taken))
     ∙ c .before .before .before .before .loop .inv
 
 add-j : tie.Need-add-j Inv-loop μ-loop
@@ -45,7 +52,8 @@ loop-less c = search needs
 
 loop-again : tie.Need-loop-again Inv-loop μ-loop
 loop-again c =
-    sym (cut-next _ _ _ _ _ (c .before .before .before .loop-test .taken) (test (c .before) ∙ c .if1 .left))
+    sym (cut-next _ _ _ _ _ (c .before .before .before .loop-test .taken)
+    (test (c .before) ∙ c .if1 .left))
     ∙ c .before .before .before .before .loop .inv
 
 returns-2 : tie.Need-returns-2 Inv-loop μ-loop

@@ -1,4 +1,5 @@
--- `judge_log::scan::scan` meets its contract. The invariant: the lines taken lie in the bytes, and the rest of the log is what is left of its lines. The measure is what is left of the log.
+-- `judge_log::scan::scan` meets its contract. The invariant: the lines taken lie in the bytes, and
+-- the rest of the log is what is left of its lines. The measure is what is left of the log.
 use mathlib.Core.List.{List}
 use mathlib.Core.Path.{subst}
 use Prim.Native.Nat.{ℕ, _-_}
@@ -27,9 +28,15 @@ module _ (c : tie.After-known-told Inv-loop μ-loop) where
   abbrev log : List ℕ
   log = c .before .before .before .before .before .before .before .before .before .before .before .before .before .before .before .args .log .now
 
-  stepped : Step log (head .loop .at) (head .loop .i) (head .loop .bytes) (head .loop .starts) (c .before .before .before .before .before .before .before .take-line .last .1 .1 .0) (c .before .before .before .before .before .before .before .take-line .last .1 .1 .1 .0) (c .before .taken .given .0 .0)
+  stepped : Step log (head .loop .at) (head .loop .i) (head .loop .bytes) (head .loop .starts)
+      (c .before .before .before .before .before .before .before .take-line .last .1 .1 .0)
+      (c .before .before .before .before .before .before .before .take-line .last .1 .1 .1 .0)
+      (c .before .taken .given .0 .0)
   stepped =
-      subst (λ (t : Taken). TakenOf log (head .loop .at) (head .loop .i) (head .loop .bytes) (head .loop .starts) (c .before .before .before .before .before .before .before .take-line .last .1 .1 .0) (c .before .before .before .before .before .before .before .take-line .last .1 .1 .1 .0) t) (c .before .taken .given .1) (c .before .before .before .before .before .before .before .take-line .ensures)
+      subst (λ (t : Taken). TakenOf log (head .loop .at) (head .loop .i) (head .loop .bytes)
+      (head .loop .starts)
+      (c .before .before .before .before .before .before .before .take-line .last .1 .1 .0)
+      (c .before .before .before .before .before .before .before .take-line .last .1 .1 .1 .0) t) (c .before .taken .given .1) (c .before .before .before .before .before .before .before .take-line .ensures)
 
 loop-holds : tie.Need-loop-holds Inv-loop μ-loop
 loop-holds c = search needs
@@ -53,18 +60,33 @@ returns : tie.Need-returns Inv-loop μ-loop
 returns c =
     let l = c .before .before .before .before .before .before .before .before .before .before in
     let a = c .before .before .before .before .before .before .before .before .before .before .before .before .before .before in
-    let t = subst (λ (t : Taken). TakenOf (a .args .log .now) (l .loop .at) (l .loop .i) (l .loop .bytes) (l .loop .starts) (c .before .before .before .before .before .before .take-line .last .1 .1 .0) (c .before .before .before .before .before .before .take-line .last .1 .1 .1 .0) t) (c .enum-told .given .1) (c .before .before .before .before .before .before .take-line .ensures) in
-    let p = scan-malformed (a .args .log .now) (l .loop .at) (l .loop .bytes) (l .loop .starts) (l .loop .i) (l .loop .inv) (c .before .before .before .before .before .before .before .before .before .loop-test .taken) t in
+    let t = subst (λ (t : Taken). TakenOf (a .args .log .now) (l .loop .at) (l .loop .i)
+    (l .loop .bytes) (l .loop .starts)
+    (c .before .before .before .before .before .before .take-line .last .1 .1 .0)
+    (c .before .before .before .before .before .before .take-line .last .1 .1 .1 .0) t)
+    (c .enum-told .given .1)
+    (c .before .before .before .before .before .before .take-line .ensures) in
+    let p = scan-malformed (a .args .log .now) (l .loop .at) (l .loop .bytes) (l .loop .starts)
+    (l .loop .i) (l .loop .inv)
+    (c .before .before .before .before .before .before .before .before .before .loop-test .taken) t in
     (p .0, p .1, omega (arith, l .loop .inv .ends))
 
 add-i : tie.Need-add-i Inv-loop μ-loop
 add-i c = search needs
 
 loop-less : tie.Need-loop-less Inv-loop μ-loop
-loop-less c = omega (arith, stepped c .after, lineEnd-ge (log c) (head c .loop .at), c .before .before .before .before .before .before .before .before .before .before .loop-test .taken)
+loop-less c = omega (
+  arith,
+  stepped c .after,
+  lineEnd-ge (log c)
+      (head c .loop .at),
+  c .before .before .before .before .before .before .before .before .before .before .loop-test .taken,
+)
 
 loop-again : tie.Need-loop-again Inv-loop μ-loop
-loop-again c = scan-step (log c) (head c .loop .at) (head c .loop .bytes) (head c .loop .starts) (head c .loop .i) (head c .loop .inv) (c .before .before .before .before .before .before .before .before .before .before .loop-test .taken) _ _ _ (stepped c)
+loop-again c = scan-step (log c) (head c .loop .at) (head c .loop .bytes) (head c .loop .starts)
+    (head c .loop .i) (head c .loop .inv)
+    (c .before .before .before .before .before .before .before .before .before .before .loop-test .taken) _ _ _ (stepped c)
 
 same-length-3 : tie.Need-same-length-3 Inv-loop μ-loop
 same-length-3 c = search needs
@@ -75,7 +97,8 @@ same-length-4 c = search needs
 returns-2 : tie.Need-returns-2 Inv-loop μ-loop
 returns-2 c =
     let l = c .before in
-    let p = scan-end (c .before .before .before .before .before .args .log .now) (l .loop .at) (l .loop .bytes) (l .loop .starts) (l .loop .i) (l .loop .inv) (c .loop-test .left) in
+    let p = scan-end (c .before .before .before .before .before .args .log .now) (l .loop .at)
+    (l .loop .bytes) (l .loop .starts) (l .loop .i) (l .loop .inv) (c .loop-test .left) in
     (p .0, p .1, p .2, omega (arith, l .loop .inv .ends))
 
 pub scan-spec : {M : Type 1} → statement M

@@ -1,4 +1,5 @@
--- `judge_log::scan::store` meets its contract: what decoding stores in the part that it was lent, it stores in the whole.
+-- `judge_log::scan::store` meets its contract: what decoding stores in the part that it was lent,
+-- it stores in the whole.
 use mathlib.Core.List.{List, _++_}
 use mathlib.Core.Path.{ap, _∙_}
 use Prim.Native.Nat.{ℕ, _-_}
@@ -33,7 +34,8 @@ returns c =
     let bytes = a .args .bytes .now in
     let end = a .args .end in (
       c .before .before .decode .ensures .0,
-      ap (λ (l : List ℕ). take end bytes ++ (l ++ drop (length bytes - end) (drop end bytes))) (c .before .before .decode .ensures .1)
+      ap (λ (l : List ℕ). take end bytes ++ (l ++ drop (length bytes - end) (drop end bytes)))
+          (c .before .before .decode .ensures .1)
           ∙ put-part (bytesOf line) bytes end (omega (arith, length-bytesOf-le line, a .pre)),
     )
 

@@ -1,5 +1,5 @@
--- `judge_log::scan::take_line` meets its contract: a line that isn't text is malformed, and one that is has its bytes behind the frames before,
--- where parsing finds them.
+-- `judge_log::scan::take_line` meets its contract: a line that isn't text is malformed, and one
+-- that is has its bytes behind the frames before, where parsing finds them.
 use borrow.Author.Needs.{needs}
 use mathlib.Core.Bool.{true}
 use mathlib.Core.List.{List}
@@ -19,7 +19,8 @@ use Rattle.judge_log.specs.Log.{frameOf, malformed}
 use Rattle.judge_log.specs.Parsed.{parsed, refused}
 use Rattle.judge_log.proofs.Parsed.{malformed-parsed}
 use Rattle.judge_log.specs.Scan.{Room, Step, lineAt}
-use Rattle.judge_log.proofs.Scanning.{textAt, frame-hex, frame-not, frame-unended, malformed-empty, kept, fits, new, step}
+use Rattle.judge_log.proofs.Scanning.{textAt, frame-hex, frame-not, frame-unended}
+use Rattle.judge_log.proofs.Scanning.{malformed-empty, kept, fits, new, step}
 use Rattle.judge_log.proofs.scan.take_line.Statement.{statement}
 use Rattle.judge_log.proofs.scan.take_line.Tie as tie
 
@@ -56,7 +57,8 @@ module _ (c : tie.After-store) where
   ended : lineEnd log at < length log
   ended = omega (arith, ends, c .before .before .before .if1 .taken)
 
-  text : take (c .before .before .before .before .line-end .result - at) (drop at log) ≡ textAt log at
+  text : take (c .before .before .before .before .line-end .result - at)
+      (drop at log) ≡ textAt log at
   text = ap (λ (n : ℕ). take (n - at) (drop at log)) ends
 
   answer : c .store .result ≡ decoded (textAt log at)
@@ -77,8 +79,10 @@ module _ (c : tie.After-known-told) where
   abbrev frame : List ℕ
   frame = bytesOf (textAt (log of-store) (at of-store))
 
-  sized : (isHex (textAt (log of-store) (at of-store)) ≡ true) × (size ≡ length (textAt (log of-store) (at of-store)) / 2)
-  sized = decoded-bytes (textAt (log of-store) (at of-store)) size (sym (c .before .text .given .1) ∙ answer of-store)
+  sized : (isHex (textAt (log of-store) (at of-store)) ≡ true)
+      × (size ≡ length (textAt (log of-store) (at of-store)) / 2)
+  sized = decoded-bytes (textAt (log of-store) (at of-store)) size
+      (sym (c .before .text .given .1) ∙ answer of-store)
 
   hex : isHex (textAt (log of-store) (at of-store)) ≡ true
   hex = sized .0
@@ -87,11 +91,18 @@ module _ (c : tie.After-known-told) where
   stop = c .before .before .before .before .before .before .before .before .before .before .start .result + size
 
   end-at : stop ≡ getD (starts of-store) (i of-store) 0 + length frame
-  end-at = ap₂ _+_ (begins of-store) (sized .1 ∙ sym (length-bytesOf (textAt (log of-store) (at of-store)) hex))
+  end-at = ap₂ _+_ (begins of-store)
+      (sized .1 ∙ sym (length-bytesOf (textAt (log of-store) (at of-store)) hex))
 
   within : stop ≤ 16384
   within =
-      omega (arith, end-at, fits (log of-store) (at of-store) (bytes of-store) (starts of-store) (i of-store) (room of-store) (ended of-store) hex, room of-store .bytes-long)
+      omega (
+        arith,
+        end-at,
+        fits (log of-store) (at of-store) (bytes of-store) (starts of-store)
+            (i of-store) (room of-store) (ended of-store) hex,
+        room of-store .bytes-long,
+      )
 
 -- ---- and is parsed
 
@@ -108,11 +119,15 @@ module _ (c : tie.After-parse) where
       ∙ ap parsed
       (c .before .part .ensures
       ∙ ap₂ (λ (b : List ℕ) (n : ℕ). part b n (stop of-text)) (stored of-line) (begins of-line)
-      ∙ new (log of-line) (at of-line) (bytes of-line) (starts of-line) (i of-line) (room of-line) (ended of-line) (hex of-text) _ (end-at of-text))
+      ∙ new (log of-line) (at of-line) (bytes of-line) (starts of-line) (i of-line) (room of-line)
+      (ended of-line) (hex of-text) _ (end-at of-text))
 
-  parsed-line : malformed (framesIn (bytes of-line) (starts of-line) (i of-line)) (frameOf (lineAt (log of-line) (at of-line))) ≡ refused (framesIn (bytes of-line) (starts of-line) (i of-line)) (c .parse .result)
+  parsed-line : malformed (framesIn (bytes of-line) (starts of-line) (i of-line))
+      (frameOf (lineAt (log of-line) (at of-line))) ≡ refused
+      (framesIn (bytes of-line) (starts of-line) (i of-line)) (c .parse .result)
   parsed-line =
-      ap (malformed (framesIn (bytes of-line) (starts of-line) (i of-line))) (frame-hex (log of-line) (at of-line) (ended of-line) (hex of-text))
+      ap (malformed (framesIn (bytes of-line) (starts of-line) (i of-line)))
+      (frame-hex (log of-line) (at of-line) (ended of-line) (hex of-text))
       ∙ malformed-parsed (framesIn (bytes of-line) (starts of-line) (i of-line)) (frame of-text)
       ∙ ap (refused (framesIn (bytes of-line) (starts of-line) (i of-line))) (sym is-frame)
 
@@ -123,13 +138,15 @@ module _ (c : tie.After-repeats) where
   abbrev of-read : tie.After-store
   of-read = of-line of-parse
 
-  judged-line : malformed (framesIn (bytes of-read) (starts of-read) (i of-read)) (frameOf (lineAt (log of-read) (at of-read))) ≡ c .repeats .result
+  judged-line : malformed (framesIn (bytes of-read) (starts of-read) (i of-read))
+      (frameOf (lineAt (log of-read) (at of-read))) ≡ c .repeats .result
   judged-line =
       parsed-line of-parse
       ∙ ap₂ refused
       (sym
       (ap (λ (b : List ℕ). framesIn b (starts of-read) (i of-read)) (stored of-read)
-      ∙ kept (log of-read) (at of-read) (bytes of-read) (starts of-read) (i of-read) (room of-read) (ended of-read) (hex (of-text of-parse))))
+      ∙ kept (log of-read) (at of-read) (bytes of-read) (starts of-read) (i of-read) (room of-read)
+      (ended of-read) (hex (of-text of-parse))))
       (c .before .before .before .before .frame .given .1)
       ∙ sym (c .repeats .ensures)
 
@@ -142,10 +159,22 @@ line-end-requires : tie.Need-line-end-requires
 line-end-requires c κs = search needs
 
 sub-store : tie.Need-sub-store
-sub-store c = omega (arith, c .before .line-end .ensures, lineEnd-ge (c .before .before .before .before .before .before .before .args .log .now) (c .before .before .before .before .before .before .before .args .at))
+sub-store c = omega (
+  arith,
+  c .before .line-end .ensures,
+  lineEnd-ge
+      (c .before .before .before .before .before .before .before .args .log .now)
+      (c .before .before .before .before .before .before .before .args .at),
+)
 
 part-store-start : tie.Need-part-store-start
-part-store-start c = omega (arith, c .before .line-end .ensures, lineEnd-ge (c .before .before .before .before .before .before .before .args .log .now) (c .before .before .before .before .before .before .before .args .at))
+part-store-start c = omega (
+  arith,
+  c .before .line-end .ensures,
+  lineEnd-ge
+      (c .before .before .before .before .before .before .before .args .log .now)
+      (c .before .before .before .before .before .before .before .args .at),
+)
 
 part-store-end : tie.Need-part-store-end
 part-store-end c = search needs
@@ -168,7 +197,8 @@ same-length-2 c = search needs
 returns : tie.Need-returns
 returns c =
     let s = c .before .before .before .before in
-    ap (malformed _) (frame-not (log s) (at s) (ended s) (decoded-malformed (textAt (log s) (at s)) (sym (c .enum-told .given .1) ∙ answer s)))
+    ap (malformed _) (frame-not (log s) (at s) (ended s)
+    (decoded-malformed (textAt (log s) (at s)) (sym (c .enum-told .given .1) ∙ answer s)))
     ∙ malformed-empty _
 
 add-part : tie.Need-add-part
@@ -208,7 +238,11 @@ returns-3 : tie.Need-returns-3
 returns-3 c = judged-line (c .before) ∙ c .if2 .taken
 
 add-starts : tie.Need-add-starts
-add-starts c = omega (arith, within (c .before .before .before .before .before .before .before .before .before .before))
+add-starts c = omega (
+  arith,
+  within
+      (c .before .before .before .before .before .before .before .before .before .before),
+)
 
 add-starts-2 : tie.Need-add-starts-2
 add-starts-2 c = search needs
@@ -232,12 +266,14 @@ returns-4 : tie.Need-returns-4
 returns-4 c =
     let k = c .before .before .before .before .before .before .before .before .before .before in
     let s = of-store k in
-    subst₃ (λ (b' s' : List ℕ) (next : ℕ). Step (log s) (at s) (i s) (bytes s) (starts s) b' s' next)
+    subst₃ (λ (b' s' : List ℕ) (next : ℕ). Step (log s) (at s) (i s) (bytes s)
+    (starts s) b' s' next)
     (sym (stored s))
     (ap (λ (n : ℕ). set (starts s) (i s + 1) n) (sym (end-at k)))
     (ap (λ (n : ℕ). n + 1) (sym (ends s)))
     (step (log s) (at s) (bytes s) (starts s) (i s) (room s) (ended s) (hex k)
-    (sym (ap (malformed (framesIn (bytes s) (starts s) (i s))) (frame-hex (log s) (at s) (ended s) (hex k))) ∙ judged-line (c .before) ∙ c .if2 .left))
+    (sym (ap (malformed (framesIn (bytes s) (starts s) (i s)))
+    (frame-hex (log s) (at s) (ended s) (hex k))) ∙ judged-line (c .before) ∙ c .if2 .left))
 
 same-length-9 : tie.Need-same-length-9
 same-length-9 c = search needs
@@ -245,7 +281,8 @@ same-length-9 c = search needs
 returns-5 : tie.Need-returns-5
 returns-5 c =
     let a = c .before .before .before .before .before .before .before .args in
-    ap (malformed _) (frame-unended (a .log .now) (a .at) (omega (arith, c .before .line-end .ensures, c .if1 .left))) ∙ malformed-empty _
+    ap (malformed _) (frame-unended (a .log .now) (a .at)
+    (omega (arith, c .before .line-end .ensures, c .if1 .left))) ∙ malformed-empty _
 
 pub take-line-spec : {M : Type 1} → statement M
 take-line-spec =

@@ -31,7 +31,9 @@ same-length c = search needs
 returns : tie.Need-returns
 returns c =
     let a = c .before .before .before .before .before .before .before .before .before .args in
-    answered-same (a .b .now) (a .output .now) (ap (λ (k : ℕ). take k (a .line .now)) (sub-zero (a .at))) (c .before .before .answer-line .ensures)
+    answered-same (a .b .now) (a .output .now)
+    (ap (λ (k : ℕ). take k (a .line .now)) (sub-zero (a .at)))
+    (c .before .before .answer-line .ensures)
 
 same-length-2 : tie.Need-same-length-2
 same-length-2 c = search needs
@@ -39,7 +41,8 @@ same-length-2 c = search needs
 returns-2 : tie.Need-returns-2
 returns-2 c =
     let a = c .before .before .before .before .before .before .before .before .args in
-    answered-same (a .b .now) (a .output .now) (sym (take-all (a .at) (a .line .now) (omega arith))) (c .before .before .answer-line2 .ensures)
+    answered-same (a .b .now) (a .output .now) (sym (take-all (a .at) (a .line .now) (omega arith)))
+    (c .before .before .answer-line2 .ensures)
 
 pub answer-front-spec : {M : Type 1} → statement M
 answer-front-spec =

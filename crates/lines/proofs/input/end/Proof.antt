@@ -20,7 +20,9 @@ same-length c = search needs
 returns-2 : tie.Need-returns-2
 returns-2 c =
     let a = c .before .before .before .before .before .before .before .before .args in
-    end-some (a .b .now) (a .output .now) (take (a .at) (a .line .now)) (take-some (a .at) (a .line .now) (omega arith) (omega arith)) (c .before .before .answer-front .ensures)
+    end-some (a .b .now) (a .output .now) (take (a .at) (a .line .now))
+    (take-some (a .at) (a .line .now) (omega arith) (omega arith))
+    (c .before .before .answer-front .ensures)
 
 pub end-spec : {M : Type 1} → statement M
 end-spec = tie.close (tie.spec answer-front-requires returns same-length returns-2)

@@ -1,4 +1,5 @@
--- `lines::input::feed_slice` meets its contract: a 0a ends the line that is kept with it, any other byte is only kept.
+-- `lines::input::feed_slice` meets its contract: a 0a ends the line that is kept with it, any other
+-- byte is only kept.
 use borrow.Author.Needs.{needs}
 use lib.ListN.{take}
 use borrow.Author.Tests.{eq-eqb, ne-eqb}
@@ -22,7 +23,9 @@ returns : tie.Need-returns
 returns c =
     let a = c .before .before .before .before .before .before .before .before .before .before .before .before .before .args in
     let k = c .before .before .before .before .before .before .before .before .before .keep .ensures in
-    fed-end (a .b .now) (a .output .now) (take (a .at) (a .line .now)) (a .c) (eq-eqb (a .c) 0x0a (c .before .before .before .before .before .before .if1 .taken)) (k .1 .0) (c .before .before .answer-front .ensures) (k .1 .1)
+    fed-end (a .b .now) (a .output .now) (take (a .at) (a .line .now)) (a .c)
+    (eq-eqb (a .c) 0x0a (c .before .before .before .before .before .before .if1 .taken))
+    (k .1 .0) (c .before .before .answer-front .ensures) (k .1 .1)
 
 same-length-3 : tie.Need-same-length-3
 same-length-3 c = search needs
@@ -31,7 +34,8 @@ returns-2 : tie.Need-returns-2
 returns-2 c =
     let a = c .before .before .before .before .before .before .before .args in
     let k = c .before .before .before .keep .ensures in
-    fed-within (a .b .now) (a .output .now) (take (a .at) (a .line .now)) (a .c) (ne-eqb (a .c) 0x0a (c .if1 .left)) (k .0) (k .1 .0) (k .1 .1)
+    fed-within (a .b .now) (a .output .now) (take (a .at) (a .line .now)) (a .c)
+    (ne-eqb (a .c) 0x0a (c .if1 .left)) (k .0) (k .1 .0) (k .1 .1)
 
 pub feed-slice-spec : {M : Type 1} → statement M
 feed-slice-spec =

@@ -1,4 +1,5 @@
--- `lines::input::keep` meets its contract: behind fewer than 534 bytes one more is kept, behind 534 none.
+-- `lines::input::keep` meets its contract: behind fewer than 534 bytes one more is kept, behind 534
+-- none.
 use borrow.Author.Needs.{needs}
 use mathlib.Core.Path.{refl, sym}
 use native.Mathlib.Omega.{arith}

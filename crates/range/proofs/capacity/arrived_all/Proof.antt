@@ -1,4 +1,5 @@
--- `range::capacity::arrived_all` meets its contract: a sum over the clients, from client 1 on, each of at most 64.
+-- `range::capacity::arrived_all` meets its contract: a sum over the clients, from client 1 on, each
+-- of at most 64.
 use borrow.Author.Needs.{needs}
 use mathlib.Core.Path.{_≡_, sym}
 use Prim.Native.Nat.{_-_, _*_, _≤_}
@@ -10,7 +11,8 @@ use Rattle.range.proofs.capacity.arrived_all.Statement.{statement}
 use Rattle.range.proofs.capacity.arrived_all.Tie as tie
 
 abbrev Inv-loop : tie.InvT-loop
-Inv-loop b clients sum₀ i₀ sum i = (i ≤ clients) × (sum ≡ total i (λ d. arrived (clientIn b d))) × (sum ≤ 64 * i)
+Inv-loop b clients sum₀ i₀ sum i =
+    (i ≤ clients) × (sum ≡ total i (λ d. arrived (clientIn b d))) × (sum ≤ 64 * i)
 
 abbrev μ-loop : tie.MeasureT-loop
 μ-loop b clients sum₀ i₀ sum i = clients - i
@@ -34,12 +36,17 @@ loop-less : tie.Need-loop-less Inv-loop μ-loop
 loop-less c = search needs
 
 loop-again : tie.Need-loop-again Inv-loop μ-loop
-loop-again c =
-    (search needs, total-next _ _ _ _ (c .before .before .loop .inv .1) (c .arrived-at .ensures .0), search needs)
+loop-again c = (
+  search needs,
+  total-next _ _ _ _ (c .before .before .loop .inv .1)
+      (c .arrived-at .ensures .0),
+  search needs,
+)
 
 returns : tie.Need-returns Inv-loop μ-loop
 returns c = (
-  at-end (λ n. total n (λ d. arrived (clientIn (c .before .before .before .args .b .now) d))) (c .before .loop .inv .0) (c .loop-test .left)
+  at-end (λ n. total n (λ d. arrived (clientIn (c .before .before .before .args .b .now) d)))
+      (c .before .loop .inv .0) (c .loop-test .left)
       (c .before .loop .inv .1),
   omega arith,
 )

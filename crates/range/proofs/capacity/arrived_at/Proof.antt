@@ -1,4 +1,5 @@
--- `range::capacity::arrived_at` meets its contract: of a writing client, the items of its set no longer awaited.
+-- `range::capacity::arrived_at` meets its contract: of a writing client, the items of its set no
+-- longer awaited.
 use borrow.Author.Needs.{needs}
 use mathlib.Core.Path.{_≡_, ap₂, _∙_}
 use Prim.Native.Nat.{_-_}
@@ -14,7 +15,11 @@ mode-requires : tie.Need-mode-requires
 mode-requires c κs = search needs
 
 returns : tie.Need-returns
-returns c = (arrived-other (c .before .before .before .args .b .now) (c .before .before .before .args .d) (omega arith), search needs)
+returns c = (
+  arrived-other (c .before .before .before .args .b .now)
+      (c .before .before .before .args .d) (omega arith),
+  search needs,
+)
 
 set-of-requires : tie.Need-set-of-requires
 set-of-requires c κs = search needs
@@ -31,16 +36,25 @@ count-requires-2 c κs = search needs
 -- past the counts: those of a writing client
 come : (a : tie.After-count2)
     → a .before .before .count .result - a .count2 .result
-    ≡ arrived (clientIn (a .before .before .before .before .before .before .before .args .b .now) (a .before .before .before .before .before .before .before .args .d))
+    ≡ arrived (clientIn (a .before .before .before .before .before .before .before .args .b .now)
+    (a .before .before .before .before .before .before .before .args .d))
 come a =
     ap₂ _-_ (a .before .before .count .ensures) (a .count2 .ensures)
-    ∙ arrived-write _ _ _ _ (a .before .before .before .set-of .ensures) (a .before .awaited .ensures) (omega arith)
+    ∙ arrived-write _ _ _ _ (a .before .before .before .set-of .ensures)
+    (a .before .awaited .ensures) (omega arith)
 
 returns-2 : tie.Need-returns-2
 returns-2 c = (omega (arith, come (c .before)), search needs)
 
 returns-3 : tie.Need-returns-3
-returns-3 c = (come (c .before), omega (arith, count-le (c .before .before .before .before .set-of .result) 64 (search needs)))
+returns-3 c = (
+  come (c .before),
+  omega (
+    arith,
+    count-le
+        (c .before .before .before .before .set-of .result) 64 (search needs),
+  ),
+)
 
 pub arrived-at-spec : {M : Type 1} → statement M
 arrived-at-spec =

@@ -10,13 +10,15 @@ message-word-requires c κs = search needs
 
 returns : tie.Need-returns
 returns c = (
-  prepare-one (c .before .before .before .args .b .now) (c .before .before .before .args .i) (sym (c .before .message-word .ensures) ∙ c .if1 .taken),
+  prepare-one (c .before .before .before .args .b .now) (c .before .before .before .args .i)
+      (sym (c .before .message-word .ensures) ∙ c .if1 .taken),
   search needs,
 )
 
 returns-2 : tie.Need-returns-2
 returns-2 c = (
-  prepare-other (c .before .before .before .args .b .now) (c .before .before .before .args .i) (λ e. c .if1 .left (c .before .message-word .ensures ∙ e)),
+  prepare-other (c .before .before .before .args .b .now) (c .before .before .before .args .i)
+      (λ e. c .if1 .left (c .before .message-word .ensures ∙ e)),
   search needs,
 )
 

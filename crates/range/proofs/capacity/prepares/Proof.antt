@@ -11,7 +11,8 @@ use Rattle.range.proofs.capacity.prepares.Statement.{statement}
 use Rattle.range.proofs.capacity.prepares.Tie as tie
 
 abbrev Inv-loop : tie.InvT-loop
-Inv-loop b messages sum₀ i₀ sum i = (i ≤ messages) × (sum ≡ counted isPrepare (table i (messageIn b))) × (sum ≤ i)
+Inv-loop b messages sum₀ i₀ sum i =
+    (i ≤ messages) × (sum ≡ counted isPrepare (table i (messageIn b))) × (sum ≤ i)
 
 abbrev μ-loop : tie.MeasureT-loop
 μ-loop b messages sum₀ i₀ sum i = messages - i
@@ -32,12 +33,17 @@ loop-less : tie.Need-loop-less Inv-loop μ-loop
 loop-less c = search needs
 
 loop-again : tie.Need-loop-again Inv-loop μ-loop
-loop-again c =
-    (search needs, counted-next _ _ _ _ _ (c .before .before .loop .inv .1) (c .prepare-at .ensures .0), search needs)
+loop-again c = (
+  search needs,
+  counted-next _ _ _ _ _ (c .before .before .loop .inv .1)
+      (c .prepare-at .ensures .0),
+  search needs,
+)
 
 returns : tie.Need-returns Inv-loop μ-loop
 returns c = (
-  at-end (λ n. counted isPrepare (table n (messageIn (c .before .before .before .args .b .now)))) (c .before .loop .inv .0) (c .loop-test .left)
+  at-end (λ n. counted isPrepare (table n (messageIn (c .before .before .before .args .b .now))))
+      (c .before .loop .inv .0) (c .loop-test .left)
       (c .before .loop .inv .1),
   omega arith,
 )

@@ -1,4 +1,5 @@
--- `range::client::asked_in_range` meets its contract: a write has its one stamp, any other client the stamps of its items.
+-- `range::client::asked_in_range` meets its contract: a write has its one stamp, any other client
+-- the stamps of its items.
 use borrow.Author.Needs.{needs}
 use native.Mathlib.Omega.{arith}
 use Rattle.range.proofs.ClientTests.{asked-write, asked-other}

@@ -1,4 +1,5 @@
--- `range::client::client_in_range` meets its contract: its parts are the protocol's test of the client.
+-- `range::client::client_in_range` meets its contract: its parts are the protocol's test of the
+-- client.
 use borrow.Author.Needs.{needs}
 use Rattle.range.proofs.ClientTests.{client-tests}
 use Rattle.range.proofs.client.client_in_range.Statement.{statement}

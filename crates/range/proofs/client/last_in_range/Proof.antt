@@ -11,7 +11,8 @@ last-kind-requires c κs = search needs
 
 returns : tie.Need-returns
 returns c =
-    last-none (c .before .before .before .args .b .now) (c .before .before .before .args .d) (c .before .before .before .args .clients) (c .before .before .before .args .items)
+    last-none (c .before .before .before .args .b .now) (c .before .before .before .args .d)
+    (c .before .before .before .args .clients) (c .before .before .before .args .items)
     (sym (c .before .last-kind .ensures) ∙ c .if1 .taken)
 
 read-in-range-requires : tie.Need-read-in-range-requires
@@ -19,14 +20,16 @@ read-in-range-requires c κs = search needs
 
 returns-2 : tie.Need-returns-2
 returns-2 c =
-    last-read _ _ _ _ (c .read-in-range .ensures) (sym (c .before .before .before .last-kind .ensures) ∙ c .before .if2 .taken)
+    last-read _ _ _ _ (c .read-in-range .ensures)
+    (sym (c .before .before .before .last-kind .ensures) ∙ c .before .if2 .taken)
 
 write-in-range-requires : tie.Need-write-in-range-requires
 write-in-range-requires c κs = search needs
 
 returns-3 : tie.Need-returns-3
 returns-3 c =
-    last-write _ _ _ _ (c .write-in-range .ensures) (c .before .before .before .last-kind .ensures) (omega arith)
+    last-write _ _ _ _ (c .write-in-range .ensures) (c .before .before .before .last-kind .ensures)
+    (omega arith)
 
 pub last-in-range-spec : {M : Type 1} → statement M
 last-in-range-spec =

@@ -1,4 +1,5 @@
--- `range::client::read_in_range` meets its contract: the set, and the stamps and values of its items.
+-- `range::client::read_in_range` meets its contract: the set, and the stamps and values of its
+-- items.
 use borrow.Author.Needs.{needs}
 use Rattle.range.proofs.ClientTests.{read-tests}
 use Rattle.range.proofs.client.read_in_range.Statement.{statement}

@@ -1,4 +1,5 @@
--- `range::client::running_in_range` meets its contract: the values of the items of the set under way.
+-- `range::client::running_in_range` meets its contract: the values of the items of the set under
+-- way.
 use borrow.Author.Needs.{needs}
 use Rattle.range.proofs.ClientTests.{values-tests}
 use Rattle.range.proofs.client.running_in_range.Statement.{statement}
@@ -12,7 +13,8 @@ values-in-range-requires c κs = search needs
 
 returns : tie.Need-returns
 returns c =
-    values-tests (c .before .before .before .args .b .now) (c .before .before .before .args .d) 0 (c .before .before .before .args .items) (c .values-in-range .ensures)
+    values-tests (c .before .before .before .args .b .now) (c .before .before .before .args .d) 0
+    (c .before .before .before .args .items) (c .values-in-range .ensures)
     (c .before .set-of .ensures)
 
 pub running-in-range-spec : {M : Type 1} → statement M

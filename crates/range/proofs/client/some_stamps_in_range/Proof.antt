@@ -15,7 +15,8 @@ use Rattle.range.proofs.client.some_stamps_in_range.Tie as tie
 
 abbrev Inv-loop : tie.InvT-loop
 Inv-loop b base d set clients items ok₀ k₀ ok k =
-    SoFar items (λ k. not (has set k) || stampInRange (sized clients items) (getD b (base + itemAt d k) 0)) k ok
+    SoFar items (λ k. not (has set k) || stampInRange (sized clients items)
+    (getD b (base + itemAt d k) 0)) k ok
 
 abbrev μ-loop : tie.MeasureT-loop
 μ-loop b base d set clients items ok₀ k₀ ok k = items - k
@@ -40,8 +41,11 @@ loop-less c = search needs
 
 loop-again : tie.Need-loop-again Inv-loop μ-loop
 loop-again c =
-    let stamp = c .stamp-in-range .ensures ∙ stamp-sized _ 0 _ _ ∙ ap (stampInRange _) (c .before .item-word .ensures) in
-    tested-next (c .before .before .before .before .loop .inv) (c .before .before .before .loop-test .taken) (ap₂ _||_ (c .before .before .lacks .ensures) stamp)
+    let stamp = c .stamp-in-range .ensures ∙ stamp-sized _ 0 _ _
+    ∙ ap (stampInRange _) (c .before .item-word .ensures) in
+    tested-next (c .before .before .before .before .loop .inv)
+    (c .before .before .before .loop-test .taken)
+    (ap₂ _||_ (c .before .before .lacks .ensures) stamp)
 
 returns : tie.Need-returns Inv-loop μ-loop
 returns c = tested-all (c .before .loop .inv) (c .loop-test .left)

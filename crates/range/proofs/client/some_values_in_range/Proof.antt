@@ -1,4 +1,5 @@
--- `range::client::some_values_in_range` meets its contract: item after item, a value of the set's, and the sizes of all at the end.
+-- `range::client::some_values_in_range` meets its contract: item after item, a value of the set's,
+-- and the sizes of all at the end.
 use borrow.Author.Needs.{needs}
 use mathlib.Core.Bool.{not, _||_}
 use Prim.Native.Nat.{_+_, _-_, _^_}
@@ -13,7 +14,8 @@ use Rattle.range.proofs.client.some_values_in_range.Tie as tie
 
 abbrev Inv-loop : tie.InvT-loop
 Inv-loop b base d set items values₀ k₀ values k =
-    SoFar items (λ k. not (has set k) || ltb (getD b (base + itemAt d k) 0) (2 ^ 32)) k (ltb values (2 ^ 32))
+    SoFar items (λ k. not (has set k) || ltb (getD b (base + itemAt d k) 0) (2 ^ 32)) k
+    (ltb values (2 ^ 32))
 
 abbrev μ-loop : tie.MeasureT-loop
 μ-loop b base d set items values₀ k₀ values k = items - k

@@ -1,4 +1,5 @@
--- `range::client::write_in_range` meets its contract: the set, its one stamp, and the values of its items.
+-- `range::client::write_in_range` meets its contract: the set, its one stamp, and the values of its
+-- items.
 use borrow.Author.Needs.{needs}
 use Rattle.range.proofs.ClientTests.{write-tests}
 use Rattle.range.proofs.client.write_in_range.Statement.{statement}

@@ -1,4 +1,5 @@
--- `range::entry::entries_in_range` meets its contract: entry after entry, and the sizes of all at the end.
+-- `range::entry::entries_in_range` meets its contract: entry after entry, and the sizes of all at
+-- the end.
 use borrow.Author.Needs.{needs}
 use mathlib.Core.Bool.{Bool, _&&_}
 use mathlib.Core.Path.{ap, _∙_}
@@ -15,7 +16,8 @@ use Rattle.range.proofs.entry.entries_in_range.Tie as tie
 
 abbrev Inv-loop : tie.InvT-loop
 Inv-loop b base i clients items ok₀ numbers₀ sets₀ k₀ ok numbers sets k =
-    SoFar items (λ k. entryInRange (sized clients items) (entryFrom b base i k)) k (ok && ltb numbers (2 ^ 32) && allBelow sets items)
+    SoFar items (λ k. entryInRange (sized clients items) (entryFrom b base i k)) k
+    (ok && ltb numbers (2 ^ 32) && allBelow sets items)
 
 abbrev μ-loop : tie.MeasureT-loop
 μ-loop b base i clients items ok₀ numbers₀ sets₀ k₀ ok numbers sets k = items - k
@@ -63,9 +65,11 @@ loop-again : tie.Need-loop-again Inv-loop μ-loop
 loop-again c =
     let l = c .before .before .before .before .loop in
     let a = c .before .before .before .before .before .before .args in
-    gather-next (a .items) (l .ok) (c .parts-in-range .result) (l .numbers) (c .before .before .word .result / 16) (l .sets) (c .before .word2 .result) (l .inv)
+    gather-next (a .items) (l .ok) (c .parts-in-range .result) (l .numbers)
+    (c .before .before .word .result / 16) (l .sets) (c .before .word2 .result) (l .inv)
     (c .before .before .before .loop-test .taken)
-    (entry-words (a .clients) (a .items) (entryFrom (a .b .now) (a .base) (a .i) (l .k)) (c .parts-in-range .ensures) (c .before .before .word .ensures)
+    (entry-words (a .clients) (a .items) (entryFrom (a .b .now) (a .base) (a .i) (l .k))
+    (c .parts-in-range .ensures) (c .before .before .word .ensures)
     (c .before .word2 .ensures))
 
 all-below-requires : tie.Need-all-below-requires Inv-loop μ-loop
@@ -73,7 +77,8 @@ all-below-requires c κs = search needs
 
 returns : tie.Need-returns Inv-loop μ-loop
 returns c =
-    ap (λ (t : Bool). c .before .before .loop .ok && ltb (c .before .before .loop .numbers) (2 ^ 32) && t) (c .all-below .ensures)
+    ap (λ (t : Bool). c .before .before .loop .ok && ltb (c .before .before .loop .numbers) (2 ^ 32)
+    && t) (c .all-below .ensures)
     ∙ tested-all (c .before .before .loop .inv) (c .before .loop-test .left)
 
 pub entries-in-range-spec : {M : Type 1} → statement M

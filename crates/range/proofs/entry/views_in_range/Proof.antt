@@ -12,7 +12,8 @@ use Rattle.range.proofs.entry.views_in_range.Tie as tie
 
 abbrev Inv-loop : tie.InvT-loop
 Inv-loop b clients items ok₀ i₀ ok i =
-    SoFar clients (λ i. every items (λ k. entryInRange (sized clients items) (viewIn b (suc i) k))) i ok
+    SoFar clients (λ i. every items (λ k. entryInRange (sized clients items) (viewIn b (suc i) k)))
+    i ok
 
 abbrev μ-loop : tie.MeasureT-loop
 μ-loop b clients items ok₀ i₀ ok i = clients - i

@@ -10,10 +10,12 @@ lacks-requires : tie.Need-lacks-requires
 lacks-requires c κs = search needs
 
 returns : tie.Need-returns
-returns c = rw (not-true (has (c .before .before .args .set) (c .before .before .args .k)) (sym (c .before .lacks .ensures) ∙ c .if1 .taken))
+returns c = rw (not-true (has (c .before .before .args .set) (c .before .before .args .k))
+    (sym (c .before .lacks .ensures) ∙ c .if1 .taken))
 
 returns-2 : tie.Need-returns-2
-returns-2 c = rw (not-false (has (c .before .before .args .set) (c .before .before .args .k)) (sym (c .before .lacks .ensures) ∙ c .if1 .left))
+returns-2 c = rw (not-false (has (c .before .before .args .set) (c .before .before .args .k))
+    (sym (c .before .lacks .ensures) ∙ c .if1 .left))
 
 pub kept-spec : {M : Type 1} → statement M
 kept-spec = tie.close (tie.spec lacks-requires returns returns-2)

@@ -14,7 +14,8 @@ parts-in-range-requires c κs = search needs
 returns : tie.Need-returns
 returns c =
     let a = c .before .args in
-    ap (λ (t : Bool). t && ltb (a .stamp / 16) (2 ^ 32)) (c .parts-in-range .ensures) ∙ sym (stamp-parts (a .clients) 0 (a .stamp))
+    ap (λ (t : Bool). t && ltb (a .stamp / 16) (2 ^ 32)) (c .parts-in-range .ensures)
+    ∙ sym (stamp-parts (a .clients) 0 (a .stamp))
 
 pub stamp-in-range-spec : {M : Type 1} → statement M
 stamp-in-range-spec = tie.close (tie.spec parts-in-range-requires returns)

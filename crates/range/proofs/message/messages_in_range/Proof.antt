@@ -7,7 +7,8 @@ use Rattle.range.proofs.message.messages_in_range.Statement.{statement}
 use Rattle.range.proofs.message.messages_in_range.Tie as tie
 
 abbrev Inv-loop : tie.InvT-loop
-Inv-loop b n clients partitions items ok₀ i₀ ok i = SoFar n (λ i. messageTest b i clients partitions items) i ok
+Inv-loop b n clients partitions items ok₀ i₀ ok i =
+    SoFar n (λ i. messageTest b i clients partitions items) i ok
 
 abbrev μ-loop : tie.MeasureT-loop
 μ-loop b n clients partitions items ok₀ i₀ ok i = n - i
@@ -26,7 +27,8 @@ loop-less c = search needs
 
 loop-again : tie.Need-loop-again Inv-loop μ-loop
 loop-again c =
-    tested-next (c .before .before .loop .inv) (c .before .loop-test .taken) (c .message-in-range .ensures)
+    tested-next (c .before .before .loop .inv) (c .before .loop-test .taken)
+    (c .message-in-range .ensures)
 
 returns : tie.Need-returns Inv-loop μ-loop
 returns c = tested-all (c .before .loop .inv) (c .loop-test .left)

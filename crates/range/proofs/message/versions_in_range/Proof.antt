@@ -1,4 +1,5 @@
--- `range::message::versions_in_range` meets its contract: version after version, and the sizes of all at the end.
+-- `range::message::versions_in_range` meets its contract: version after version, and the sizes of
+-- all at the end.
 use borrow.Author.Needs.{needs}
 use mathlib.Core.Bool.{Bool, _&&_}
 use mathlib.Core.Path.{ap, _∙_}
@@ -16,7 +17,8 @@ use Rattle.range.proofs.message.versions_in_range.Tie as tie
 
 abbrev Inv-loop : tie.InvT-loop
 Inv-loop b n clients items ok₀ numbers₀ sets₀ i₀ ok numbers sets i =
-    SoFar n (λ i. versionInRange (sized clients items) (versionIn b i)) i (ok && ltb numbers (2 ^ 32) && allBelow sets items)
+    SoFar n (λ i. versionInRange (sized clients items) (versionIn b i)) i
+    (ok && ltb numbers (2 ^ 32) && allBelow sets items)
 
 abbrev μ-loop : tie.MeasureT-loop
 μ-loop b n clients items ok₀ numbers₀ sets₀ i₀ ok numbers sets i = n - i
@@ -50,7 +52,9 @@ loop-again c =
     let l = c .before .before .before .before .before .before .loop in
     let a = c .before .before .before .before .before .before .before .before .args in
     gather-next (a .items) (l .ok) (c .own-in-range .result) (l .numbers)
-    (bitOr (c .before .before .before .version-word2 .result) (c .before .before .version-word3 .result / 16)) (l .sets) (c .before .version-word4 .result) (l .inv)
+    (bitOr (c .before .before .before .version-word2 .result)
+    (c .before .before .version-word3 .result / 16)) (l .sets)
+    (c .before .version-word4 .result) (l .inv)
     (c .before .before .before .before .before .loop-test .taken)
     (version-words (a .clients) (a .items) (versionIn (a .b .now) (l .i)) (c .own-in-range .ensures)
     (c .before .before .before .before .version-word .ensures)
@@ -63,7 +67,8 @@ all-below-requires c κs = search needs
 
 returns : tie.Need-returns Inv-loop μ-loop
 returns c =
-    ap (λ (t : Bool). c .before .before .loop .ok && ltb (c .before .before .loop .numbers) (2 ^ 32) && t) (c .all-below .ensures)
+    ap (λ (t : Bool). c .before .before .loop .ok && ltb (c .before .before .loop .numbers) (2 ^ 32)
+    && t) (c .all-below .ensures)
     ∙ tested-all (c .before .before .loop .inv) (c .before .loop-test .left)
 
 pub versions-in-range-spec : {M : Type 1} → statement M

@@ -1,7 +1,8 @@
 -- `range::message::words_in_range` meets its contract, kind by kind.
 use borrow.Author.Needs.{needs}
 use native.Mathlib.Omega.{arith}
-use Rattle.range.proofs.MessageTests.{prepare-tests, prepared-tests, commit-tests, get-tests, got-tests}
+use Rattle.range.proofs.MessageTests.{prepare-tests, prepared-tests, commit-tests, get-tests}
+use Rattle.range.proofs.MessageTests.{got-tests}
 use Rattle.range.proofs.message.words_in_range.Statement.{statement}
 use Rattle.range.proofs.message.words_in_range.Tie as tie
 
@@ -11,7 +12,8 @@ version-in-range-requires c κs = search needs
 returns : tie.Need-returns
 returns c =
     let a = c .before .before .args in
-    prepare-tests (a .clients) (a .partitions) (a .items) (a .kind) (a .who) (a .item) (a .value) (a .stamp) (a .set) (a .latest) (c .version-in-range .ensures) (omega arith)
+    prepare-tests (a .clients) (a .partitions) (a .items) (a .kind) (a .who) (a .item) (a .value)
+    (a .stamp) (a .set) (a .latest) (c .version-in-range .ensures) (omega arith)
 
 stamp-in-range-requires : tie.Need-stamp-in-range-requires
 stamp-in-range-requires c κs = search needs
@@ -19,7 +21,8 @@ stamp-in-range-requires c κs = search needs
 returns-2 : tie.Need-returns-2
 returns-2 c =
     let a = c .before .before .before .args in
-    prepared-tests (a .clients) (a .partitions) (a .items) (a .kind) (a .who) (a .item) (a .value) (a .stamp) (a .set) (a .latest) (c .stamp-in-range .ensures) (omega arith)
+    prepared-tests (a .clients) (a .partitions) (a .items) (a .kind) (a .who) (a .item) (a .value)
+    (a .stamp) (a .set) (a .latest) (c .stamp-in-range .ensures) (omega arith)
 
 stamp-in-range-requires-2 : tie.Need-stamp-in-range-requires-2
 stamp-in-range-requires-2 c κs = search needs
@@ -27,7 +30,8 @@ stamp-in-range-requires-2 c κs = search needs
 returns-3 : tie.Need-returns-3
 returns-3 c =
     let a = c .before .before .before .before .args in
-    commit-tests (a .clients) (a .partitions) (a .items) (a .kind) (a .who) (a .item) (a .value) (a .stamp) (a .set) (a .latest) (c .stamp-in-range2 .ensures) (omega arith)
+    commit-tests (a .clients) (a .partitions) (a .items) (a .kind) (a .who) (a .item) (a .value)
+    (a .stamp) (a .set) (a .latest) (c .stamp-in-range2 .ensures) (omega arith)
 
 stamp-in-range-requires-3 : tie.Need-stamp-in-range-requires-3
 stamp-in-range-requires-3 c κs = search needs
@@ -35,7 +39,8 @@ stamp-in-range-requires-3 c κs = search needs
 returns-4 : tie.Need-returns-4
 returns-4 c =
     let a = c .before .before .before .before .before .args in
-    get-tests (a .clients) (a .partitions) (a .items) (a .kind) (a .who) (a .item) (a .value) (a .stamp) (a .set) (a .latest) (c .stamp-in-range3 .ensures) (omega arith)
+    get-tests (a .clients) (a .partitions) (a .items) (a .kind) (a .who) (a .item) (a .value)
+    (a .stamp) (a .set) (a .latest) (c .stamp-in-range3 .ensures) (omega arith)
 
 stamp-in-range-requires-4 : tie.Need-stamp-in-range-requires-4
 stamp-in-range-requires-4 c κs = search needs
@@ -46,7 +51,8 @@ entry-in-range-requires c κs = search needs
 returns-5 : tie.Need-returns-5
 returns-5 c =
     let a = c .before .before .before .before .before .before .args in
-    got-tests (a .clients) (a .partitions) (a .items) (a .kind) (a .who) (a .item) (a .value) (a .stamp) (a .set) (a .latest) (c .before .stamp-in-range4 .ensures)
+    got-tests (a .clients) (a .partitions) (a .items) (a .kind) (a .who) (a .item) (a .value)
+    (a .stamp) (a .set) (a .latest) (c .before .stamp-in-range4 .ensures)
     (c .entry-in-range .ensures) (omega arith) (omega arith) (omega arith) (omega arith)
 
 pub words-in-range-spec : {M : Type 1} → statement M

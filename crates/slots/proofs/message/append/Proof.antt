@@ -39,35 +39,40 @@ same-length c = search needs
 
 returns : tie.Need-returns
 unfolding appendMessage storeMessage
-returns c = rw (c .before .before .before .before .before .m .given .1) (c .before .before .join .ensures)
+returns c = rw (c .before .before .before .before .before .m .given .1)
+    (c .before .before .join .ensures)
 
 same-length-2 : tie.Need-same-length-2
 same-length-2 c = search needs
 
 returns-2 : tie.Need-returns-2
 unfolding appendMessage storeMessage
-returns-2 c = rw (c .before .before .before .before .before .m2 .given .1) (c .before .before .join2 .ensures)
+returns-2 c = rw (c .before .before .before .before .before .m2 .given .1)
+    (c .before .before .join2 .ensures)
 
 same-length-3 : tie.Need-same-length-3
 same-length-3 c = search needs
 
 returns-3 : tie.Need-returns-3
 unfolding appendMessage storeMessage
-returns-3 c = rw (c .before .before .before .before .before .m3 .given .1) (c .before .before .join3 .ensures)
+returns-3 c = rw (c .before .before .before .before .before .m3 .given .1)
+    (c .before .before .join3 .ensures)
 
 same-length-4 : tie.Need-same-length-4
 same-length-4 c = search needs
 
 returns-4 : tie.Need-returns-4
 unfolding appendMessage storeMessage
-returns-4 c = rw (c .before .before .before .before .before .m4 .given .1) (c .before .before .join4 .ensures)
+returns-4 c = rw (c .before .before .before .before .before .m4 .given .1)
+    (c .before .before .join4 .ensures)
 
 same-length-5 : tie.Need-same-length-5
 same-length-5 c = search needs
 
 returns-5 : tie.Need-returns-5
 unfolding appendMessage storeMessage
-returns-5 c = rw (c .before .before .before .before .before .m5 .given .1) (c .before .before .join5 .ensures)
+returns-5 c = rw (c .before .before .before .before .before .m5 .given .1)
+    (c .before .before .join5 .ensures)
 
 pub append-spec : {M : Type 1} → statement M
 append-spec =

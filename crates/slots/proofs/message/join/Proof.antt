@@ -1,4 +1,5 @@
--- `slots::message::join` meets its contract: two runs of four words, side by side, are one of eight.
+-- `slots::message::join` meets its contract: two runs of four words, side by side, are one of
+-- eight.
 use mathlib.Core.Path.{_≡_}
 use Prim.Native.Nat.{suc, _+_, _*_}
 use native.Mathlib.Omega.{arith}

@@ -1,5 +1,5 @@
--- `slots::message::move_up` meets its contract. The invariant: the first `k` words have moved and the others are as they were.
--- The measure is how many are left.
+-- `slots::message::move_up` meets its contract. The invariant: the first `k` words have moved and
+-- the others are as they were. The measure is how many are left.
 use mathlib.Core.Path.{_≡_}
 use Prim.Native.Nat.{_+_, _-_, _≤_}
 use native.Mathlib.Omega.{arith}
@@ -13,7 +13,8 @@ use Rattle.slots.proofs.message.move_up.Statement.{statement}
 use Rattle.slots.proofs.message.move_up.Tie as tie
 
 abbrev Inv-loop : tie.InvT-loop
-Inv-loop b₀ from count k₀ b k = (k ≤ count) × (length b ≡ length b₀) × (b ≡ sets b₀ from (take k (drop (from + 8) b₀)))
+Inv-loop b₀ from count k₀ b k = (k ≤ count) × (length b ≡ length b₀)
+    × (b ≡ sets b₀ from (take k (drop (from + 8) b₀)))
 
 abbrev μ-loop : tie.MeasureT-loop
 μ-loop b₀ from count k₀ b k = count - k
@@ -51,8 +52,12 @@ loop-less c = search needs
 loop-again : tie.Need-loop-again Inv-loop μ-loop
 loop-again c =
     let a = c .before .before .before .args in
-    let l = c .before .before .loop in
-    (omega arith, simp length-set (l .inv .1), rw (l .inv .2, add-one) (move-next (now (a .b)) (a .from) 8 (l .k) 0 (omega arith)))
+    let l = c .before .before .loop in (
+      omega arith,
+      simp length-set (l .inv .1),
+      rw (l .inv .2, add-one)
+          (move-next (now (a .b)) (a .from) 8 (l .k) 0 (omega arith)),
+    )
 
 same-length : tie.Need-same-length Inv-loop μ-loop
 same-length c = search needs

@@ -1,4 +1,5 @@
--- `slots::message::take_out` meets its contract: the words of the later messages move, then the count falls.
+-- `slots::message::take_out` meets its contract: the words of the later messages move, then the
+-- count falls.
 use borrow.Author.Needs.{needs}
 use Rattle.layout.specs.Store.{takeOut}
 use Rattle.slots.proofs.message.take_out.Statement.{statement}

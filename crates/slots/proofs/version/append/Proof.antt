@@ -1,4 +1,5 @@
--- `slots::version::append` meets its contract: the four words are stored as one run, then the count.
+-- `slots::version::append` meets its contract: the four words are stored as one run, then the
+-- count.
 use borrow.Author.Needs.{needs}
 use Rattle.layout.specs.Store.{appendVersion, storeVersion}
 use Rattle.slots.proofs.version.append.Statement.{statement}

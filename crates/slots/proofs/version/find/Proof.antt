@@ -1,4 +1,5 @@
--- `slots::version::find` meets its contract. The invariant: none of the versions passed is alike. The measure is how many are left.
+-- `slots::version::find` meets its contract. The invariant: none of the versions passed is alike.
+-- The measure is how many are left.
 use mathlib.Core.Path.{_≡_, sym, _∙_}
 use Prim.Native.Nat.{_≤_, _-_}
 use native.Mathlib.Numerals.{add-one}
@@ -26,7 +27,8 @@ is-alike-requires c κs = search needs
 returns : tie.Need-returns Inv-loop μ-loop
 returns c =
     let l = c .before .before .before .loop in
-    sym (first-here _ (l .i) _ (l .inv .1) (sym (c .before .is-alike .ensures) ∙ c .if1 .taken) (c .before .before .loop-test .taken))
+    sym (first-here _ (l .i) _ (l .inv .1) (sym (c .before .is-alike .ensures) ∙ c .if1 .taken)
+    (c .before .before .loop-test .taken))
 
 add-i : tie.Need-add-i Inv-loop μ-loop
 add-i c = search needs
@@ -36,8 +38,11 @@ loop-less c = search needs
 
 loop-again : tie.Need-loop-again Inv-loop μ-loop
 loop-again c =
-    let l = c .before .before .before .loop in
-    (search needs, rw add-one (first-next _ (l .i) (l .inv .1) (sym (c .before .is-alike .ensures) ∙ c .if1 .left)))
+    let l = c .before .before .before .loop in (
+      search needs,
+      rw add-one (first-next _ (l .i) (l .inv .1)
+          (sym (c .before .is-alike .ensures) ∙ c .if1 .left)),
+    )
 
 returns-2 : tie.Need-returns-2 Inv-loop μ-loop
 returns-2 c =

@@ -1,4 +1,5 @@
--- `slots::version::found` meets its contract: the version at the place that the search finds, which is one of the `n`.
+-- `slots::version::found` meets its contract: the version at the place that the search finds, which
+-- is one of the `n`.
 use mathlib.Core.Path.{_≡_, sym, ap, _∙_}
 use native.Mathlib.Omega.{arith}
 use denote.Ref.{now}
@@ -22,7 +23,11 @@ version-requires c κs =
     let a = c .before .before .before .before .before .args in
     let i = c .before .place .given .0 .0 in
     let e : firstAlike (now (a .b)) (a .n) (a .item) (a .stamp) ≡ At i = cc in
-    omega (arith, first-below (λ j. alike (a .item) (a .stamp) (versionIn (now (a .b)) j)) (a .n) i e)
+    omega (
+      arith,
+      first-below (λ j. alike (a .item) (a .stamp) (versionIn (now (a .b)) j))
+          (a .n) i e,
+    )
 
 enum-told : tie.Need-enum-told
 enum-told c = search needs
@@ -36,7 +41,8 @@ returns-2 : tie.Need-returns-2
 returns-2 c =
     let a = c .before .before .before .before .args in
     sym (found-first (a .n) (versionIn (now (a .b))) (a .item) (a .stamp)
-    ∙ ap (foundAt (versionIn (now (a .b))) (a .item) (a .stamp)) (sym (c .before .before .find .ensures) ∙ c .enum-told .given .1))
+    ∙ ap (foundAt (versionIn (now (a .b))) (a .item) (a .stamp))
+    (sym (c .before .before .find .ensures) ∙ c .enum-told .given .1))
 
 pub found-spec : {M : Type 1} → statement M
 found-spec =

@@ -1,4 +1,5 @@
--- `slots::version::is_alike` meets its contract: where the stamps are equal the items decide, elsewhere nothing does.
+-- `slots::version::is_alike` meets its contract: where the stamps are equal the items decide,
+-- elsewhere nothing does.
 use mathlib.Core.Path.{_≡_, sym, _∙_}
 use denote.Ref.{now}
 use borrow.Author.Needs.{needs}
@@ -23,7 +24,8 @@ returns c =
 returns-2 : tie.Need-returns-2
 returns-2 c =
     let a = c .before .before .before .args in
-    sym (alike-other (versionIn (now (a .b)) (a .i)) (a .item) (a .stamp) (λ e. c .if1 .left (c .before .part .ensures ∙ e)))
+    sym (alike-other (versionIn (now (a .b)) (a .i)) (a .item) (a .stamp)
+    (λ e. c .if1 .left (c .before .part .ensures ∙ e)))
 
 pub is-alike-spec : {M : Type 1} → statement M
 is-alike-spec = tie.close (tie.spec part-requires part-requires-2 returns returns-2)

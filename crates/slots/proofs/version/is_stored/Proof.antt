@@ -1,4 +1,5 @@
--- `slots::version::is_stored` meets its contract: a version is stored where the search finds a place.
+-- `slots::version::is_stored` meets its contract: a version is stored where the search finds a
+-- place.
 use mathlib.Core.Path.{sym, ap, _∙_}
 use denote.Ref.{now}
 use borrow.Author.Needs.{needs}

@@ -1,5 +1,5 @@
--- `start::read::choose` meets its contract. The invariant: `stamp` is the choice among the first `i` entries. The measure is what is left
--- of the items.
+-- `start::read::choose` meets its contract. The invariant: `stamp` is the choice among the first
+-- `i` entries. The measure is what is left of the items.
 use mathlib.Core.Path.{ap, _≡_, sym, _∙_}
 use Prim.Native.Nat.{_≤_, _-_}
 use native.Mathlib.Nat.{le-antisymm}
@@ -21,7 +21,11 @@ view-requires : tie.Need-view-requires Inv-loop μ-loop
 view-requires c κs = search needs
 
 loop-holds : tie.Need-loop-holds Inv-loop μ-loop
-loop-holds c = (search needs, ap (λ (e : Entry). e .stamp) (c .view .ensures) ∙ sym (choice-none _ _))
+loop-holds c = (
+  search needs,
+  ap (λ (e : Entry). e .stamp) (c .view .ensures)
+      ∙ sym (choice-none _ _),
+)
 
 sibling-requires : tie.Need-sibling-requires Inv-loop μ-loop
 sibling-requires c κs = search needs
@@ -36,10 +40,15 @@ loop-less : tie.Need-loop-less Inv-loop μ-loop
 loop-less c = search needs
 
 loop-again : tie.Need-loop-again Inv-loop μ-loop
-loop-again c = (search needs, choice-turn _ _ _ _ _ _ (c .before .before .before .loop .inv .1) (c .before .sibling .ensures) (c .later .ensures))
+loop-again c = (
+  search needs,
+  choice-turn _ _ _ _ _ _ (c .before .before .before .loop .inv .1)
+      (c .before .sibling .ensures) (c .later .ensures),
+)
 
 returns : tie.Need-returns Inv-loop μ-loop
-returns c = rw (le-antisymm (c .before .loop .inv .0) (c .loop-test .left)) at (c .before .loop .inv .1)
+returns c = rw (le-antisymm (c .before .loop .inv .0) (c .loop-test .left)) at
+    (c .before .loop .inv .1)
 
 pub choose-spec : {M : Type 1} → statement M
 choose-spec =

@@ -1,5 +1,5 @@
--- `start::read::get_item` meets its contract: one message or none, by the test on the set. A member's rank is below the count, so there
--- is room for it.
+-- `start::read::get_item` meets its contract: one message or none, by the test on the set. A
+-- member's rank is below the count, so there is room for it.
 use mathlib.Core.Bool.{true}
 use mathlib.Core.Path.{_≡_, sym, _∙_}
 use native.Mathlib.Omega.{arith}
@@ -23,7 +23,8 @@ add-send-get c =
 send-get-requires : tie.Need-send-get-requires
 send-get-requires c κs =
     let a = c .before .before .before .before .before .args in
-    let in-set : has (a .s) (a .k) ≡ true = sym (c .before .before .before .has .ensures) ∙ c .before .before .if1 .taken in
+    let in-set : has (a .s) (a .k) ≡ true =
+    sym (c .before .before .before .has .ensures) ∙ c .before .before .if1 .taken in
     omega (arith, c .rank .ensures, rank-lt (a .s) (a .k) in-set)
 
 same-length : tie.Need-same-length
@@ -34,7 +35,8 @@ returns c =
     let sent = c .before .before in
     let ranked = sent .before in
     let tested = ranked .before .before in
-    rw (sym (tested .before .has .ensures) ∙ tested .if1 .taken, ← ranked .rank .ensures) (sent .send-get .ensures)
+    rw (sym (tested .before .has .ensures) ∙ tested .if1 .taken, ← ranked .rank .ensures)
+    (sent .send-get .ensures)
 
 returns-2 : tie.Need-returns-2
 returns-2 c = rw (sym (c .before .has .ensures) ∙ c .if1 .left)

@@ -13,10 +13,12 @@ has-requires : tie.Need-has-requires
 has-requires c κs = search needs
 
 returns : tie.Need-returns
-returns c = counts-by (c .before .before .view .result) _ _ true (c .before .before .view .ensures) (sym (c .before .has .ensures) ∙ c .if1 .taken)
+returns c = counts-by (c .before .before .view .result) _ _ true (c .before .before .view .ensures)
+    (sym (c .before .has .ensures) ∙ c .if1 .taken)
 
 returns-2 : tie.Need-returns-2
-returns-2 c = counts-by (c .before .before .view .result) _ _ false (c .before .before .view .ensures) (sym (c .before .has .ensures) ∙ c .if1 .left)
+returns-2 c = counts-by (c .before .before .view .result) _ _ false
+    (c .before .before .view .ensures) (sym (c .before .has .ensures) ∙ c .if1 .left)
 
 pub sibling-spec : {M : Type 1} → statement M
 sibling-spec = tie.close (tie.spec view-requires has-requires returns returns-2)

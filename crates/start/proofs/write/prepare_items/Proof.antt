@@ -1,4 +1,5 @@
--- `start::write::prepare_items` meets its contract. The invariant: `k` turns of the fold are done. The measure is what is left of the items.
+-- `start::write::prepare_items` meets its contract. The invariant: `k` turns of the fold are done.
+-- The measure is what is left of the items.
 use mathlib.Core.Path.{_≡_}
 use Prim.Native.Nat.{_≤_, _-_}
 use native.Mathlib.Nat.{le-antisymm}
@@ -11,7 +12,8 @@ use Rattle.start.proofs.write.prepare_items.Statement.{statement}
 use Rattle.start.proofs.write.prepare_items.Tie as tie
 
 abbrev Inv-loop : tie.InvT-loop
-Inv-loop b₀ n d s stamp items k₀ b k = (k ≤ items) × (b ≡ upTo (sendPrepare n d s stamp) b₀ k) × (length b ≡ length b₀)
+Inv-loop b₀ n d s stamp items k₀ b k =
+    (k ≤ items) × (b ≡ upTo (sendPrepare n d s stamp) b₀ k) × (length b ≡ length b₀)
 
 abbrev μ-loop : tie.MeasureT-loop
 μ-loop b₀ n d s stamp items k₀ b k = items - k
@@ -29,13 +31,20 @@ loop-less : tie.Need-loop-less Inv-loop μ-loop
 loop-less c = search needs
 
 loop-again : tie.Need-loop-again Inv-loop μ-loop
-loop-again c = (search needs, turn-next _ _ _ _ _ (c .before .before .before .before .before .loop .inv .1) (c .before .before .prepare-item .ensures), search needs)
+loop-again c = (
+  search needs,
+  turn-next _ _ _ _ _
+      (c .before .before .before .before .before .loop .inv .1)
+      (c .before .before .prepare-item .ensures),
+  search needs,
+)
 
 same-length : tie.Need-same-length Inv-loop μ-loop
 same-length c = search needs
 
 returns : tie.Need-returns Inv-loop μ-loop
-returns c = rw (le-antisymm (c .before .loop .inv .0) (c .loop-test .left)) at (c .before .loop .inv .1)
+returns c = rw (le-antisymm (c .before .loop .inv .0) (c .loop-test .left)) at
+    (c .before .loop .inv .1)
 
 pub prepare-items-spec : {M : Type 1} → statement M
 prepare-items-spec =

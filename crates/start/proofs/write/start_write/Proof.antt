@@ -47,7 +47,8 @@ returns c =
     let kept = set .before .before .before .before in
     let count = kept .before .before .count in
     let start = kept .before .before .before .before .before .before in
-    write-started (now (start .args .b)) _ _ _ _ (start .pre .4) (start .pre .5) (now (start .args .bytes)) (count .result + 1) _ _ _ _ _
+    write-started (now (start .args .b)) _ _ _ _ (start .pre .4) (start .pre .5)
+    (now (start .args .bytes)) (count .result + 1) _ _ _ _ _
     (add-one (count .result) ∙ ap suc (count .ensures))
     (kept .keep-items .ensures)
     (set .put-busy .ensures)

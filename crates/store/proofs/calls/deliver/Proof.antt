@@ -18,7 +18,8 @@ same-length : tie.Need-same-length
 same-length c = search needs
 
 returns : tie.Need-returns
-returns c = let x = c .before .before .deliver-valid .ensures in (x .0, (x .1, tables-given _ _ _ (x .1)))
+returns c = let x = c .before .before .deliver-valid .ensures in
+    (x .0, (x .1, tables-given _ _ _ (x .1)))
 
 same-length-2 : tie.Need-same-length-2
 same-length-2 c = search needs
@@ -26,7 +27,9 @@ same-length-2 c = search needs
 returns-2 : tie.Need-returns-2
 returns-2 c =
     let start = c .before .before .before .before in
-    let x = refused-given (start .args .b .now) (deliver (start .args .i)) 1 (sym (refused-invalid _ _ (sym (c .before .valid-block .ensures) ∙ c .if1 .left))) (λ e. omega arith) in
+    let x = refused-given (start .args .b .now) (deliver (start .args .i)) 1
+    (sym (refused-invalid _ _ (sym (c .before .valid-block .ensures) ∙ c .if1 .left)))
+    (λ e. omega arith) in
     (x .0, (x .1, tables-given _ _ _ (x .1)))
 
 pub deliver-spec : {M : Type 1} → statement M

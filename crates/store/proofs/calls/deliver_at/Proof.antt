@@ -1,4 +1,5 @@
--- `store::calls::deliver_at` meets its contract: by what is told of the message: 11, 12 or its delivery.
+-- `store::calls::deliver_at` meets its contract: by what is told of the message: 11, 12 or its
+-- delivery.
 use mathlib.Core.Path.{sym, ap, subst, _∙_}
 use Prim.Native.Nat.{ℕ}
 use native.Mathlib.Omega.{arith}
@@ -11,7 +12,8 @@ use Rattle.store.proofs.calls.deliver_at.Statement.{statement}
 use Rattle.store.proofs.calls.deliver_at.Tie as tie
 
 message-requires : tie.Need-message-requires
-message-requires c κs = let start = c .before .before in few-places (start .args .b .now) (start .args .i) (search needs) (search needs)
+message-requires c κs = let start = c .before .before in
+    few-places (start .args .b .now) (start .args .i) (search needs) (search needs)
 
 version-count-requires : tie.Need-version-count-requires
 version-count-requires c κs = search needs
@@ -19,8 +21,14 @@ version-count-requires c κs = search needs
 tested-requires : tie.Need-tested-requires
 tested-requires c κs =
     let start = c .before .before .before .before .before in (
-      omega (arith, c .version-count .ensures, few-versions (start .args .b .now) (start .args .i) (search needs) (search needs)),
-      subst Bounded (sym (c .before .before .message .ensures)) (bounded-message (start .args .b .now) (start .args .i) (search needs) (search needs)),
+      omega (
+        arith,
+        c .version-count .ensures,
+        few-versions (start .args .b .now) (start .args .i)
+            (search needs) (search needs),
+      ),
+      subst Bounded (sym (c .before .before .message .ensures))
+          (bounded-message (start .args .b .now) (start .args .i) (search needs) (search needs)),
     )
 
 deliver-on-requires : tie.Need-deliver-on-requires
@@ -29,9 +37,11 @@ deliver-on-requires c κs =
     let read = test .before .before .before in
     let start = read .before .before .before in
     let counted = test .before .version-count .ensures in (
-      sym (told-refusal (start .args .b .now) (start .args .i) (search needs) (search needs) _ _ _ (read .message .ensures) counted (test .tested .ensures)) ∙ c .before .if1 .taken,
+      sym (told-refusal (start .args .b .now) (start .args .i) (search needs) (search needs) _ _ _
+          (read .message .ensures) counted (test .tested .ensures)) ∙ c .before .if1 .taken,
       read .message .ensures,
-      test .tested .ensures ∙ ap (λ (n : ℕ). testedIn (start .args .b .now) n (read .message .result)) counted,
+      test .tested .ensures ∙ ap (λ (n : ℕ). testedIn (start .args .b .now) n
+          (read .message .result)) counted,
     )
 
 same-length : tie.Need-same-length
@@ -49,7 +59,8 @@ returns-2 c =
     let read = test .before .before .before in
     let start = read .before .before .before in
     refused-given (start .args .b .now) (deliver (start .args .i)) _
-    (told-refusal (start .args .b .now) (start .args .i) (search needs) (search needs) _ _ _ (read .message .ensures) (test .before .version-count .ensures) (test .tested .ensures))
+    (told-refusal (start .args .b .now) (start .args .i) (search needs) (search needs) _ _ _
+    (read .message .ensures) (test .before .version-count .ensures) (test .tested .ensures))
     (c .if1 .left)
 
 pub deliver-at-spec : {M : Type 1} → statement M

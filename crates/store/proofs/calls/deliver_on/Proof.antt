@@ -1,4 +1,5 @@
--- `store::calls::deliver_on` meets its contract: the message at its place is delivered, and the messages then counted.
+-- `store::calls::deliver_on` meets its contract: the message at its place is delivered, and the
+-- messages then counted.
 use borrow.Author.Needs.{needs}
 use Rattle.store.proofs.Accepted.{accepted-valid}
 use Rattle.store.proofs.Places.{few-places, accepted-place, deliver-ready, deliver-given}
@@ -8,7 +9,8 @@ use Rattle.store.proofs.calls.deliver_on.Tie as tie
 kind-requires : tie.Need-kind-requires
 kind-requires c κs =
     let start = c .before .before in
-    few-places (start .args .b .now) (start .args .i) (accepted-valid _ _ (start .pre .0)) (accepted-place _ _ (start .pre .0))
+    few-places (start .args .b .now) (start .args .i) (accepted-valid _ _ (start .pre .0))
+    (accepted-place _ _ (start .pre .0))
 
 partitions-requires : tie.Need-partitions-requires
 partitions-requires c κs = search needs
@@ -29,8 +31,10 @@ deliver-message-requires c κs =
     let items = versions .before .before in
     let partitions = items .before .before in
     let start = partitions .before .before .before .before .before in
-    deliver-ready (start .args .b .now) (start .args .i) (start .pre .0) _ _ _ _ _ (messages .message-count .ensures)
-    (partitions .partitions .ensures) (items .items .ensures) (versions .version-count .ensures) (start .pre .1)
+    deliver-ready (start .args .b .now) (start .args .i) (start .pre .0) _ _ _ _ _
+    (messages .message-count .ensures)
+    (partitions .partitions .ensures) (items .items .ensures) (versions .version-count .ensures)
+    (start .pre .1)
 
 message-count-requires-2 : tie.Need-message-count-requires-2
 message-count-requires-2 c κs = search needs
@@ -47,8 +51,10 @@ returns c =
     let partitions = items .before .before in
     let kind = partitions .before .before in
     let start = kind .before .before .before in
-    deliver-given (start .args .b .now) (start .args .i) (start .pre .0) _ _ _ _ _ _ (messages .message-count .ensures)
-    (partitions .partitions .ensures) (items .items .ensures) (versions .version-count .ensures) (start .pre .1) (start .pre .2) _ _ _
+    deliver-given (start .args .b .now) (start .args .i) (start .pre .0) _ _ _ _ _ _
+    (messages .message-count .ensures)
+    (partitions .partitions .ensures) (items .items .ensures) (versions .version-count .ensures)
+    (start .pre .1) (start .pre .2) _ _ _
     (sent .deliver-message .ensures) (c .message-count2 .ensures) (kind .kind .ensures)
 
 pub deliver-on-spec : {M : Type 1} → statement M

@@ -12,7 +12,14 @@ message-count-requires : tie.Need-message-count-requires
 message-count-requires c κs = search needs
 
 deliver-at-requires : tie.Need-deliver-at-requires
-deliver-at-requires c κs = (search needs, omega (arith, c .before .before .message-count .ensures, c .before .if1 .taken))
+deliver-at-requires c κs = (
+  search needs,
+  omega (
+    arith,
+    c .before .before .message-count .ensures,
+    c .before .if1 .taken,
+  ),
+)
 
 same-length : tie.Need-same-length
 same-length c = search needs
@@ -27,7 +34,8 @@ returns-2 : tie.Need-returns-2
 returns-2 c =
     let start = c .before .before .before .before in
     refused-given (start .args .b .now) (deliver (start .args .i)) 10
-    (sym (past-end (start .args .b .now) (start .args .i) (search needs) (omega (arith, c .before .message-count .ensures, c .if1 .left)))) (λ e. omega arith)
+    (sym (past-end (start .args .b .now) (start .args .i) (search needs)
+    (omega (arith, c .before .message-count .ensures, c .if1 .left)))) (λ e. omega arith)
 
 pub deliver-valid-spec : {M : Type 1} → statement M
 deliver-valid-spec =

@@ -1,4 +1,5 @@
--- `store::calls::read_on` meets its contract: the start leaves the protocol's tables, whose messages are counted.
+-- `store::calls::read_on` meets its contract: the start leaves the protocol's tables, whose
+-- messages are counted.
 use borrow.Author.Needs.{needs}
 use Rattle.store.proofs.Given.{read-ready, read-given}
 use Rattle.store.proofs.calls.read_on.Statement.{statement}
@@ -13,7 +14,8 @@ message-count-requires c κs = search needs
 start-read-requires : tie.Need-start-read-requires
 start-read-requires c κs =
     let start = c .before .before .before .before .before .before in
-    read-ready (start .args .b .now) (start .args .d) (start .args .s) (search needs) _ _ (c .before .before .before .items .ensures) (c .before .message-count .ensures)
+    read-ready (start .args .b .now) (start .args .d) (start .args .s) (search needs) _ _
+    (c .before .before .before .items .ensures) (c .before .message-count .ensures)
 
 message-count-requires-2 : tie.Need-message-count-requires-2
 message-count-requires-2 c κs = search needs
@@ -23,8 +25,10 @@ same-length c = search needs
 
 returns : tie.Need-returns
 returns c =
-    let start = c .before .before .before .before .before .before .before .before .before .before .before in
-    read-given (start .args .b .now) (start .args .d) (start .args .s) (search needs) _ _ (c .before .before .before .before .start-read .ensures) (c .message-count2 .ensures)
+    let start =
+    c .before .before .before .before .before .before .before .before .before .before .before in
+    read-given (start .args .b .now) (start .args .d) (start .args .s) (search needs) _ _
+    (c .before .before .before .before .start-read .ensures) (c .message-count2 .ensures)
 
 pub read-on-spec : {M : Type 1} → statement M
 read-on-spec =

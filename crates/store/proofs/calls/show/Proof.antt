@@ -24,7 +24,8 @@ returns-2 : tie.Need-returns-2
 unfolding lent
 returns-2 c =
     let start = c .before .before .before .before .before in
-    let x = refused-shown (start .args .b .now) (show (start .args .d) (start .args .out .now)) _ (c .before .of-show .ensures) (c .if1 .left) in
+    let x = refused-shown (start .args .b .now) (show (start .args .d) (start .args .out .now)) _
+    (c .before .of-show .ensures) (c .if1 .left) in
     (x .0, (show-keeps _ _ _, x .1))
 
 pub show-spec : {M : Type 1} → statement M

@@ -23,7 +23,8 @@ same-length-2 c = search needs
 returns-2 : tie.Need-returns-2
 returns-2 c =
     let start = c .before .before .before .before in
-    let x = refused-given (start .args .b .now) (startRead (start .args .d) (start .args .s)) _ (c .before .of-read .ensures) (c .if1 .left) in
+    let x = refused-given (start .args .b .now) (startRead (start .args .d) (start .args .s)) _
+    (c .before .of-read .ensures) (c .if1 .left) in
     (x .0, (x .1, tables-given _ _ _ (x .1)))
 
 pub start-read-spec : {M : Type 1} → statement M

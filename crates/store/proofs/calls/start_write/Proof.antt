@@ -15,7 +15,8 @@ same-length : tie.Need-same-length
 same-length c = search needs
 
 returns : tie.Need-returns
-returns c = let x = c .before .before .write-on .ensures in (x .0, (x .1, tables-given _ _ _ (x .1)))
+returns c = let x = c .before .before .write-on .ensures in
+    (x .0, (x .1, tables-given _ _ _ (x .1)))
 
 same-length-2 : tie.Need-same-length-2
 same-length-2 c = search needs
@@ -23,7 +24,9 @@ same-length-2 c = search needs
 returns-2 : tie.Need-returns-2
 returns-2 c =
     let start = c .before .before .before .before .before in
-    let x = refused-given (start .args .b .now) (startWrite (start .args .d) (start .args .s) (start .args .bytes .now)) _ (c .before .of-write .ensures) (c .if1 .left) in
+    let x = refused-given (start .args .b .now)
+    (startWrite (start .args .d) (start .args .s) (start .args .bytes .now)) _
+    (c .before .of-write .ensures) (c .if1 .left) in
     (x .0, (x .1, tables-given _ _ _ (x .1)))
 
 pub start-write-spec : {M : Type 1} → statement M

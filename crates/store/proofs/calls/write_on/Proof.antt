@@ -1,4 +1,5 @@
--- `store::calls::write_on` meets its contract: the start leaves the protocol's tables, whose messages are counted.
+-- `store::calls::write_on` meets its contract: the start leaves the protocol's tables, whose
+-- messages are counted.
 use borrow.Author.Needs.{needs}
 use Rattle.store.proofs.Given.{write-ready, write-given}
 use Rattle.store.proofs.calls.write_on.Statement.{statement}
@@ -13,7 +14,8 @@ message-count-requires c κs = search needs
 start-write-requires : tie.Need-start-write-requires
 start-write-requires c κs =
     let start = c .before .before .before .before .before .before .before in
-    write-ready (start .args .b .now) (start .args .d) (start .args .s) (start .args .bytes .now) (search needs) _ _ (c .before .before .before .items .ensures)
+    write-ready (start .args .b .now) (start .args .d) (start .args .s) (start .args .bytes .now)
+    (search needs) _ _ (c .before .before .before .items .ensures)
     (c .before .message-count .ensures)
 
 message-count-requires-2 : tie.Need-message-count-requires-2
@@ -24,8 +26,10 @@ same-length c = search needs
 
 returns : tie.Need-returns
 returns c =
-    let start = c .before .before .before .before .before .before .before .before .before .before .before .before in
-    write-given (start .args .b .now) (start .args .d) (start .args .s) (start .args .bytes .now) (search needs) _ _ (c .before .before .before .before .start-write .ensures)
+    let start =
+    c .before .before .before .before .before .before .before .before .before .before .before .before in
+    write-given (start .args .b .now) (start .args .d) (start .args .s) (start .args .bytes .now)
+    (search needs) _ _ (c .before .before .before .before .start-write .ensures)
     (c .message-count2 .ensures)
 
 pub write-on-spec : {M : Type 1} → statement M

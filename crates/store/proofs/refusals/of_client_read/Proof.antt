@@ -1,4 +1,5 @@
--- `store::refusals::of_client_read` meets its contract: test by test, from the words that the tables are.
+-- `store::refusals::of_client_read` meets its contract: test by test, from the words that the
+-- tables are.
 use mathlib.Core.Path.{refl, sym, ap₂, _∙_}
 use Prim.Native.Nat.{ℕ, _+_}
 use native.Mathlib.Omega.{arith}
@@ -19,10 +20,17 @@ count-requires c κs = search needs
 add-full : tie.Need-add-full
 add-full c =
     let start = c .before .before .before in
-    omega (arith, load-few (start .args .b .now) (search needs) _ (c .before .load .ensures), count-le (start .args .s) 64 (search needs), c .count .ensures)
+    omega (
+      arith,
+      load-few (start .args .b .now) (search needs) _
+          (c .before .load .ensures),
+      count-le (start .args .s) 64 (search needs),
+      c .count .ensures,
+    )
 
 busy-requires : tie.Need-busy-requires
-busy-requires c κs = let start = c .before .before .before in has-words (start .args .b .now) (search needs) (start .args .d) (search needs)
+busy-requires c κs = let start = c .before .before .before in
+    has-words (start .args .b .now) (search needs) (start .args .d) (search needs)
 
 bad-set-requires : tie.Need-bad-set-requires
 bad-set-requires c κs = search needs
@@ -43,10 +51,13 @@ returns c =
     let counted = busy .before in
     let loaded = counted .before in
     let start = loaded .before .before in
-    let full = ap₂ (λ (l n : ℕ). ltb 128 (l + n)) (loaded .load .ensures) (counted .count .ensures) in
+    let full = ap₂ (λ (l n : ℕ). ltb 128 (l + n)) (loaded .load .ensures)
+    (counted .count .ensures) in
     chain _ _ 4 _ _ _ (c .refuse3 .ensures) (busy .busy .ensures)
-    (chain _ _ 5 _ _ _ (c .before .refuse2 .ensures) (bad .bad-set .ensures) (chain _ _ 8 _ _ _ (c .before .before .refuse .ensures) full refl))
-    ∙ sym (read-tests (start .args .b .now) (start .args .d) (search needs) (start .args .s) (search needs))
+    (chain _ _ 5 _ _ _ (c .before .refuse2 .ensures) (bad .bad-set .ensures)
+    (chain _ _ 8 _ _ _ (c .before .before .refuse .ensures) full refl))
+    ∙ sym (read-tests (start .args .b .now) (start .args .d) (search needs) (start .args .s)
+    (search needs))
 
 pub of-client-read-spec : {M : Type 1} → statement M
 of-client-read-spec =

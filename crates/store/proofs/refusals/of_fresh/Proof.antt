@@ -20,7 +20,9 @@ returns : tie.Need-returns
 unfolding freshRefusalOn first sizesInRange
 returns c =
     let start = c .before .before .before in
-    c .refuse2 .ensures ∙ ap {B = ℕ} (λ (m : ℕ). cond (not (sizesInRange (sizes (start .args .clients) (start .args .partitions) (start .args .items)))) 2 m) (c .before .refuse .ensures)
+    c .refuse2 .ensures ∙ ap {B = ℕ}
+    (λ (m : ℕ). cond (not (sizesInRange (sizes (start .args .clients) (start .args .partitions)
+    (start .args .items)))) 2 m) (c .before .refuse .ensures)
 
 pub of-fresh-spec : {M : Type 1} → statement M
 of-fresh-spec = tie.close (tie.spec refuse-requires refuse-requires-2 returns)

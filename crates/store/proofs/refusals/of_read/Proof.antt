@@ -12,7 +12,9 @@ of-valid-read-requires : tie.Need-of-valid-read-requires
 of-valid-read-requires c κs = sym (c .before .valid-block .ensures) ∙ c .if1 .taken
 
 returns : tie.Need-returns
-returns c = c .of-valid-read .ensures ∙ sym (refusal-valid _ _ (sym (c .before .before .valid-block .ensures) ∙ c .before .if1 .taken))
+returns c = c .of-valid-read .ensures
+    ∙ sym (refusal-valid _ _ (sym (c .before .before .valid-block .ensures)
+    ∙ c .before .if1 .taken))
 
 returns-2 : tie.Need-returns-2
 returns-2 c = sym (refused-invalid _ _ (sym (c .before .valid-block .ensures) ∙ c .if1 .left))

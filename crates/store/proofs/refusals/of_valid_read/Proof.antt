@@ -17,7 +17,8 @@ returns c = c .of-client-read .ensures
 returns-2 : tie.Need-returns-2
 returns-2 c =
     let start = c .before .before .before in
-    sym (read-nobody (start .args .b .now) (start .args .d) (search needs) (start .args .s) (sym (c .before .is-client .ensures) ∙ c .if1 .left))
+    sym (read-nobody (start .args .b .now) (start .args .d) (search needs) (start .args .s)
+    (sym (c .before .is-client .ensures) ∙ c .if1 .left))
 
 pub of-valid-read-spec : {M : Type 1} → statement M
 of-valid-read-spec =

@@ -17,7 +17,8 @@ returns c = c .of-client-write .ensures
 returns-2 : tie.Need-returns-2
 returns-2 c =
     let start = c .before .before .before .before in
-    sym (write-nobody (start .args .b .now) (start .args .d) (search needs) (start .args .s) (start .args .bytes .now) (sym (c .before .is-client .ensures) ∙ c .if1 .left))
+    sym (write-nobody (start .args .b .now) (start .args .d) (search needs) (start .args .s)
+    (start .args .bytes .now) (sym (c .before .is-client .ensures) ∙ c .if1 .left))
 
 pub of-valid-write-spec : {M : Type 1} → statement M
 of-valid-write-spec =
