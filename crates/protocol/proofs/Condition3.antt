@@ -11,15 +11,19 @@ use lib.ListN.{replicate, length-replicate}
 use Rattle.basics.proofs.Cases.{by-test}
 use Rattle.basics.specs.Lists.{counted}
 use Rattle.itemset.specs.Set.{has, count}
-use Rattle.protocol.specs.Tables.{Sizes}
+use Rattle.protocol.specs.Tables.{Sizes, Tables}
 use Rattle.protocol.specs.Range.{Capacities, sizesInRange}
 use Rattle.protocol.specs.Calls.{Call, startRead, refusal, effect, step, pick}
 use Rattle.protocol.specs.World.{World, Labelled, begin, moved, passed, next, after}
 use Rattle.protocol.specs.World.{isReplyFor}
 use Rattle.protocol.specs.Condition3.{Shows, Condition3}
-use Rattle.protocol.proofs.Invariant.{Inv}
-use Rattle.protocol.proofs.Invariant.Step.{begin-inv}
-use Rattle.protocol.proofs.Runs.Run.{after-append, after-inv}
+use Rattle.protocol.proofs.Ranges.Values.{IsClient}
+use Rattle.protocol.proofs.Refusals.{accepted-read}
+use Rattle.protocol.proofs.Sound.{Ledger, SoundBy}
+use Rattle.protocol.proofs.Link.{Inv}
+use Rattle.protocol.proofs.Link.Held.{worldOf, held-inv}
+use Rattle.protocol.proofs.Link.Step.{begin-inv}
+use Rattle.protocol.proofs.Runs.Run.{after-append, after-inv, after-sizes}
 use Rattle.protocol.proofs.Runs.ReadSpan.{Reading}
 use Rattle.protocol.proofs.Runs.Provenance.{writes-iff, stores-iff}
 use Rattle.protocol.proofs.Runs.Deliverable.{deliverable}
@@ -42,14 +46,22 @@ next-step caps w c = go (refusal caps (w .tables) c) refl
 -- an item of the set that has had no reply is awaited
 awaited : (d s : ℕ) (asked : ℕ → ℕ) (v : World) (left : List Labelled) → Reading d s asked v left
     → (k : ℕ) → has s k ≡ true
-    → counted (isReplyFor d k) left ≡ 0 → has (v .tables .client d .awaited) k ≡ true
+    → counted (isReplyFor d k) left ≡ 0 → has (v .tables .client d .read .awaited) k ≡ true
 awaited d s asked v left r k m none =
-    by-test (has (v .tables .client d .awaited) k) (λ e. e)
+    by-test (has (v .tables .client d .read .awaited) k) (λ e. e)
     (λ e. absurd (never (ap (λ (b : Bool). counted (isReplyFor d k) left + cond b 1 0) (sym e)
     ∙ r .once k ∙ rw m refl)))
   where
     never : counted (isReplyFor d k) left + 0 ≡ 1 → ⊥
     never e = omega arith
+
+is-client : (caps : Capacities) (w : World) (d s : ℕ) (before during : List Call)
+    → refusal caps (after caps w before .tables) (startRead d s) ≡ 0
+    → IsClient (after caps w (before ++ startRead d s ∷ during) .tables .sizes) d
+is-client caps w d s before during e =
+    subst (λ (z : Sizes). IsClient z d)
+    (after-sizes caps w before ∙ sym (after-sizes caps w (before ++ startRead d s ∷ during)))
+    (accepted-read caps (after caps w before .tables) d s .0 e .client)
 
 pub condition-3-from : (caps : Capacities) (w : World) → Inv caps w → (calls : List Call)
     → Condition3 caps w calls
@@ -65,7 +77,8 @@ condition-3-from caps w inv calls =
       oneMessage = λ before during rest d s e u k m none.
           let r = is-reading caps w inv d s before during u in
           one-message caps (after caps w (before ++ startRead d s ∷ during))
-          (inv-at caps w inv d s before during u) d (r .mode) k
+          (inv-at caps w inv d s before during u) d
+          (is-client caps w d s before during (u .accepted)) k
           (awaited d s (asked caps w inv d s before during u)
           (after caps w (before ++ startRead d s ∷ during))
           (left caps w inv d s before during u) r k m none);
@@ -86,3 +99,8 @@ condition-3-from caps w inv calls =
 pub condition-3 : (caps : Capacities) (z : Sizes) → sizesInRange z ≡ true → (calls : List Call)
     → Condition3 caps (begin z) calls
 condition-3 caps z ok = condition-3-from caps (begin z) (begin-inv caps z ok)
+
+-- P9: from sound tables, however they came about
+pub condition-3-held : (caps : Capacities) (L : Ledger) (t : Tables) → SoundBy caps L t
+    → (calls : List Call) → Condition3 caps (worldOf L t) calls
+condition-3-held caps L t sound = condition-3-from caps (worldOf L t) (held-inv caps L t sound)

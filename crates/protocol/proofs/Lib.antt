@@ -15,7 +15,9 @@ pub mod Load
 pub mod Occupied
 pub mod Kept
 pub mod Valid
-pub mod Invariant
+pub mod Common
 pub mod Runs
 pub mod Never
+pub mod Sound
+pub mod Link
 pub mod Condition3

@@ -5,9 +5,10 @@ use mathlib.Core.List.{List, [], _++_}
 use mathlib.Core.Path.{_≡_, refl, ap, _∙_}
 use Prim.Native.Nat.{ℕ, suc, _+_, _-_, _^_, _≤_, _<_}
 use native.Mathlib.Omega.{arith}
+use lib.Dec.{eqb}
 use lib.ListN.{length, length-append, length-map}
 use borrow.Author.Tests.{eqb-true}
-use Rattle.basics.proofs.Cases.{by-test}
+use Rattle.basics.proofs.Cases.{by-test, and-right}
 use Rattle.basics.specs.Lists.{without}
 use Rattle.basics.proofs.Lists.{length-without}
 use Rattle.itemset.specs.Set.{has, count, remove}
@@ -15,15 +16,16 @@ use Rattle.itemset.proofs.Counts.{count-empty, count-remove}
 use Rattle.itemset.proofs.Members.{length-members}
 use Rattle.protocol.specs.declared.Message.{Message}
 use Rattle.protocol.specs.declared.Message.the-variants.{Prepare, Prepared, Commit, Get, Got}
-use Rattle.protocol.specs.Tables.{Tables, Client, idle, reading, writing, read, write, put}
-use Rattle.protocol.specs.Tables.{resting, writerOf, withClient, withMessages}
-use Rattle.protocol.specs.Range.{Capacities, isWriting, arrived, load}
-use Rattle.protocol.specs.Steps.{reader, gets, writer, prepares, isLast, struck, prepared}
-use Rattle.protocol.specs.Steps.{got, commits, delivered, joined, messageAt}
+use Rattle.protocol.specs.Tables.{Tables, Client, Side, ofRead, ofWrite, put, resting}
+use Rattle.protocol.specs.Tables.{writerOf, withClient, withMessages}
+use Rattle.protocol.specs.Range.{Capacities, arrived, load}
+use Rattle.protocol.specs.Steps.{reader, gets, writer, prepares, isLast, ended, struck}
+use Rattle.protocol.specs.Steps.{answered, prepared, got, commits, delivered, joined}
+use Rattle.protocol.specs.Steps.{messageAt}
 use Rattle.protocol.specs.Calls.{startRead, startWrite, deliver, effect}
 use Rattle.protocol.proofs.Ranges.Values.{IsClient, MessageInRange}
 use Rattle.protocol.proofs.Ranges.Tables.{InRange}
-use Rattle.protocol.proofs.Refusals.{AcceptedStart, AcceptedDeliver, Expected}
+use Rattle.protocol.proofs.Refusals.{Idle, AcceptedStart, AcceptedDeliver, Expected}
 use Rattle.protocol.proofs.Refusals.{accepted-message}
 use Rattle.protocol.proofs.Delivered.{delivered-messages}
 use Rattle.protocol.proofs.Put.{total-put}
@@ -47,24 +49,20 @@ load-client t d c h = omega (
 
 -- ---- What has arrived
 
-pub arrived-writing : (c : Client) → c .mode ≡ writing
-    → arrived c ≡ count (c .set) - count (c .awaited)
-unfolding arrived isWriting
-arrived-writing c e = rw e
+-- nothing of an empty write part, and of an idle client
+pub arrived-none : (c : Client) → c .write .set ≡ 0 → arrived c ≡ 0
+unfolding arrived
+arrived-none c e = omega (arith, ap count e, count-empty)
 
-pub arrived-reading : (c : Client) → c .mode ≡ reading → arrived c ≡ 0
-unfolding arrived isWriting
-arrived-reading c e = rw e
-
-pub arrived-idle : (c : Client) → c .mode ≡ idle → arrived c ≡ 0
-unfolding arrived isWriting
-arrived-idle c e = rw e
+pub arrived-of : (c : Client) → arrived c ≡ count (c .write .set) - count (c .write .awaited)
+unfolding arrived
+arrived-of c = refl
 
 -- ---- Starts
 
 -- client d of t, idle, is replaced by one of whose messages none has arrived, and messages join
 load-start : (t : Tables) (d : ℕ) (c : Client) (ms : List Message) → IsClient (t .sizes) d
-    → t .client d .mode ≡ idle → arrived c ≡ 0
+    → Idle (t .client d) → arrived c ≡ 0
     → load (withMessages (withClient t d c) (t .messages ++ ms)) ≡ load t + length ms
 load-start t d c ms h rests none =
     omega (
@@ -73,7 +71,7 @@ load-start t d c ms h rests none =
       length-append
           (t .messages) ms,
       load-client t d c h,
-      arrived-idle (t .client d) rests,
+      arrived-none (t .client d) (rests .write),
     )
 
 module _ (caps : Capacities) (t : Tables) (d s : ℕ) (a : AcceptedStart caps t d s) where
@@ -81,49 +79,65 @@ module _ (caps : Capacities) (t : Tables) (d s : ℕ) (a : AcceptedStart caps t 
   unfolding effect
   load-read =
       load-start t d (reader t d s) (gets t d s) (a .client) (a .idle)
-      (arrived-reading (reader t d s) refl)
+      (arrived-none (reader t d s) refl)
       ∙ ap (λ (n : ℕ). load t + n) (simp length-map (length-members s (t .sizes .items) (a .set)))
 
   pub load-write : (bytes : List ℕ) → load (effect t (startWrite d s bytes)) ≡ load t + count s
   unfolding effect
   load-write bytes =
       load-start t d (writer t d s bytes) (prepares t d s bytes) (a .client) (a .idle)
-      (omega (arith, arrived-writing (writer t d s bytes) refl))
+      (omega (arith, arrived-of (writer t d s bytes)))
       ∙ ap (λ (n : ℕ). load t + n) (simp length-map (length-members s (t .sizes .items) (a .set)))
 
 -- ---- Deliveries
 
 -- a prepared reply: it has arrived, or it was the last and commits join
-pub arrived-prepared : (t : Tables) (c : Client) (k stamp : ℕ) → c .set < 2 ^ t .sizes .items
-    → c .mode ≡ writing → has (c .awaited) k ≡ true
-    → arrived (prepared c k) + length (cond (isLast c k) (commits t (c .set) stamp) []) ≤ suc
-    (arrived c)
-arrived-prepared t c k stamp h m e =
-    by-test (isLast c k)
+pub arrived-prepared : (t : Tables) (c : Client) (k stamp : ℕ) → c .write .set < 2 ^ t .sizes .items
+    → has (c .write .awaited) k ≡ true
+    → arrived (prepared c k) + length
+    (cond (isLast ofWrite c k) (commits t (c .write .set) stamp) []) ≤ suc (arrived c)
+arrived-prepared t c k stamp h e =
+    by-test (isLast ofWrite c k)
     (λ l.
-    let ended = write (c .set) (c .stamp) (c .values) in
-    let none : count (remove (c .awaited) k) ≡ 0 =
-    ap count (eqb-true (remove (c .awaited) k) 0 l) ∙ count-empty in
+    let none : count (remove (c .write .awaited) k) ≡ 0 =
+    ap count (eqb-true (remove (c .write .awaited) k) 0
+    (and-right (eqb (c .read .awaited) 0) (eqb (remove (c .write .awaited) k) 0) l))
+    ∙ count-empty in
     rw l (omega (
       arith,
-      arrived-idle (resting (c .count) ended) refl,
-      arrived-writing c m,
-      count-remove (c .awaited) k e,
-      length-commits t (c .set) stamp h,
+      arrived-none (resting (c .count) (ended c)) refl,
+      arrived-of c,
+      count-remove
+          (c .write .awaited) k e,
+      length-commits t (c .write .set) stamp h,
     )))
     (λ l. rw l (omega (
       arith,
-      arrived-writing (struck c k (c .values)) m,
-      arrived-writing c m,
-      count-remove (c .awaited) k e,
+      arrived-of (struck c k),
+      arrived-of c,
+      count-remove
+          (c .write .awaited) k e,
     )))
 
-pub arrived-got : (c : Client) (k value : ℕ) → c .mode ≡ reading → arrived (got c k value) ≡ 0
-arrived-got c k value m =
-    by-test (isLast c k)
-    (λ l. rw l (arrived-idle (resting (c .count) (read (c .set) (c .asked)
-    (put (c .values) k value))) refl))
-    (λ l. rw l (arrived-reading (struck c k (put (c .values) k value)) m))
+-- a got: nothing arrives, or it was the last and the commits of what had arrived join
+pub arrived-got : (t : Tables) (c : Client) (k value stamp : ℕ)
+    → c .write .set < 2 ^ t .sizes .items
+    → arrived (got c k value) + length
+    (cond (isLast ofRead c k) (commits t (c .write .set) stamp) []) ≤ arrived c
+arrived-got t c k value stamp h =
+    by-test (isLast ofRead c k)
+    (λ l.
+    let none : count (c .write .awaited) ≡ 0 =
+    ap count (eqb-true (c .write .awaited) 0
+    (and-right (eqb (remove (c .read .awaited) k) 0) (eqb (c .write .awaited) 0) l))
+    ∙ count-empty in
+    rw l (omega (
+      arith,
+      arrived-none (resting (c .count) (ended (answered c k value))) refl,
+      arrived-of c,
+      length-commits t (c .write .set) stamp h,
+    )))
+    (λ l. rw l (omega (arith, arrived-of (answered c k value), arrived-of c)))
 
 pub load-delivered : (t : Tables) (m : Message) → InRange t → MessageInRange (t .sizes) m
     → Expected t m
@@ -138,7 +152,7 @@ load-delivered t (Prepared k stamp) r h x =
       arith,
       load-client t d (prepared c k) one,
       arrived-prepared t c k stamp
-          (r .client d one .set) (x .mode) (x .awaited),
+          (r .client d one .write .set) (x .awaited),
     )
 load-delivered t (Commit p stamp) r h x = omega arith
 load-delivered t (Get d k stamp) r h x = omega arith
@@ -147,8 +161,8 @@ load-delivered t (Got d v latest) r h x =
     omega (
       arith,
       load-client t d (got c (v .item) (v .value)) (h .client),
-      arrived-got c (v .item)
-          (v .value) (x .mode),
+      arrived-got t c
+          (v .item) (v .value) (c .write .stamp) (r .client d (h .client) .write .set),
     )
 
 pub load-deliver : (caps : Capacities) (t : Tables) (i : ℕ) → AcceptedDeliver caps t i

@@ -15,9 +15,9 @@ use Rattle.protocol.specs.Range.{Capacities, sizesInRange, valid, load, 
 use Rattle.protocol.specs.Calls.{Call, startRead, startWrite, deliver, show, Test, test}
 use Rattle.protocol.specs.Calls.{first, refusal}
 use Rattle.protocol.specs.World.{World, begin, after}
-use Rattle.protocol.proofs.Ranges.Tables.{valid-facts}
-use Rattle.protocol.proofs.Invariant.{Inv}
-use Rattle.protocol.proofs.Invariant.Step.{begin-inv}
+use Rattle.protocol.proofs.Ranges.Tables.{facts-valid}
+use Rattle.protocol.proofs.Link.{Inv}
+use Rattle.protocol.proofs.Link.Step.{begin-inv}
 use Rattle.protocol.proofs.Runs.Run.{after-inv}
 use Rattle.protocol.proofs.Runs.Deliverable.{deliverable}
 
@@ -59,7 +59,7 @@ accepted-mild r e = record {
 
 module _ (caps : Capacities) (w : World) (inv : Inv caps w) where
   is-valid : not (valid caps (w .tables)) ≡ false
-  is-valid = rw (inv .inRange) refl
+  is-valid = rw (facts-valid caps (w .tables) (inv .sound .valid)) refl
 
   pub mild : (c : Call) → Mild (refusal caps (w .tables) c)
   unfolding refusal
@@ -96,8 +96,7 @@ module _ (caps : Capacities) (z : Sizes) (ok : sizesInRange z ≡ true) (before 
   never-refused = mild caps (after caps (begin z) before) inv-here
 
   pub load-bounded : load (after caps (begin z) before .tables) ≤ caps .load
-  load-bounded = valid-facts caps (after caps (begin z) before .tables) (inv-here .inRange) .load
+  load-bounded = inv-here .sound .valid .load
 
   pub occupied-bounded : occupied (after caps (begin z) before .tables) ≤ caps .versions
-  occupied-bounded = valid-facts caps (after caps (begin z) before .tables)
-      (inv-here .inRange) .occupied
+  occupied-bounded = inv-here .sound .valid .occupied

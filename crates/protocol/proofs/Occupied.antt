@@ -13,7 +13,7 @@ use Rattle.itemset.specs.Set.{count, members, upto}
 use Rattle.itemset.proofs.Members.{length-members}
 use Rattle.protocol.specs.declared.Message.{Message}
 use Rattle.protocol.specs.declared.Message.the-variants.{Prepare, Prepared, Commit, Get, Got}
-use Rattle.protocol.specs.Tables.{Tables, writerOf}
+use Rattle.protocol.specs.Tables.{Tables, ofRead, ofWrite, writerOf}
 use Rattle.protocol.specs.Range.{Capacities, isPrepare, occupied}
 use Rattle.protocol.specs.Steps.{asks, gets, valueOf, nextStamp, version, prepares, isLast}
 use Rattle.protocol.specs.Steps.{commits, touches, delivered, joined, messageAt}
@@ -70,12 +70,16 @@ unfolding delivered joined isPrepare counted
 occupied-delivered t (Prepare v) = omega (arith, length-append (t .versions) (v ∷ []))
 occupied-delivered t (Prepared k stamp) =
     let c = t .client (writerOf stamp) in
-    by-test (isLast c k)
-    (λ l. rw l (omega (arith, commits-none t (c .set) stamp)))
+    by-test (isLast ofWrite c k)
+    (λ l. rw l (omega (arith, commits-none t (c .write .set) stamp)))
     (λ l. rw l (omega arith))
 occupied-delivered t (Commit p stamp) = omega arith
 occupied-delivered t (Get d k stamp) = omega arith
-occupied-delivered t (Got d v latest) = omega arith
+occupied-delivered t (Got d v latest) =
+    let c = t .client d in
+    by-test (isLast ofRead c (v .item))
+    (λ l. rw l (omega (arith, commits-none t (c .write .set) (c .write .stamp))))
+    (λ l. rw l (omega arith))
 
 pub occupied-deliver : (caps : Capacities) (t : Tables) (i : ℕ) → AcceptedDeliver caps t i
     → occupied (effect t (deliver i)) ≡ occupied t

@@ -2,7 +2,7 @@
 use mathlib.Core.Bool.{Bool, true, false}
 use mathlib.Core.List.{List, [], _∷_}
 use mathlib.Core.Logic.{_↔_, _≢_, inl, inr}
-use mathlib.Core.Path.{_≡_, refl}
+use mathlib.Core.Path.{_≡_, refl, ap}
 use Prim.Native.Nat.{ℕ, _+_, _*_, _^_, _≤_, _<_}
 use lib.Dec.{eqb}
 use lib.ListN.{length}
@@ -13,7 +13,7 @@ use Rattle.itemset.specs.Set.{has, count}
 use Rattle.protocol.specs.declared.Version.{Version}
 use Rattle.protocol.specs.declared.Message.{Message}
 use Rattle.protocol.specs.declared.Message.the-variants.{Prepare, Prepared, Commit, Get, Got}
-use Rattle.protocol.specs.Tables.{Sizes, Tables, idle, reading, writing, writerOf}
+use Rattle.protocol.specs.Tables.{Sizes, Tables, Client, writerOf, Ended, resting}
 use Rattle.protocol.specs.Range.{Capacities, load, occupied}
 use Rattle.protocol.specs.Steps.{messageAt, stored}
 use Rattle.protocol.specs.Calls.{startRead, startWrite, deliver, show, Test, test, first}
@@ -23,7 +23,6 @@ use Rattle.protocol.proofs.Tells.{tells}
 use Rattle.protocol.proofs.Each.{Each}
 use Rattle.protocol.proofs.Ranges.Values.{SizesInRange, tells-sizes, IsClient}
 use Rattle.protocol.proofs.Ranges.Values.{MessageInRange}
-use Rattle.protocol.proofs.Ranges.Clients.{tells-idle, tells-reading, tells-writing}
 use Rattle.protocol.proofs.Ranges.Tables.{Valid, tells-valid}
 
 -- ---- The first test that applies
@@ -45,11 +44,23 @@ first-empty = refl
 
 -- ---- Starts
 
+-- neither part has an item
+pub record Idle (c : Client) : Type 0 where
+  pub read : c .read .set ≡ 0
+  pub write : c .write .set ≡ 0
+
+pub idle-resting : (c : Client) (n : ℕ) (e : Ended) → c ≡ resting n e → Idle c
+idle-resting c n e h = record {
+  read = ap (λ (x : Client). x .read .set) h;
+  write =
+      ap (λ (x : Client). x .write .set) h;
+}
+
 -- what both starts test
 pub record AcceptedStart (caps : Capacities) (t : Tables) (d s : ℕ) : Type 0 where
   pub valid : Valid caps t
   pub client : IsClient (t .sizes) d
-  pub idle : t .client d .mode ≡ idle
+  pub idle : Idle (t .client d)
   pub some : s ≢ 0
   pub set : s < 2 ^ t .sizes .items
   pub load : load t + count s ≤ caps .load
@@ -61,7 +72,7 @@ pub record AcceptedWrite (caps : Capacities) (t : Tables) (d s : ℕ) (bytes : L
   pub countLeft : t .client d .count ≢ 4294967295
   pub occupied : occupied t + count s ≤ caps .versions
 
-ruleset tests = (tells-first, tells-valid, tells-idle, tells-reading, tells-writing, tells)
+ruleset tests = (tells-first, tells-valid, tells)
 
 pub accepted-read : (caps : Capacities) (t : Tables) (d s : ℕ)
     → (refusal caps t (startRead d s) ≡ 0) ↔ AcceptedStart caps t d s
@@ -83,17 +94,15 @@ accepted-write caps t d s bytes = (
 
 -- ---- Deliveries
 
--- of a prepared reply: its client is writing and awaits it
+-- of a prepared reply: its client's write part awaits it
 pub record AwaitedPrepared (t : Tables) (k σ : ℕ) : Type 0 where
-  pub mode : t .client (writerOf σ) .mode ≡ writing
-  pub awaited : has (t .client (writerOf σ) .awaited) k ≡ true
-  pub stamp : t .client (writerOf σ) .stamp ≡ σ
+  pub awaited : has (t .client (writerOf σ) .write .awaited) k ≡ true
+  pub stamp : t .client (writerOf σ) .write .stamp ≡ σ
 
--- of a got reply: its client is reading and awaits it
+-- of a got reply: its client's read part awaits it
 pub record AwaitedGot (t : Tables) (d : ℕ) (v : Version) : Type 0 where
-  pub mode : t .client d .mode ≡ reading
-  pub awaited : has (t .client d .awaited) (v .item) ≡ true
-  pub stamp : t .client d .asked (v .item) ≡ v .stamp
+  pub awaited : has (t .client d .read .awaited) (v .item) ≡ true
+  pub stamp : t .client d .read .asked (v .item) ≡ v .stamp
 
 -- neither unexpected nor missing
 abbrev pub Expected : Tables → Message → Type 0
@@ -150,7 +159,7 @@ accepted-fresh z = (
 pub record AcceptedShow (caps : Capacities) (t : Tables) (d : ℕ) (output : List ℕ) : Type 0 where
   pub valid : Valid caps t
   pub client : IsClient (t .sizes) d
-  pub idle : t .client d .mode ≡ idle
+  pub idle : Idle (t .client d)
   pub ended : isNothing (t .client d .last) ≡ false
   pub room : length (shownFrame t d) ≤ length output
 

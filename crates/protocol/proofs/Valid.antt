@@ -15,7 +15,7 @@ use Rattle.protocol.proofs.Ranges.Tables.{InRange, Valid, facts-valid}
 use Rattle.protocol.proofs.Refusals.{accepted-read, accepted-write, accepted-deliver}
 use Rattle.protocol.proofs.Refusals.{accepted-show}
 use Rattle.protocol.proofs.Put.{total-none}
-use Rattle.protocol.proofs.Load.{arrived-idle, load-read, load-write, load-deliver}
+use Rattle.protocol.proofs.Load.{arrived-none, load-read, load-write, load-deliver}
 use Rattle.protocol.proofs.Occupied.{occupied-read, occupied-write, occupied-deliver}
 use Rattle.protocol.proofs.Kept.Values.{range-initial, range-resting}
 use Rattle.protocol.proofs.Kept.Starts.{range-read, range-write}
@@ -81,7 +81,7 @@ unfolding load
 load-fresh z = omega (
   arith,
   total-none (z .clients) (λ d. arrived (resting 0 nothing))
-      (λ d. arrived-idle (resting 0 nothing) refl),
+      (λ d. arrived-none (resting 0 nothing) refl),
 )
 
 pub occupied-fresh : (z : Sizes) → occupied (fresh z) ≡ 0

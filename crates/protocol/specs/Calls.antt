@@ -12,9 +12,10 @@ use Rattle.protocol.specs.declared.Message.the-variants.{Prepare, Prepar
 use Rattle.protocol.specs.declared.Answer.{Answer}
 use Rattle.protocol.specs.declared.Answer.the-variants.{Refused, Made, Started, Delivered}
 use Rattle.protocol.specs.declared.Answer.the-variants.{Shown}
-use Rattle.protocol.specs.Tables.{Sizes, Tables, Ended, nothing, read, write, writerOf}
-use Rattle.protocol.specs.Range.{Capacities, valid, sizesInRange, isClient, isIdle, isReading}
-use Rattle.protocol.specs.Range.{isWriting, load, occupied}
+use Rattle.protocol.specs.Tables.{Sizes, Tables, Ended, nothing, read, write, ofRead, ofWrite}
+use Rattle.protocol.specs.Tables.{writerOf}
+use Rattle.protocol.specs.Range.{Capacities, valid, sizesInRange, isClient, isIdle, load}
+use Rattle.protocol.specs.Range.{occupied}
 use Rattle.protocol.specs.Steps.{startedRead, startedWrite, deliveredAt, messageAt, stored}
 use Rattle.protocol.specs.Steps.{isLast}
 use Rattle.protocol.specs.Frame.{frame}
@@ -43,18 +44,18 @@ first (x ∷ xs) = cond (x .applies) (x .number) (first xs)
 abbrev pub badSet : Tables → ℕ → Bool
 badSet t s = eqb s 0 || not (allBelow s (t .sizes .items))
 
--- 11: prepare of an item and stamp already stored; prepared whose client isn't writing, got whose
--- client isn't reading, or either not awaited with that item and stamp
+-- 11: prepare of an item and stamp already stored; prepared that its client's write part, got that
+-- its client's read part doesn't await with that item and stamp
 unfoldable pub unexpected : Tables → Message → Bool
 unexpected t (Prepare v) = stored (t .versions) (v .item) (v .stamp)
 unexpected t (Prepared k stamp) =
     let c = t .client (writerOf stamp) in
-    not (isWriting (c .mode) && has (c .awaited) k && eqb (c .stamp) stamp)
+    not (has (c .write .awaited) k && eqb (c .write .stamp) stamp)
 unexpected t (Commit p stamp) = false
 unexpected t (Get d k stamp) = false
 unexpected t (Got d v latest) =
     let c = t .client d in
-    not (isReading (c .mode) && has (c .awaited) (v .item) && eqb (c .asked (v .item)) (v .stamp))
+    not (has (c .read .awaited) (v .item) && eqb (c .read .asked (v .item)) (v .stamp))
 
 -- 12: get of a version that isn't stored, the initial one excepted
 unfoldable pub missing : Tables → Message → Bool
@@ -78,7 +79,7 @@ refusal caps t (startRead d s) =
     first
     (test 1 (not (valid caps t))
     ∷ test 3 (not (isClient (t .sizes) d))
-    ∷ test 4 (not (isIdle (t .client d .mode)))
+    ∷ test 4 (not (isIdle (t .client d)))
     ∷ test 5 (badSet t s)
     ∷ test 8 (ltb (caps .load) (load t + count s))
     ∷ [])
@@ -86,7 +87,7 @@ refusal caps t (startWrite d s bytes) =
     first
     (test 1 (not (valid caps t))
     ∷ test 3 (not (isClient (t .sizes) d))
-    ∷ test 4 (not (isIdle (t .client d .mode)))
+    ∷ test 4 (not (isIdle (t .client d)))
     ∷ test 5 (badSet t s)
     ∷ test 6 (not (eqb (length bytes) (4 * count s)))
     ∷ test 7 (eqb (t .client d .count) 4294967295)
@@ -104,7 +105,7 @@ refusal caps t (show d output) =
     first
     (test 1 (not (valid caps t))
     ∷ test 3 (not (isClient (t .sizes) d))
-    ∷ test 4 (not (isIdle (t .client d .mode)))
+    ∷ test 4 (not (isIdle (t .client d)))
     ∷ test 13 (isNothing (t .client d .last))
     ∷ test 14 (ltb (length output) (length (shownFrame t d)))
     ∷ [])
@@ -122,13 +123,14 @@ kindOf (Commit p stamp) = 3
 kindOf (Get d k stamp) = 4
 kindOf (Got d v latest) = 5
 
--- 0 none ended, 1 a read ended, 2 a write ended
+-- 0 none ended, 1 a read ended, 2 a transaction with a write part ended
 unfoldable pub outcomeOf : Tables → Message → ℕ
 outcomeOf t (Prepare v) = 0
-outcomeOf t (Prepared k stamp) = cond (isLast (t .client (writerOf stamp)) k) 2 0
+outcomeOf t (Prepared k stamp) = cond (isLast ofWrite (t .client (writerOf stamp)) k) 2 0
 outcomeOf t (Commit p stamp) = 0
 outcomeOf t (Get d k stamp) = 0
-outcomeOf t (Got d v latest) = cond (isLast (t .client d) (v .item)) 1 0
+outcomeOf t (Got d v latest) = cond (isLast ofRead (t .client d) (v .item))
+    (cond (eqb (t .client d .write .set) 0) 1 2) 0
 
 -- the tables after an accepted call, and its answer
 unfoldable pub effect : Tables → Call → Tables

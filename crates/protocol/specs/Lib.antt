@@ -6,4 +6,5 @@ pub mod Steps
 pub mod Frame
 pub mod Calls
 pub mod World
+pub mod Clear
 pub mod Condition3

@@ -10,8 +10,8 @@ use Rattle.protocol.specs.declared.Version.{Version}
 use Rattle.protocol.specs.declared.Entry.{Entry}
 use Rattle.protocol.specs.declared.Message.{Message}
 use Rattle.protocol.specs.declared.Message.the-variants.{Prepare, Prepared, Commit, Get, Got}
-use Rattle.protocol.specs.Tables.{Sizes, Tables, Client, Mode, idle, reading, writing, Ended}
-use Rattle.protocol.specs.Tables.{nothing, read, write, numberOf, writerOf}
+use Rattle.protocol.specs.Tables.{Sizes, Tables, Client, Ended, nothing, read, write}
+use Rattle.protocol.specs.Tables.{numberOf, writerOf}
 
 -- counts are at most 4,294,967,295 and values of 32 bits
 abbrev pub fits : ℕ → Bool
@@ -72,30 +72,34 @@ endedInRange z (read s stamps values) =
 endedInRange z (write s stamp values) =
     allBelow s (z .items) && stampInRange z stamp && each z s (λ k. fits (values k))
 
-unfoldable pub isIdle : Mode → Bool
-isIdle idle = true
-isIdle reading = false
-isIdle writing = false
+-- a part is under way where it has items, and a client is idle that has neither part
+abbrev pub isReading : Client → Bool
+isReading c = not (eqb (c .read .set) 0)
 
-unfoldable pub isReading : Mode → Bool
-isReading idle = false
-isReading reading = true
-isReading writing = false
+abbrev pub isWriting : Client → Bool
+isWriting c = not (eqb (c .write .set) 0)
 
-unfoldable pub isWriting : Mode → Bool
-isWriting idle = false
-isWriting reading = false
-isWriting writing = true
+abbrev pub isIdle : Client → Bool
+isIdle c = eqb (c .read .set) 0 && eqb (c .write .set) 0
 
--- a client is idle exactly when it awaits no item, and awaited items lie in its set; a writing one
--- has one stamp for all its items
+abbrev pub awaitsNone : Client → Bool
+awaitsNone c = eqb (c .read .awaited) 0 && eqb (c .write .awaited) 0
+
+-- a client is idle exactly when it awaits no item of either part, awaited items lie in their part's
+-- set, and one with both parts has a stamp later than the initial one (a got may end it, and its
+-- commits take the stamp from here)
 unfoldable pub clientInRange : Sizes → Client → Bool
 clientInRange z c =
-    fits (c .count) && allBelow (c .set) (z .items) && allBelow (c .awaited) (z .items)
-    && each z (c .awaited) (has (c .set))
-    && Bool·beq (isIdle (c .mode)) (eqb (c .awaited) 0)
-    && stampInRange z (c .stamp)
-    && each z (c .set) (λ k. stampInRange z (c .asked k) && fits (c .values k))
+    fits (c .count)
+    && allBelow (c .read .set) (z .items) && allBelow (c .read .awaited) (z .items)
+    && each z (c .read .awaited) (has (c .read .set))
+    && each z (c .read .set) (λ k. stampInRange z (c .read .asked k) && fits (c .read .values k))
+    && allBelow (c .write .set) (z .items) && allBelow (c .write .awaited) (z .items)
+    && each z (c .write .awaited) (has (c .write .set))
+    && stampInRange z (c .write .stamp)
+    && each z (c .write .set) (λ k. fits (c .write .values k))
+    && Bool·beq (isIdle c) (awaitsNone c)
+    && (eqb (c .read .set) 0 || eqb (c .write .set) 0 || notInitial (c .write .stamp))
     && endedInRange z (c .last)
 
 -- p holds of every client
@@ -114,9 +118,9 @@ inRange t =
 
 -- ---- Load
 
--- the prepared replies that have come: of a writing client, the items of its set no longer awaited
+-- the prepared replies that have come: the items of the write part no longer awaited
 unfoldable pub arrived : Client → ℕ
-arrived c = cond (isWriting (c .mode)) (count (c .set) - count (c .awaited)) 0
+arrived c = count (c .write .set) - count (c .write .awaited)
 
 -- f, added up over the clients
 unfoldable pub total : ℕ → (ℕ → ℕ) → ℕ

@@ -11,9 +11,10 @@ use Rattle.protocol.specs.declared.Version.{Version}
 use Rattle.protocol.specs.declared.Entry.{Entry}
 use Rattle.protocol.specs.declared.Message.{Message}
 use Rattle.protocol.specs.declared.Message.the-variants.{Prepare, Prepared, Commit, Get, Got}
-use Rattle.protocol.specs.Tables.{Tables, Client, read, write, reading, writing, stampOf}
-use Rattle.protocol.specs.Tables.{writerOf, laterOf, resting, partitionOf, put, withClient}
-use Rattle.protocol.specs.Tables.{withView, withLatest, withVersions, withMessages}
+use Rattle.protocol.specs.Tables.{Tables, Client, Ended, read, write, Side, ofRead, ofWrite}
+use Rattle.protocol.specs.Tables.{noRead, noWrite, stampOf, writerOf, laterOf, resting}
+use Rattle.protocol.specs.Tables.{partitionOf, put, withClient, withView, withLatest}
+use Rattle.protocol.specs.Tables.{withVersions, withMessages}
 
 -- ---- Start a read
 
@@ -31,13 +32,15 @@ abbrev pub reader : Tables → ℕ → ℕ → Client
 reader t d s =
     let c = t .client d in
     record {
-      mode = reading;
       count = c .count;
-      set = s;
-      awaited = s;
-      asked = λ k. cond (has s k) (asks t d k) 0;
-      stamp = 0;
-      values = λ k. 0;
+      read = record {
+        set = s;
+        awaited = s;
+        asked = λ k. cond (has s k) (asks t d k) 0;
+        values =
+            λ k. 0;
+      };
+      write = noWrite;
       last = c .last;
     }
 
@@ -63,13 +66,9 @@ abbrev pub writer : Tables → ℕ → ℕ → List ℕ → Client
 writer t d s bytes =
     let c = t .client d in
     record {
-      mode = writing;
       count = suc (c .count);
-      set = s;
-      awaited = s;
-      asked = λ k. 0;
-      stamp = nextStamp t d;
-      values = valueOf s bytes;
+      read = noRead;
+      write = record { set = s; awaited = s; stamp = nextStamp t d; values = valueOf s bytes };
       last = c .last;
     }
 
@@ -102,36 +101,61 @@ found (v ∷ vs) k stamp = cond (alike k stamp v) v (found vs k stamp)
 
 -- ---- The five deliveries. Each message changes the tables beside the messages in flight (`delivered`), and makes messages join (`joined`)
 
--- item k is struck from those awaited, and the values are these
-abbrev pub struck : Client → ℕ → (ℕ → ℕ) → Client
-struck c k values =
+-- item k is struck from those that the read part awaits, and its answer is kept
+abbrev pub answered : Client → ℕ → ℕ → Client
+answered c k value =
     record {
-      mode = c .mode;
       count = c .count;
-      set = c .set;
-      awaited = remove (c .awaited) k;
-      asked = c .asked;
-      stamp = c .stamp;
-      values = values;
+      read = record {
+        set = c .read .set;
+        awaited = remove (c .read .awaited) k;
+        asked =
+            c .read .asked;
+        values = put (c .read .values) k value;
+      };
+      write = c .write;
       last = c .last;
     }
 
--- item k is the last that c awaits
-abbrev pub isLast : Client → ℕ → Bool
-isLast c k = eqb (remove (c .awaited) k) 0
+-- item k is struck from those that the write part awaits
+abbrev pub struck : Client → ℕ → Client
+struck c k =
+    record {
+      count = c .count;
+      read = c .read;
+      write = record {
+        set = c .write .set;
+        awaited = remove (c .write .awaited) k;
+        stamp =
+            c .write .stamp;
+        values = c .write .values;
+      };
+      last = c .last;
+    }
 
--- Prepared: with the last one the client is idle
+-- item k is the last that c awaits, of either part
+abbrev pub isLast : Side → Client → ℕ → Bool
+isLast ofRead c k = eqb (remove (c .read .awaited) k) 0 && eqb (c .write .awaited) 0
+isLast ofWrite c k = eqb (c .read .awaited) 0 && eqb (remove (c .write .awaited) k) 0
+
+-- the transaction of c, as an ended one
+abbrev pub ended : Client → Ended
+ended c =
+    cond (eqb (c .write .set) 0)
+    (read (c .read .set) (c .read .asked) (c .read .values))
+    (write (c .write .set) (c .write .stamp) (c .write .values))
+
+-- Prepared: with the last reply the client is idle
 abbrev pub prepared : Client → ℕ → Client
-prepared c k = cond (isLast c k) (resting (c .count) (write (c .set) (c .stamp) (c .values)))
-    (struck c k (c .values))
+prepared c k = cond (isLast ofWrite c k) (resting (c .count) (ended c)) (struck c k)
 
--- Got: the version is kept as the answer for its item; with the last one the client is idle
+-- Got: the version is kept as the answer for its item; with the last reply the client is idle
 abbrev pub got : Client → ℕ → ℕ → Client
-got c k value =
-    let values = put (c .values) k value in
-    cond (isLast c k) (resting (c .count) (read (c .set) (c .asked) values)) (struck c k values)
+got c k value = cond (isLast ofRead c k) (resting (c .count) (ended (answered c k value)))
+    (answered c k value)
 
--- each written item's view entry becomes the later of itself and this write
+-- At the end of a transaction with a write part its commits join, and each written item's view
+-- entry becomes the later of itself and this write
 abbrev pub seen : (ℕ → Entry) → ℕ → ℕ → ℕ → Entry
 seen view s stamp k = cond (has s k) (laterOf (view k) (record { stamp = stamp; set = s })) (view k)
 
@@ -148,13 +172,16 @@ delivered t (Prepare v) = withVersions t (t .versions ++ v ∷ [])
 delivered t (Prepared k stamp) =
     let d = writerOf stamp in
     let c = t .client d in
-    let view = cond (isLast c k) (seen (t .view d) (c .set) stamp) (t .view d) in
+    let view = cond (isLast ofWrite c k) (seen (t .view d) (c .write .set) stamp) (t .view d) in
     withView (withClient t d (prepared c k)) d view
 delivered t (Commit p stamp) = withLatest t (committed t p stamp)
 delivered t (Get d k stamp) = t
 delivered t (Got d v latest) =
-    withView (withClient t d (got (t .client d) (v .item) (v .value))) d
-    (put (t .view d) (v .item) (laterOf (t .view d (v .item)) latest))
+    let c = t .client d in
+    let k = v .item in
+    let view = put (t .view d) k (laterOf (t .view d k) latest) in
+    withView (withClient t d (got c k (v .value))) d
+    (cond (isLast ofRead c k) (seen view (c .write .set) (c .write .stamp)) view)
 
 -- some item of s lies in partition p, of the first n items
 unfoldable pub touches : Tables → ℕ → ℕ → ℕ → Bool
@@ -170,11 +197,13 @@ unfoldable pub joined : Tables → Message → List Message
 joined t (Prepare v) = Prepared (v .item) (v .stamp) ∷ []
 joined t (Prepared k stamp) =
     let c = t .client (writerOf stamp) in
-    cond (isLast c k) (commits t (c .set) stamp) []
+    cond (isLast ofWrite c k) (commits t (c .write .set) stamp) []
 joined t (Commit p stamp) = []
 joined t (Get d k stamp) = Got d (version k (found (t .versions) k stamp .value) stamp 0)
     (t .latest k) ∷ []
-joined t (Got d v latest) = []
+joined t (Got d v latest) =
+    let c = t .client d in
+    cond (isLast ofRead c (v .item)) (commits t (c .write .set) (c .write .stamp)) []
 
 -- the message at a place
 abbrev pub messageAt : Tables → ℕ → Message

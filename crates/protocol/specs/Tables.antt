@@ -31,9 +31,6 @@ laterOf present other = cond (ltb (present .stamp) (other .stamp)) other present
 
 -- ---- Client (desk)
 
-pub data Mode : Type 0 where
-  idle reading writing : Mode
-
 -- the last ended transaction: none yet, a read with the stamps and values it shows, or a write with
 -- its stamp and values
 pub data Ended : Type 0 where
@@ -41,19 +38,43 @@ pub data Ended : Type 0 where
   read : (set : ℕ) (stamps values : ℕ → ℕ) → Ended
   write : (set stamp : ℕ) (values : ℕ → ℕ) → Ended
 
-pub record Client : Type 0 where
-  pub mode : Mode
-  -- writes started
-  pub count : ℕ
-  -- of the transaction under way: its items, and those still awaited
+-- The transaction under way has a read part and a write part. Either may be empty: an ordinary read
+-- has no write part, an ordinary write no read part, and an idle client has neither.
+
+-- its items, those whose reply is still awaited, the stamps asked for, and the answers so far
+pub record ReadPart : Type 0 where
   pub set : ℕ
   pub awaited : ℕ
-  -- a read's stamps asked for, item by item; a write's one stamp. What the mode doesn't use is 0
   pub asked : ℕ → ℕ
-  pub stamp : ℕ
-  -- a read's answers so far; a write's values
   pub values : ℕ → ℕ
+
+-- its items, those whose reply is still awaited, the one stamp, and the values
+pub record WritePart : Type 0 where
+  pub set : ℕ
+  pub awaited : ℕ
+  pub stamp : ℕ
+  pub values : ℕ → ℕ
+
+abbrev pub noRead : ReadPart
+noRead = record { set = 0; awaited = 0; asked = λ k. 0; values = λ k. 0 }
+
+abbrev pub noWrite : WritePart
+noWrite = record { set = 0; awaited = 0; stamp = 0; values = λ k. 0 }
+
+pub record Client : Type 0 where
+  -- writes started
+  pub count : ℕ
+  pub read : ReadPart
+  pub write : WritePart
   pub last : Ended
+
+-- one of the two parts
+pub data Side : Type 0 where
+  ofRead ofWrite : Side
+
+abbrev pub awaitedOf : Side → Client → ℕ
+awaitedOf ofRead c = c .read .awaited
+awaitedOf ofWrite c = c .write .awaited
 
 -- ---- Tables
 
@@ -78,20 +99,9 @@ pub record Tables : Type 0 where
 abbrev pub partitionOf : Tables → ℕ → ℕ
 partitionOf t k = k % t .sizes .partitions
 
--- a client as a fresh start or the end of a transaction leaves it: idle, with no set
+-- a client as a fresh start or the end of a transaction leaves it: idle, with neither part
 abbrev pub resting : ℕ → Ended → Client
-resting count last =
-    record {
-      mode = idle;
-      count = count;
-      set = 0;
-      awaited = 0;
-      asked = λ k. 0;
-      stamp = 0;
-      values =
-          λ k. 0;
-      last = last;
-    }
+resting count last = record { count = count; read = noRead; write = noWrite; last = last }
 
 -- what a fresh start makes
 abbrev pub fresh : Sizes → Tables

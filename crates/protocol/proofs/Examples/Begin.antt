@@ -5,9 +5,9 @@ use lib.ListN.{replicate}
 use Rattle.protocol.specs.declared.Version.{Version}
 use Rattle.protocol.specs.declared.Entry.{Entry}
 use Rattle.protocol.specs.declared.Message.the-variants.{Prepare, Prepared, Commit, Get, Got}
-use Rattle.protocol.specs.Tables.{Sizes, Tables, Client, Mode, idle, reading, writing}
-use Rattle.protocol.specs.Tables.{nothing, fresh, initial, resting, stampOf, put, withClient}
-use Rattle.protocol.specs.Tables.{withView, withVersions, withMessages}
+use Rattle.protocol.specs.Tables.{Sizes, Tables, Client, noRead, noWrite, nothing, fresh}
+use Rattle.protocol.specs.Tables.{initial, resting, stampOf, put, withClient, withView}
+use Rattle.protocol.specs.Tables.{withVersions, withMessages}
 
 abbrev pub sizes : ℕ → ℕ → ℕ → Sizes
 sizes clients partitions items = record
@@ -20,27 +20,29 @@ abbrev pub version : ℕ → ℕ → ℕ → ℕ → ℕ → Version
 version k value number writer set =
     record { item = k; value = value; stamp = stampOf number writer; set = set }
 
--- a client after five writes: its items, those awaited, the stamps asked for, the stamp written,
--- and the value of each item
-abbrev pub busy : Mode → ℕ → ℕ → ℕ → ℕ → ℕ → Client
-busy mode set awaited asked stamp value =
+-- a client after five writes: of its one part the items, those awaited, the stamps asked for or the
+-- stamp written, and the value of each item
+abbrev pub reader : ℕ → ℕ → ℕ → ℕ → Client
+reader set awaited asked value =
     record {
-      mode = mode;
       count = 5;
-      set = set;
-      awaited = awaited;
-      asked = λ k. asked;
-      stamp =
-          stamp;
-      values = λ k. value;
+      read = record
+          { set = set; awaited = awaited; asked = λ k. asked; values = λ k. value };
+      write =
+          noWrite;
       last = nothing;
     }
 
-abbrev pub reader : ℕ → ℕ → ℕ → ℕ → Client
-reader set awaited asked value = busy reading set awaited asked 0 value
-
 abbrev pub writer : ℕ → ℕ → ℕ → ℕ → Client
-writer set awaited stamp value = busy writing set awaited 0 stamp value
+writer set awaited stamp value =
+    record {
+      count = 5;
+      read = noRead;
+      write =
+          record { set = set; awaited = awaited; stamp = stamp; values = λ k. value };
+      last =
+          nothing;
+    }
 
 -- ---- Load
 
@@ -48,15 +50,15 @@ abbrev pub storedBy : ℕ → List Version
 storedBy d = version 0 7 1 d 15 ∷ version 1 7 1 d 15 ∷ version 2 7 1 d 15 ∷ version 3 7 1 d 15 ∷ []
 
 -- Of eight clients 1 to 7 write {0, 1, 2, 3} and still await the reply for 3: 21 replies have come,
--- the other 7 are in flight. Beside those there are n commits of client 8, which is idle; that it
--- has a set adds nothing. The load is 28 + n.
+-- the other 7 are in flight. Beside those there are n commits of client 8, which is idle. The load
+-- is 28 + n.
 abbrev pub loaded : ℕ → Tables
 loaded n =
     record {
       sizes = sizes 8 4 4;
       latest = λ k. initial;
       view = λ d k. initial;
-      client = put (λ d. writer 15 8 (stampOf 1 d) 7) 8 (busy idle 15 0 0 0 0);
+      client = put (λ d. writer 15 8 (stampOf 1 d) 7) 8 (resting 5 nothing);
       versions = storedBy 1 ++ storedBy 2 ++ storedBy 3 ++ storedBy 4 ++ storedBy 5 ++ storedBy
           6 ++ storedBy 7;
       messages = map (λ d. Prepared 3 (stampOf 1 d)) (1 ∷ 2 ∷ 3 ∷ 4 ∷ 5 ∷ 6 ∷ 7 ∷ []) ++ replicate n
@@ -107,8 +109,8 @@ strayed =
       latest = put (put (λ k. initial) 0 (entry 1 1 1)) 1 (entry 0 0 3);
       view = put (λ d k. initial) 2 (put (put (λ k. initial) 0 (entry 1 1 1)) 1 (entry 2 1 1));
       client =
-          put (put (λ d. resting 0 nothing) 1 (busy writing 3 2 (stampOf 1 1) (stampOf 1 1) 7)) 2
-          (busy reading 1 1 (stampOf 1 2) (stampOf 1 2) 0);
+          put (put (λ d. resting 0 nothing) 1 (writer 3 2 (stampOf 1 1) 7)) 2
+          (reader 1 1 (stampOf 1 2) 0);
       versions = version 0 7 1 1 3 ∷ version 0 9 1 1 3 ∷ [];
       messages =
           Prepare (version 0 7 1 1 3)

@@ -5,11 +5,11 @@ use Rattle.protocol.specs.declared.Version.{Version}
 use Rattle.protocol.specs.declared.Entry.{Entry}
 use Rattle.protocol.specs.declared.Message.{Message}
 use Rattle.protocol.specs.declared.Message.the-variants.{Prepare, Prepared, Commit, Get, Got}
-use Rattle.protocol.specs.Tables.{Sizes, Tables, Client, idle, Ended, nothing, read, write}
-use Rattle.protocol.specs.Tables.{fresh, initial, resting, stampOf, put, withClient, withView}
+use Rattle.protocol.specs.Tables.{Sizes, Tables, Client, Ended, nothing, read, write, fresh}
+use Rattle.protocol.specs.Tables.{initial, resting, stampOf, put, withClient, withView}
 use Rattle.protocol.specs.Tables.{withLatest, withVersions, withMessages}
-use Rattle.protocol.proofs.Examples.Begin.{sizes, entry, version, busy, reader, writer}
-use Rattle.protocol.proofs.Examples.Begin.{loaded, holding}
+use Rattle.protocol.proofs.Examples.Begin.{sizes, entry, version, reader, writer, loaded}
+use Rattle.protocol.proofs.Examples.Begin.{holding}
 
 -- ---- Fresh tables of two clients, partitions and items, but for one field
 
@@ -80,8 +80,8 @@ faults =
     -- a prepared reply or commit of the initial stamp
     ∷ withMessage (Prepared 1 0) ∷ withMessage (Commit 1 0)
     -- awaited items outside the set; idle and yet awaiting; busy and awaiting none
-    ∷ withBusy (reader 2 3 0 0) ∷ withBusy (writer 2 1 (stampOf 1 2) 0)
-    ∷ withBusy (busy idle 2 2 0 0 0) ∷ withBusy (reader 2 0 0 0)
+    ∷ withBusy (reader 2 3 0 0) ∷ withBusy (writer 2 1 (stampOf 1 2) 0) ∷ withBusy (reader 0 2 0 0)
+    ∷ withBusy (writer 0 2 (stampOf 1 2) 0) ∷ withBusy (reader 2 0 0 0)
     ∷ withBusy (writer 2 0 (stampOf 1 2) 0)
     -- load 129; 513 versions; 512 and a prepare
     ∷ loaded 101 ∷ holding 513 ∷ withMessages (holding 512) (Prepare (version 1 7 1 2 2) ∷ [])

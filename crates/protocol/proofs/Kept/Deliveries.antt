@@ -1,15 +1,19 @@
 -- A delivery keeps the tables in range: whatever it stores, shows or sends was in the message, the
 -- client, a latest or a stored version.
+use mathlib.Core.Bool.{false}
 use mathlib.Core.List.{[], _∷_, _++_}
-use mathlib.Core.Path.{sym, subst}
+use mathlib.Core.Path.{_≡_, sym, ap, _∙_, subst}
 use Prim.Native.Nat.{ℕ}
+use lib.Dec.{eqb}
+use borrow.Author.Tests.{eqb-true, eqb-false}
+use Rattle.basics.proofs.Cases.{by-test}
 use Rattle.basics.specs.Lists.{without}
 use Rattle.protocol.specs.declared.Message.{Message}
 use Rattle.protocol.specs.declared.Message.the-variants.{Prepare, Prepared, Commit, Get, Got}
-use Rattle.protocol.specs.Tables.{Sizes, Tables, laterOf, writerOf}
+use Rattle.protocol.specs.Tables.{Sizes, Tables, ofRead, ofWrite, put, laterOf, writerOf}
 use Rattle.protocol.specs.Range.{Capacities}
-use Rattle.protocol.specs.Steps.{found, isLast, prepared, got, committed, touches, version}
-use Rattle.protocol.specs.Steps.{delivered, joined, messageAt}
+use Rattle.protocol.specs.Steps.{found, isLast, prepared, got, committed, commits, touches}
+use Rattle.protocol.specs.Steps.{version, delivered, joined, messageAt}
 use Rattle.protocol.specs.Calls.{deliver, effect}
 use Rattle.protocol.proofs.Each.{Each, each-none, each-one, each-append, each-without}
 use Rattle.protocol.proofs.Each.{each-upto}
@@ -17,12 +21,14 @@ use Rattle.protocol.proofs.Ranges.Values.{IsClient, EntryInRange, Entri
 use Rattle.protocol.proofs.Ranges.Values.{VersionInRange, MessageInRange}
 use Rattle.protocol.proofs.Ranges.Tables.{InRange}
 use Rattle.protocol.proofs.Refusals.{Expected, AcceptedDeliver, accepted-message}
+use Rattle.protocol.proofs.Common.{no-commits}
 use Rattle.protocol.proofs.Delivered.{delivered-sizes}
 use Rattle.protocol.proofs.Put.{by-cond, put-all}
 use Rattle.protocol.proofs.Kept.Changes.{range-both, range-latest, range-versions}
 use Rattle.protocol.proofs.Kept.Changes.{range-messages}
 use Rattle.protocol.proofs.Kept.Values.{range-later, range-seen, range-found}
 use Rattle.protocol.proofs.Kept.Values.{range-committed, range-prepared, range-got}
+use Rattle.protocol.proofs.Kept.Values.{awaits-some}
 
 -- what changes beside the messages in flight
 pub range-delivered : (t : Tables) (m : Message) → InRange t → MessageInRange (t .sizes) m
@@ -38,9 +44,10 @@ range-delivered t (Prepared k stamp) r h x =
     let c = t .client d in
     let one : IsClient z d = h .stamp .writer in
     range-both t r d (prepared c k) _
-    (range-prepared z c k (r .client d one) (x .mode))
-    (by-cond (EntriesInRange z) (isLast c k) _ _
-    (λ l. range-seen z (t .view d) (c .set) stamp (r .view d one) (r .client d one .set) (h .stamp))
+    (range-prepared z c k (r .client d one) (x .awaited))
+    (by-cond (EntriesInRange z) (isLast ofWrite c k) _ _
+    (λ l. range-seen z (t .view d) (c .write .set) stamp (r .view d one)
+    (r .client d one .write .set) (λ n. h .stamp))
     (λ l. r .view d one))
 range-delivered t (Commit p stamp) r h x =
     range-latest t r (committed t p stamp) (range-committed t p stamp r (h .stamp))
@@ -50,27 +57,32 @@ range-delivered t (Got d v latest) r h x =
     let k = v .item in
     let view = r .view d (h .client) in
     let entry = range-later z (t .view d k) latest (view k (h .item)) (h .latest) in
-    range-both t r d (got (t .client d) k (v .value)) _
-    (range-got z (t .client d) k (v .value) (r .client d (h .client)) (x .mode) (h .value))
-    (λ j l. put-all (EntryInRange z) (t .view d) k (laterOf (t .view d k) latest) j entry
-    (view j l))
+    let c = t .client d in
+    let after : EntriesInRange z (put (t .view d) k (laterOf (t .view d k) latest)) =
+    λ j l. put-all (EntryInRange z) (t .view d) k (laterOf (t .view d k) latest) j entry (view j l) in
+    range-both t r d (got c k (v .value)) _
+    (range-got z c k (v .value) (r .client d (h .client)) (x .awaited) (h .value))
+    (by-cond (EntriesInRange z) (isLast ofRead c k) _ _
+    (λ l. range-seen z _ (c .write .set) (c .write .stamp) after
+    (r .client d (h .client) .write .set) (r .client d (h .client) .write .stamp))
+    (λ l. after))
 
 -- what joins
 pub range-joined : (t : Tables) (m : Message) → InRange t → MessageInRange (t .sizes) m
-    → Each (MessageInRange (t .sizes)) (joined t m)
+    → Expected t m → Each (MessageInRange (t .sizes)) (joined t m)
 unfolding joined
-range-joined t (Prepare v) r h =
+range-joined t (Prepare v) r h x =
     each-one (MessageInRange (t .sizes)) (Prepared (v .item) (v .stamp))
     (record { item = h .item; stamp = h .stamp })
-range-joined t (Prepared k stamp) r h =
-    let s = t .client (writerOf stamp) .set in
-    by-cond (Each (MessageInRange (t .sizes))) (isLast (t .client (writerOf stamp)) k) _ _
+range-joined t (Prepared k stamp) r h x =
+    let s = t .client (writerOf stamp) .write .set in
+    by-cond (Each (MessageInRange (t .sizes))) (isLast ofWrite (t .client (writerOf stamp)) k) _ _
     (λ l. each-upto (MessageInRange (t .sizes)) (λ p. Commit p stamp) (t .sizes .partitions)
     (λ p. touches t s p (t .sizes .items)) (λ p b e.
     record { partition = b; stamp = h .stamp }))
     (λ l. each-none (MessageInRange (t .sizes)))
-range-joined t (Commit p stamp) r h = each-none (MessageInRange (t .sizes))
-range-joined t (Get d k stamp) r h =
+range-joined t (Commit p stamp) r h x = each-none (MessageInRange (t .sizes))
+range-joined t (Get d k stamp) r h x =
     each-one (MessageInRange (t .sizes))
     (Got d (version k (found (t .versions) k stamp .value) stamp 0) (t .latest k))
     (record {
@@ -80,7 +92,26 @@ range-joined t (Get d k stamp) r h =
       stamp = h .stamp;
       latest = r .latest k (h .item);
     })
-range-joined t (Got d v latest) r h = each-none (MessageInRange (t .sizes))
+range-joined t (Got d v latest) r h x =
+    let c = t .client d in
+    let k = v .item in
+    let s = c .write .set in
+    let one = r .client d (h .client) in
+    let reads : eqb (c .read .set) 0 ≡ false =
+    awaits-some (c .read .awaited) (c .read .set) k (one .read .within) (x .awaited) in
+    by-cond (Each (MessageInRange (t .sizes))) (isLast ofRead c k) _ _
+    (λ l. by-test (eqb s 0)
+    (λ e. subst (Each (MessageInRange (t .sizes)))
+    (sym (ap (λ (y : ℕ). commits t y (c .write .stamp)) (eqb-true s 0 e)
+    ∙ no-commits t (c .write .stamp))) (each-none (MessageInRange (t .sizes))))
+    (λ e. each-upto (MessageInRange (t .sizes)) (λ p. Commit p (c .write .stamp))
+    (t .sizes .partitions) (λ p. touches t s p (t .sizes .items)) (λ p b u.
+    record {
+      partition = b;
+      stamp =
+          one .write .stamp (one .stamped (eqb-false (c .read .set) 0 reads, eqb-false s 0 e));
+    })))
+    (λ l. each-none (MessageInRange (t .sizes)))
 
 pub range-deliver : (caps : Capacities) (t : Tables) (i : ℕ) → AcceptedDeliver caps t i
     → InRange (effect t (deliver i))
@@ -93,7 +124,7 @@ range-deliver caps t i a =
     let rest = without i (t .messages) in
     let each : Each P (rest ++ joined t m) =
     each-append P rest (joined t m) (each-without P i (t .messages) (r .messages))
-    (range-joined t m r known) in
+    (range-joined t m r known (a .expected)) in
     range-messages (delivered t m) (range-delivered t m r known (a .expected)) (rest ++ joined t m)
     (subst (λ (z : Sizes). Each (MessageInRange z) (rest ++ joined t m))
     (sym (delivered-sizes t m)) each)

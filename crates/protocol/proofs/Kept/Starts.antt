@@ -2,7 +2,7 @@
 -- stamp has the next number and its own client.
 use mathlib.Core.Bool.{true, cond}
 use mathlib.Core.List.{List, _++_}
-use mathlib.Core.Path.{_≡_, sym}
+use mathlib.Core.Path.{_≡_, sym, refl}
 use Prim.Native.Nat.{ℕ, zero, suc, _*_, _%_, _^_, _≤_, _<_}
 use native.Mathlib.Omega.{arith}
 use borrow.Author.Tests.{ne-eqb}
@@ -25,7 +25,8 @@ use Rattle.protocol.proofs.Ranges.Tables.{InRange}
 use Rattle.protocol.proofs.Refusals.{AcceptedStart, AcceptedWrite}
 use Rattle.protocol.proofs.Put.{by-cond}
 use Rattle.protocol.proofs.Kept.Changes.{range-client, range-messages}
-use Rattle.protocol.proofs.Kept.Values.{range-initial, range-max}
+use Rattle.protocol.proofs.Kept.Values.{range-no-read, range-no-write, range-initial}
+use Rattle.protocol.proofs.Kept.Values.{range-max}
 
 -- ---- Stamps and values
 
@@ -63,18 +64,21 @@ module _ (caps : Capacities) (t : Tables) (d s : ℕ) (a : AcceptedStart caps t 
       (has-below s k (t .sizes .items) (a .set) e) (t .sizes .items) (omega arith)
 
   pub range-reader : ClientInRange (t .sizes) (reader t d s)
-  unfolding isIdle
   range-reader =
       let c = a .valid .inRange .client d (a .client) in
       record {
         count = c .count;
-        set = a .set;
-        awaited = a .set;
-        within = λ k e. e;
-        idle = sym (ne-eqb s 0 (a .some));
-        stamp = range-initial (t .sizes);
-        asked = λ k e. rw e (range-asks k e);
-        values = λ k e. omega arith;
+        read = record {
+          set = a .set;
+          awaited = a .set;
+          within = λ k e. e;
+          asked =
+              λ k e. rw e (range-asks k e);
+          values = λ k e. omega arith;
+        };
+        write = range-no-write (t .sizes);
+        idle = refl;
+        stamped = λ p. absurd (p .1 refl);
         last = c .last;
       }
 
@@ -102,17 +106,20 @@ module _ (caps : Capacities) (t : Tables) (d s : ℕ) (bytes : List ℕ)
   range-next = omega (arith, count-fits)
 
   pub range-writer : ClientInRange (t .sizes) (writer t d s bytes)
-  unfolding isIdle
   range-writer =
       record {
         count = count-fits;
-        set = a .start .set;
-        awaited = a .start .set;
-        within = λ k e. e;
-        idle = sym (ne-eqb s 0 (a .start .some));
-        stamp = λ n. range-next;
-        asked = λ k e. range-initial (t .sizes);
-        values = λ k e. value-fits s bytes k;
+        read = range-no-read (t .sizes);
+        write = record {
+          set = a .start .set;
+          awaited = a .start .set;
+          within = λ k e. e;
+          stamp =
+              λ n. range-next;
+          values = λ k e. value-fits s bytes k;
+        };
+        idle = refl;
+        stamped = λ p. absurd (p .0 refl);
         last = a .start .valid .inRange .client d (a .start .client) .last;
       }
 

@@ -1,6 +1,6 @@
 -- The stamps, entries and clients that a step makes are in range, where those that it makes them
 -- from are.
-use mathlib.Core.Bool.{true, false, not, _&&_}
+use mathlib.Core.Bool.{true, false, not, _&&_, and-false}
 use mathlib.Core.List.{List, [], _∷_}
 use mathlib.Core.Logic.{inl, inr}
 use mathlib.Core.Path.{_≡_, refl, sym, _∙_, subst}
@@ -9,21 +9,22 @@ use native.Mathlib.Nat.{lt-of-le-of-lt}
 use native.Mathlib.Omega.{arith}
 use lib.Dec.{eqb, leb, ltb}
 use lib.Pow.{pow-pos}
-use borrow.Author.Tests.{leb-true, leb-false}
-use Rattle.basics.proofs.Cases.{by-test, and-right}
-use Rattle.itemset.specs.Set.{has}
-use Rattle.itemset.proofs.Laws.{has-remove, remove-le}
+use borrow.Author.Tests.{leb-true, leb-false, eqb-true}
+use Rattle.basics.proofs.Cases.{by-test, not-both, and-right}
+use Rattle.itemset.specs.Set.{has, remove}
+use Rattle.itemset.proofs.Laws.{has-empty, has-remove, remove-le}
 use Rattle.protocol.specs.declared.Version.{Version}
 use Rattle.protocol.specs.declared.Entry.{Entry}
-use Rattle.protocol.specs.Tables.{Sizes, Tables, Client, Ended, read, write, reading, writing}
-use Rattle.protocol.specs.Tables.{laterOf, partitionOf, resting, put}
-use Rattle.protocol.specs.Range.{isIdle}
-use Rattle.protocol.specs.Steps.{alike, stored, found, struck, isLast, prepared, got, seen}
-use Rattle.protocol.specs.Steps.{committed}
+use Rattle.protocol.specs.Tables.{Sizes, Tables, Client, Ended, read, write, ofRead, ofWrite}
+use Rattle.protocol.specs.Tables.{noRead, noWrite, laterOf, partitionOf, resting, put}
+use Rattle.protocol.specs.Range.{isIdle, awaitsNone}
+use Rattle.protocol.specs.Steps.{alike, stored, found, struck, answered, isLast, ended}
+use Rattle.protocol.specs.Steps.{prepared, got, seen, committed}
 use Rattle.protocol.proofs.Each.{Each}
 use Rattle.protocol.proofs.Ranges.Values.{Stamped, StampInRange, EntryInRange}
 use Rattle.protocol.proofs.Ranges.Values.{EntriesInRange, VersionInRange}
-use Rattle.protocol.proofs.Ranges.Clients.{EndedInRange, ClientInRange}
+use Rattle.protocol.proofs.Ranges.Clients.{EndedInRange, ReadPartInRange, WritePartInRange}
+use Rattle.protocol.proofs.Ranges.Clients.{ClientInRange}
 use Rattle.protocol.proofs.Ranges.Tables.{InRange}
 use Rattle.protocol.proofs.Put.{by-cond, put-all}
 
@@ -44,11 +45,11 @@ pub range-later : (z : Sizes) (e f : Entry) → EntryInRange z e → EntryInRang
 range-later z e f p q = by-cond (EntryInRange z) (ltb (e .stamp) (f .stamp)) _ _ (λ l. q) (λ l. p)
 
 pub range-seen : (z : Sizes) (f : ℕ → Entry) (s stamp : ℕ) → EntriesInRange z f → s < 2 ^ z .items
-    → Stamped z stamp
+    → StampInRange z stamp
     → EntriesInRange z (seen f s stamp)
 range-seen z f s stamp h b g k l =
     by-cond (EntryInRange z) (has s k) _ _
-    (λ e. range-later z (f k) _ (h k l) (record { stamp = λ n. g; set = b }))
+    (λ e. range-later z (f k) _ (h k l) (record { stamp = g; set = b }))
     (λ e. h k l)
 
 -- ---- Stored versions
@@ -81,57 +82,107 @@ range-committed t p stamp r g k l =
 
 -- ---- Clients
 
-pub range-resting : (z : Sizes) (n : ℕ) (e : Ended) → n < 2 ^ 32 → EndedInRange z e
-    → ClientInRange z (resting n e)
-unfolding isIdle
-range-resting z n e h r =
+pub range-no-read : (z : Sizes) → ReadPartInRange z noRead
+range-no-read z =
     record {
-      count = h;
       set = pow-pos (z .items);
       awaited = pow-pos (z .items);
       within = λ k i. i;
-      idle = refl;
-      stamp = range-initial z;
-      asked = λ k i. range-initial z;
+      asked =
+          λ k i. range-initial z;
       values = λ k i. omega arith;
+    }
+
+pub range-no-write : (z : Sizes) → WritePartInRange z noWrite
+range-no-write z =
+    record {
+      set = pow-pos (z .items);
+      awaited = pow-pos (z .items);
+      within = λ k i. i;
+      stamp =
+          range-initial z;
+      values = λ k i. omega arith;
+    }
+
+pub range-resting : (z : Sizes) (n : ℕ) (e : Ended) → n < 2 ^ 32 → EndedInRange z e
+    → ClientInRange z (resting n e)
+range-resting z n e h r =
+    record {
+      count = h;
+      read = range-no-read z;
+      write = range-no-write z;
+      idle = refl;
+      stamped = λ p. absurd (p .0 refl);
       last = r;
     }
 
--- one item is struck, and others are awaited still
-range-struck : (z : Sizes) (c : Client) (k : ℕ) (values : ℕ → ℕ) → ClientInRange z c
-    → isIdle (c .mode) ≡ false → isLast c k ≡ false
-    → ((j : ℕ) → has (c .set) j ≡ true → values j < 2 ^ 32) → ClientInRange z (struck c k values)
-range-struck z c k values r busy more fit =
-    record {
-      count = r .count;
-      set = r .set;
-      awaited = lt-of-le-of-lt (remove-le (c .awaited) k) (r .awaited);
-      within = λ j e. r .within j (and-right (not (eqb j k)) (has (c .awaited) j) (sym (has-remove (c .awaited) k j) ∙ e));
-      idle = busy ∙ sym more;
-      stamp = r .stamp;
-      asked = r .asked;
-      values = fit;
-      last = r .last;
-    }
+pub range-ended : (z : Sizes) (c : Client) → ReadPartInRange z (c .read)
+    → WritePartInRange z (c .write) → EndedInRange z (ended c)
+range-ended z c r w =
+    by-cond (EndedInRange z) (eqb (c .write .set) 0) _ _
+    (λ e. record { set = r .set; stamps = r .asked; values = r .values })
+    (λ e. record { set = w .set; stamp = w .stamp; values = w .values })
 
-pub range-prepared : (z : Sizes) (c : Client) (k : ℕ) → ClientInRange z c → c .mode ≡ writing
-    → ClientInRange z (prepared c k)
-unfolding isIdle
+-- one item is struck
+range-left : (s k n : ℕ) → s < 2 ^ n → remove s k < 2 ^ n
+range-left s k n l = lt-of-le-of-lt (remove-le s k) l
+
+within-left : (a s k : ℕ) → ((j : ℕ) → has a j ≡ true → has s j ≡ true) → (j : ℕ)
+    → has (remove a k) j ≡ true → has s j ≡ true
+within-left a s k h j e = h j (and-right (not (eqb j k)) (has a j) (sym (has-remove a k j) ∙ e))
+
+-- a part that awaits an item isn't empty
+pub awaits-some : (a s k : ℕ) → ((j : ℕ) → has a j ≡ true → has s j ≡ true) → has a k ≡ true
+    → eqb s 0 ≡ false
+awaits-some a s k h e =
+    by-test (eqb s 0) (λ z. not-both (h k e) (subst (λ (x : ℕ). has x k ≡ false)
+    (sym (eqb-true s 0 z)) (has-empty k))) (λ z. z)
+
+pub range-prepared : (z : Sizes) (c : Client) (k : ℕ) → ClientInRange z c
+    → has (c .write .awaited) k ≡ true → ClientInRange z (prepared c k)
 range-prepared z c k r m =
-    by-cond (ClientInRange z) (isLast c k) _ _
-    (λ l. range-resting z (c .count) (write (c .set) (c .stamp) (c .values)) (r .count)
-    (record { set = r .set; stamp = r .stamp; values = r .values }))
-    (λ l. range-struck z c k (c .values) r (rw m) l (r .values))
+    let w = r .write in
+    by-cond (ClientInRange z) (isLast ofWrite c k) _ _
+    (λ l. range-resting z (c .count) (ended c) (r .count) (range-ended z c (r .read) w))
+    (λ l. record {
+      count = r .count;
+      read = r .read;
+      write = record {
+        set = w .set;
+        awaited = range-left (c .write .awaited) k (z .items) (w .awaited);
+        within = within-left (c .write .awaited) (c .write .set) k (w .within);
+        stamp = w .stamp;
+        values = w .values;
+      };
+      idle = rw (awaits-some (c .write .awaited) (c .write .set) k (w .within) m)
+          (and-false (eqb (c .read .set) 0)) ∙ sym l;
+      stamped = r .stamped;
+      last = r .last;
+    })
 
-pub range-got : (z : Sizes) (c : Client) (k value : ℕ) → ClientInRange z c → c .mode ≡ reading
-    → value < 2 ^ 32
+pub range-got : (z : Sizes) (c : Client) (k value : ℕ) → ClientInRange z c
+    → has (c .read .awaited) k ≡ true → value < 2 ^ 32
     → ClientInRange z (got c k value)
-unfolding isIdle
 range-got z c k value r m h =
-    let values = put (c .values) k value in
-    let fit : (j : ℕ) → has (c .set) j ≡ true → values j < 2 ^ 32 =
-    λ j e. put-all (λ v. v < 2 ^ 32) (c .values) k value j h (r .values j e) in
-    by-cond (ClientInRange z) (isLast c k) _ _
-    (λ l. range-resting z (c .count) (read (c .set) (c .asked) values) (r .count)
-    (record { set = r .set; stamps = r .asked; values = fit }))
-    (λ l. range-struck z c k values r (rw m) l fit)
+    let p = r .read in
+    let values = put (c .read .values) k value in
+    let fit : (j : ℕ) → has (c .read .set) j ≡ true → values j < 2 ^ 32 =
+    λ j e. put-all (λ v. v < 2 ^ 32) (c .read .values) k value j h (p .values j e) in
+    let part : ReadPartInRange z (answered c k value .read) = record {
+      set = p .set;
+      awaited = range-left (c .read .awaited) k (z .items) (p .awaited);
+      within = within-left (c .read .awaited) (c .read .set) k (p .within);
+      asked = p .asked;
+      values = fit;
+    } in
+    by-cond (ClientInRange z) (isLast ofRead c k) _ _
+    (λ l. range-resting z (c .count) (ended (answered c k value)) (r .count)
+    (range-ended z (answered c k value) part (r .write)))
+    (λ l. record {
+      count = r .count;
+      read = part;
+      write = r .write;
+      idle = rw (awaits-some (c .read .awaited) (c .read .set) k (p .within) m) refl ∙ sym l;
+      stamped = r .stamped;
+      last = r .last;
+    })

@@ -1,37 +1,15 @@
 -- What the tests of a client, its mode and its last ended transaction tell, as records of plain
 -- facts, both ways.
 use mathlib.Core.Bool.{true}
-use mathlib.Core.Logic.{_↔_}
-use mathlib.Core.Path.{_≡_, refl, ap}
+use mathlib.Core.Logic.{_↔_, _≢_}
+use mathlib.Core.Path.{_≡_, refl}
 use Prim.Native.Nat.{ℕ, _^_, _<_}
-use lib.Dec.{eqb}
-use Rattle.basics.proofs.Cases.{not-both}
 use Rattle.itemset.specs.Set.{has}
 use Rattle.itemset.proofs.Laws.{has-below}
-use Rattle.protocol.specs.Tables.{Sizes, Client, Mode, idle, reading, writing, Ended, nothing}
-use Rattle.protocol.specs.Tables.{read, write}
-use Rattle.protocol.specs.Range.{clientInRange, endedInRange, isIdle, isReading, isWriting}
+use Rattle.protocol.specs.Tables.{Sizes, Client, ReadPart, WritePart, Ended, nothing, read}
+use Rattle.protocol.specs.Tables.{write}
+use Rattle.protocol.specs.Range.{clientInRange, endedInRange, isIdle, awaitsNone}
 use Rattle.protocol.proofs.Ranges.Values.{StampInRange, parts}
-
--- ---- Modes
-
-pub tells-idle : (m : Mode) → (isIdle m ≡ true) ↔ (m ≡ idle)
-unfolding isIdle
-tells-idle idle = (λ e. refl, ap isIdle)
-tells-idle reading = (λ e. not-both e refl, ap isIdle)
-tells-idle writing = (λ e. not-both e refl, ap isIdle)
-
-pub tells-reading : (m : Mode) → (isReading m ≡ true) ↔ (m ≡ reading)
-unfolding isReading
-tells-reading idle = (λ e. not-both e refl, ap isReading)
-tells-reading reading = (λ e. refl, ap isReading)
-tells-reading writing = (λ e. not-both e refl, ap isReading)
-
-pub tells-writing : (m : Mode) → (isWriting m ≡ true) ↔ (m ≡ writing)
-unfolding isWriting
-tells-writing idle = (λ e. not-both e refl, ap isWriting)
-tells-writing reading = (λ e. not-both e refl, ap isWriting)
-tells-writing writing = (λ e. refl, ap isWriting)
 
 -- ---- The last ended transaction, clients
 
@@ -73,15 +51,26 @@ tells-ended z (write s stamp values) = (
   λ r. simp parts (search (r .values)),
 )
 
+pub record ReadPartInRange (z : Sizes) (p : ReadPart) : Type 0 where
+  pub set : p .set < 2 ^ z .items
+  pub awaited : p .awaited < 2 ^ z .items
+  pub within : (k : ℕ) → has (p .awaited) k ≡ true → has (p .set) k ≡ true
+  pub asked : (k : ℕ) → has (p .set) k ≡ true → StampInRange z (p .asked k)
+  pub values : (k : ℕ) → has (p .set) k ≡ true → p .values k < 2 ^ 32
+
+pub record WritePartInRange (z : Sizes) (p : WritePart) : Type 0 where
+  pub set : p .set < 2 ^ z .items
+  pub awaited : p .awaited < 2 ^ z .items
+  pub within : (k : ℕ) → has (p .awaited) k ≡ true → has (p .set) k ≡ true
+  pub stamp : StampInRange z (p .stamp)
+  pub values : (k : ℕ) → has (p .set) k ≡ true → p .values k < 2 ^ 32
+
 pub record ClientInRange (z : Sizes) (c : Client) : Type 0 where
   pub count : c .count < 2 ^ 32
-  pub set : c .set < 2 ^ z .items
-  pub awaited : c .awaited < 2 ^ z .items
-  pub within : (k : ℕ) → has (c .awaited) k ≡ true → has (c .set) k ≡ true
-  pub idle : isIdle (c .mode) ≡ eqb (c .awaited) 0
-  pub stamp : StampInRange z (c .stamp)
-  pub asked : (k : ℕ) → has (c .set) k ≡ true → StampInRange z (c .asked k)
-  pub values : (k : ℕ) → has (c .set) k ≡ true → c .values k < 2 ^ 32
+  pub read : ReadPartInRange z (c .read)
+  pub write : WritePartInRange z (c .write)
+  pub idle : isIdle c ≡ awaitsNone c
+  pub stamped : (c .read .set ≢ 0) × (c .write .set ≢ 0) → c .write .stamp ≢ 0
   pub last : EndedInRange z (c .last)
 
 pub tells-client : (z : Sizes) (c : Client) → (clientInRange z c ≡ true) ↔ ClientInRange z c
@@ -89,13 +78,36 @@ unfolding clientInRange
 tells-client z c = (
   λ h.
       let f = simp (parts, tells-ended) at h in
-      let set : c .set < 2 ^ z .items = search in
-      let awaited : c .awaited < 2 ^ z .items = search in
-      let within = each-has (c .awaited) (z .items) awaited (f .0 .0 .0 .0 .1) in
-      let items = each-has (c .set) (z .items) set (f .0 .1) in
-      let asked : (k : ℕ) → has (c .set) k ≡ true → StampInRange z (c .asked k) =
-      λ k e. items k e .0 in
-      let values : (k : ℕ) → has (c .set) k ≡ true → c .values k < 2 ^ 32 = λ k e. items k e .1 in
-      search,
-  λ r. simp (parts, tells-ended) (search (r .within, r .asked, r .values)),
+      let set : c .read .set < 2 ^ z .items = search in
+      let awaited : c .read .awaited < 2 ^ z .items = search in
+      let within = each-has (c .read .awaited) (z .items) awaited
+      (f .0 .0 .0 .0 .0 .0 .0 .0 .0 .1) in
+      let items = each-has (c .read .set) (z .items) set (f .0 .0 .0 .0 .0 .0 .0 .0 .1) in
+      let wset : c .write .set < 2 ^ z .items = search in
+      let wawaited : c .write .awaited < 2 ^ z .items = search in
+      let wwithin = each-has (c .write .awaited) (z .items) wawaited (f .0 .0 .0 .0 .0 .1) in
+      let witems = each-has (c .write .set) (z .items) wset (f .0 .0 .0 .1) in
+      record {
+        count = search;
+        read = record {
+          set = set;
+          awaited = awaited;
+          within = within;
+          asked =
+              λ k e. items k e .0;
+          values = λ k e. items k e .1;
+        };
+        write = record {
+          set = wset;
+          awaited = wawaited;
+          within = wwithin;
+          stamp =
+              f .0 .0 .0 .0 .1;
+          values = witems;
+        };
+        idle = f .0 .0 .1;
+        stamped = f .0 .1;
+        last = f .1;
+      },
+  λ r. simp (parts, tells-ended) (((((((((((((r .count, r .read .set), r .read .awaited), λ k l. r .read .within k), λ k l e. (r .read .asked k e, r .read .values k e)), r .write .set), r .write .awaited), λ k l. r .write .within k), r .write .stamp), λ k l. r .write .values k), r .idle), r .stamped), r .last)),
 )

@@ -1,43 +1,31 @@
 -- While a read is under way each item it awaits has exactly one message in flight, its get or its
 -- got.
 use mathlib.Core.Bool.{true, and-false}
-use mathlib.Core.Path.{_≡_, refl, sym, ap, _∙_, subst}
+use mathlib.Core.Path.{_≡_, refl, sym, ap, _∙_}
 use Prim.Native.Nat.{ℕ}
 use lib.Dec.{eqb}
-use borrow.Author.Tests.{eqb-true}
 use Rattle.basics.proofs.Cases.{by-test}
 use Rattle.basics.specs.Lists.{In, counted}
 use Rattle.basics.proofs.Lists.{counted-map, counted-ext}
 use Rattle.itemset.specs.Set.{has}
 use Rattle.protocol.specs.declared.Message.{Message}
 use Rattle.protocol.specs.declared.Message.the-variants.{Prepare, Prepared, Commit, Get, Got}
-use Rattle.protocol.specs.Tables.{reading, writerOf}
+use Rattle.protocol.specs.Tables.{ofRead}
 use Rattle.protocol.specs.Range.{Capacities}
 use Rattle.protocol.specs.World.{World, Label, Labelled, ownerOf, itemOf, isGet, isGot}
 use Rattle.protocol.specs.World.{isReadMessage}
-use Rattle.protocol.proofs.Invariant.{Fits, Inv, isFor, hasItem}
-use Rattle.protocol.proofs.Runs.Touch.{reading-not-writing}
+use Rattle.protocol.proofs.Ranges.Values.{IsClient}
+use Rattle.protocol.proofs.Link.{Inv}
+use Rattle.protocol.proofs.Common.{isFor, ofSide}
 
 module _ (caps : Capacities) (v : World) (inv : Inv caps v) (d : ℕ)
-    (reads : v .tables .client d .mode ≡ reading) where
-  -- of a reading client a message is for an item exactly where it is a get or a got of it
+    (is-client : IsClient (v .tables .sizes) d) where
+  -- a message is for an item of the read part exactly where it is a get or a got of it
   for-read : (k : ℕ) (l : Label) (m : Message) → In (record { label = l; message = m }) (v .pile)
-      → isFor d k m ≡ isReadMessage d k (record { label = l; message = m })
-  unfolding Fits hasItem ownerOf itemOf isGet isGot
-  for-read k l (Prepare u) here =
-      rw (and-false (eqb (l .client) d))
-      (by-test (eqb (writerOf (u .stamp)) d)
-      (λ e. reading-not-writing (subst (λ (x : ℕ). v .tables .client x .mode ≡ reading)
-      (sym (eqb-true (writerOf (u .stamp)) d e)) reads)
-      (inv .fits (record { label = l; message = Prepare u }) here .mode))
-      (λ e. rw e refl))
-  for-read k l (Prepared j s) here =
-      rw (and-false (eqb (l .client) d))
-      (by-test (eqb (writerOf s) d)
-      (λ e. reading-not-writing (subst (λ (x : ℕ). v .tables .client x .mode ≡ reading)
-      (sym (eqb-true (writerOf s) d e)) reads)
-      (inv .fits (record { label = l; message = Prepared j s }) here .mode))
-      (λ e. rw e refl))
+      → isFor ofRead d k m ≡ isReadMessage d k (record { label = l; message = m })
+  unfolding ofSide ownerOf itemOf isGet isGot
+  for-read k l (Prepare u) here = rw (and-false (eqb (l .client) d)) refl
+  for-read k l (Prepared j s) here = rw (and-false (eqb (l .client) d)) refl
   for-read k l (Commit p s) here = rw (and-false (eqb (l .client) d)) refl
   for-read k l (Get e j s) here =
       rw (inv .owners (record { label = l; message = Get e j s }) here)
@@ -46,10 +34,11 @@ module _ (caps : Capacities) (v : World) (inv : Inv caps v) (d : ℕ)
       rw (inv .owners (record { label = l; message = Got e u latest }) here)
       (by-test (eqb e d) (λ t. rw t refl) (λ t. rw t refl))
 
-  pub one-message : (k : ℕ) → has (v .tables .client d .awaited) k ≡ true
+  pub one-message : (k : ℕ) → has (v .tables .client d .read .awaited) k ≡ true
       → counted (isReadMessage d k) (v .pile) ≡ 1
   one-message k e =
-      sym (counted-ext (λ l. isFor d k (l .message)) (isReadMessage d k) (v .pile)
+      sym (counted-ext (λ l. isFor ofRead d k (l .message)) (isReadMessage d k) (v .pile)
       (λ l i. for-read k (l .label) (l .message) i))
-      ∙ sym (counted-map (λ (l : Labelled). l .message) (isFor d k) (v .pile))
-      ∙ ap (counted (isFor d k)) (inv .pile) ∙ inv .one d k ∙ rw e refl
+      ∙ sym (counted-map (λ (l : Labelled). l .message) (isFor ofRead d k) (v .pile))
+      ∙ ap (counted (isFor ofRead d k)) (inv .pile) ∙ inv .sound .one ofRead d k is-client
+      ∙ rw e refl

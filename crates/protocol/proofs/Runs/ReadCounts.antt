@@ -18,7 +18,7 @@ use Rattle.protocol.specs.World.{World, Labelled, joining, leaving, acce
 use Rattle.protocol.specs.World.{after, joiningOver, leavingOver, isReply, isReplyFor}
 use Rattle.protocol.specs.World.{isRequest, outcomeIn, endsFor, stays}
 use Rattle.protocol.specs.Condition3.{UnderWay, sent, came}
-use Rattle.protocol.proofs.Invariant.{Inv}
+use Rattle.protocol.proofs.Link.{Inv}
 use Rattle.protocol.proofs.Runs.Run.{after-append, leaving-append, joining-append}
 use Rattle.protocol.proofs.Runs.Run.{next-accepted, after-inv}
 use Rattle.protocol.proofs.Runs.ReadSpan.{Reading}
@@ -54,7 +54,7 @@ module _ (caps : Capacities) (w : World) (inv : Inv caps w) (d s : ℕ) (before 
 
   -- the stamps it asks for
   abbrev pub asked : ℕ → ℕ
-  asked = reader (w₁ .tables) d s .asked
+  asked = reader (w₁ .tables) d s .read .asked
 
   abbrev pub left : List Labelled
   left = leavingOver caps w₁ (start ∷ during)
@@ -110,8 +110,8 @@ module _ (caps : Capacities) (w : World) (inv : Inv caps w) (d s : ℕ) (before 
   -- it awaits some item, so its replies are fewer than its items
   fewer : (x : World) (l : List Labelled) → Reading d s asked x l → counted (isReply d) l < count s
   fewer x l r =
-      let some : count (x .tables .client d .awaited) ≡ 0 → ⊥ =
-      λ z. eqb-false (x .tables .client d .awaited) 0 (r .busy) (count-zero (x .tables .client d .awaited) z) in
+      let some : count (x .tables .client d .read .awaited) ≡ 0 → ⊥ =
+      λ z. eqb-false (x .tables .client d .read .awaited) 0 (r .busy) (count-zero (x .tables .client d .read .awaited) z) in
       omega (arith, some, r .replied)
 
   -- ---- with one call more

@@ -14,23 +14,23 @@ use Rattle.basics.proofs.Cases.{not-both, or-cases}
 use Rattle.basics.specs.Lists.{In}
 use Rattle.basics.proofs.Lists.{in-left}
 use Rattle.itemset.specs.Set.{has, count}
-use Rattle.itemset.proofs.Laws.{has-empty}
-use Rattle.protocol.specs.Tables.{Client, read, idle, resting, numberOf, writerOf}
+use Rattle.itemset.proofs.Laws.{has-empty, has-below}
+use Rattle.protocol.specs.Tables.{Client, read, resting, numberOf, writerOf}
 use Rattle.protocol.specs.Range.{Capacities}
-use Rattle.protocol.specs.Steps.{reader, nextStamp}
-use Rattle.protocol.specs.Calls.{Call, startRead, startWrite, show, effect, step, reply}
-use Rattle.protocol.specs.Calls.{written}
-use Rattle.protocol.specs.World.{World, Labelled, Write, Store, leaving, begun, storing}
-use Rattle.protocol.specs.World.{moved, next, after, isReplyFor, stays, rests}
+use Rattle.protocol.specs.Steps.{choice, nextStamp}
+use Rattle.protocol.specs.Calls.{Call, startRead, startWrite, show, step, reply, written}
+use Rattle.protocol.specs.World.{World, Labelled, Write, Store, leaving, begun, moved, next}
+use Rattle.protocol.specs.World.{after, isReplyFor, stays, rests}
 use Rattle.protocol.specs.Condition3.{UnderWay, EndedBy, StoredBefore, answeredAt, came}
 use Rattle.protocol.specs.Condition3.{shownNumber, shownWriter, shownValue, Initial}
 use Rattle.protocol.specs.Condition3.{ShownWith, ShownOlder, Shows}
 use Rattle.protocol.proofs.Stored.{choice-own}
 use Rattle.protocol.proofs.Ranges.Values.{IsClient}
-use Rattle.protocol.proofs.Refusals.{AcceptedStart, accepted-read}
-use Rattle.protocol.proofs.Valid.{valid-step}
-use Rattle.protocol.proofs.Invariant.{historyOf, known, origin, Inv}
-use Rattle.protocol.proofs.Invariant.StartRead.{Asks, asks-sound as read-asks}
+use Rattle.protocol.proofs.Refusals.{AcceptedStart, accepted-read, idle-resting}
+use Rattle.protocol.proofs.Refusals.{accepted-write}
+use Rattle.protocol.proofs.Link.{Inv}
+use Rattle.protocol.proofs.Link.Step.{WriteOf}
+use Rattle.protocol.proofs.Link.Asks.{asked as write-asked, not-older}
 use Rattle.protocol.proofs.Runs.Run.{after-append, after-inv, after-sizes, after-view}
 use Rattle.protocol.proofs.Runs.Run.{after-known, after-stores}
 use Rattle.protocol.proofs.Runs.ReadSpan.{Answer}
@@ -41,6 +41,7 @@ use Rattle.protocol.proofs.Runs.WriteSpan.{write-ends}
 use Rattle.protocol.proofs.Runs.Shows.{answer-is, head-is, number-is, writer-is, value-is}
 use Rattle.protocol.proofs.Runs.ReadCounts.{after-start, after-span, asked, left, finished}
 use Rattle.protocol.proofs.Runs.ReadCounts.{left-all}
+use Rattle.protocol.proofs.Common.{known, origin}
 
 -- ---- stamps by their parts
 
@@ -99,7 +100,8 @@ module _ (caps : Capacities) (w : World) (inv : Inv caps w) (d s : ℕ) (before 
   kept : x .tables .client d ≡ resting (v .tables .client d .count) (read s stamps (done .values))
   kept =
       ap (λ (y : World). y .tables .client d) shown-is
-      ∙ at-rest caps (moved v end) inv-ended d (ap (λ (c : Client). c .mode) (done .client)) until
+      ∙ at-rest caps (moved v end) inv-ended d
+      (idle-resting (moved v end .tables .client d) _ _ (done .client)) until
       (subst (λ (y : World). rests caps y d until ≡ true) ended-is quietly)
       ∙ done .client
 
@@ -171,26 +173,37 @@ module _ (caps : Capacities) (w : World) (inv : Inv caps w) (d s : ℕ) (before 
   inv-before : Inv caps w₁
   inv-before = after-inv caps w inv before
 
-  asks-sound : (k : ℕ) → has s k ≡ true
-      → Asks (historyOf (moved w₁ (startRead d s))) (reader (w₁ .tables) d s) k
-  unfolding effect begun storing
-  asks-sound k m =
-      read-asks caps w₁ inv-before d s (start .idle) (start .set)
-      (valid-step caps (w₁ .tables) (startRead d s) (u .accepted)) k m
+  item-below : (k : ℕ) → has s k ≡ true → k < w₁ .tables .sizes .items
+  item-below k m = has-below s k (w₁ .tables .sizes .items) (start .set) m
+
+  asks : (k : ℕ) → has s k ≡ true → WriteOf caps w₁ inv-before k
+      (choice (w₁ .tables .view d) k (w₁ .tables .sizes .items))
+  asks k m = write-asked caps w₁ inv-before d (start .client) k (item-below k m)
+
+  stamps-are : (k : ℕ) → has s k ≡ true
+      → stamps k ≡ choice (w₁ .tables .view d) k (w₁ .tables .sizes .items)
+  stamps-are k m = rw m refl
+
+  known-asked : (k : ℕ) (m : has s k ≡ true) → In (asks k m .write) (known (final .writes))
+  unfolding begun
+  known-asked k m = known-started (asks k m .write)
+      (in-left (asks k m .write) (known (w₁ .writes)) [] (asks k m .isKnown))
 
   unfractured : (a : Write) → In a (final .writes) → (j k : ℕ) → has s j ≡ true → has s k ≡ true
       → ShownWith s output j (a .stamp) → has (a .set) j ≡ true → has (a .set) k ≡ true
       → ShownOlder s output k (a .stamp) → ⊥
+  unfolding asks
   unfractured a i j k mj mk with-a hj hk older =
       let same : stamps j ≡ a .stamp = shown-with j mj (a .stamp) with-a in
       let less : stamps k < a .stamp = shown-older k mk (a .stamp) older in
-      let asks-j = asks-sound j mj in
-      let b : Write = asks-j .sound .write in
-      let is : b ≡ a = inv-final .unique b a (known-started b (asks-j .sound .isKnown)) (inr i)
-      (asks-j .sound .same ∙ same) in
-      let not-older : stamps j ≤ stamps k =
-      asks-j .unfractured k mk (subst (λ (z : Write). has (z .set) k ≡ true) (sym is) hk) in
-      omega arith
+      let b : Write = asks j mj .write in
+      let is : b ≡ a = inv-final .unique b a (known-asked j mj) (inr i)
+      (asks j mj .same ∙ sym (stamps-are j mj) ∙ same) in
+      let late : choice (w₁ .tables .view d) j (w₁ .tables .sizes .items) ≤ choice
+      (w₁ .tables .view d) k (w₁ .tables .sizes .items) =
+      not-older caps w₁ inv-before d (start .client) j (item-below j mj) k
+      (subst (λ (z : Write). has (z .set) k ≡ true) (sym is) hk) in
+      omega (arith, stamps-are j mj, stamps-are k mk)
 
   -- ---- every entry is initial, or what a write put there, stored before the partition answered
   answer : (k : ℕ) → has s k ≡ true
@@ -210,12 +223,11 @@ module _ (caps : Capacities) (w : World) (inv : Inv caps w) (d s : ℕ) (before 
       (done .values) room isClient below kept enough k m
 
   -- the write that answered item k, as the whole list knows it, is the one chosen at the start
-  chosen : (k : ℕ) (m : has s k ≡ true) → asks-sound k m .sound .write ≡ answer k m .write
+  chosen : (k : ℕ) (m : has s k ≡ true) → asks k m .write ≡ answer k m .write
   chosen k m =
-      inv-final .unique (asks-sound k m .sound .write) (answer k m .write)
-      (known-started (asks-sound k m .sound .write) (asks-sound k m .sound .isKnown))
+      inv-final .unique (asks k m .write) (answer k m .write) (known-asked k m)
       (known-ended (answer k m .write) (answer k m .isKnown))
-      (asks-sound k m .sound .same ∙ sym (answer k m .same))
+      (asks k m .same ∙ sym (stamps-are k m) ∙ sym (answer k m .same))
 
   is-initial : (k : ℕ) (m : has s k ≡ true) → stamps k ≡ 0 → Initial s output k
   is-initial k m z =
@@ -258,10 +270,11 @@ module _ (caps : Capacities) (w : World) (inv : Inv caps w) (d s : ℕ) (before 
   written-or-initial : (k : ℕ) → has s k ≡ true → Initial s output k ⊎ Written k
   written-or-initial k m =
       ⊎-elim
-      (λ z. inl (is-initial k m (eqb-true (stamps k) 0 z)))
+      (λ z. inl (is-initial k m (stamps-are k m ∙ eqb-true
+      (choice (w₁ .tables .view d) k (w₁ .tables .sizes .items)) 0 z)))
       (λ h. inr (is-written k m (subst (λ (a : Write). has (a .set) k ≡ true) (chosen k m) h)))
-      (or-cases (eqb (stamps k) 0) (has (asks-sound k m .sound .write .set) k)
-      (asks-sound k m .sound .mine))
+      (or-cases (eqb (choice (w₁ .tables .view d) k (w₁ .tables .sizes .items)) 0)
+      (has (asks k m .write .set) k) (asks k m .mine))
 
   -- ---- no entry is older than an own write that had ended before
 
@@ -294,8 +307,10 @@ module _ (caps : Capacities) (w : World) (inv : Inv caps w) (d s : ℕ) (before 
       (write-during caps (moved w₀ c)
       (subst (λ (q : World). Inv caps q) begins (after-inv caps w inv (earlier ++ c ∷ []))) d z
       stamp
-      (write-started caps w₀ d z bytes) meanwhile
-      (subst (λ (q : World). stays caps q d meanwhile ≡ true) begins (o .underWay .unended))) in
+      (write-started caps w₀ d z bytes
+      (accepted-write caps (w₀ .tables) d z bytes .0 (o .underWay .accepted) .start .some))
+      meanwhile (subst (λ (q : World). stays caps q d meanwhile ≡ true) begins
+      (o .underWay .unended))) in
       let seen : Seen d z stamp (next caps y finish) =
       write-ends caps y (after-inv caps w inv (earlier ++ c ∷ meanwhile)) d z stamp writing
       finish (o .ended) in
@@ -312,8 +327,8 @@ module _ (caps : Capacities) (w : World) (inv : Inv caps w) (d s : ℕ) (before 
   silent =
       rest-stays caps (after caps w (before ++ startRead d s ∷ during ++ end ∷ []))
       (after-inv caps w inv (before ++ startRead d s ∷ during ++ end ∷ [])) d
-      (ap (λ (y : World). y .tables .client d .mode) ended-is
-      ∙ ap (λ (c : Client). c .mode) (done .client)) until quietly
+      (idle-resting _ _ _ (ap (λ (y : World). y .tables .client d) ended-is ∙ done .client)) until
+      quietly
 
   pub shows : Shows caps w calls d s before during end until room
   shows =

@@ -1,31 +1,31 @@
 -- A call while a read is under way: the read goes on, or the delivery of its last reply ends it.
-use mathlib.Core.Bool.{true, false, cond, and-false}
+use mathlib.Core.Bool.{true, false, cond, and-false, Bool}
 use mathlib.Core.List.{List, [], _++_}
 use mathlib.Core.Logic.{_⊎_, inl, inr, ⊎-elim}
 use mathlib.Core.Path.{_≡_, refl, sym, ap, _∙_, subst}
 use Prim.Native.Nat.{ℕ}
+use lib.Dec.{eqb}
 use borrow.Author.Tests.{eqb-true, eq-eqb}
 use Rattle.basics.proofs.Cases.{by-test, not-both}
 use Rattle.basics.specs.Lists.{In, counted}
-use Rattle.itemset.specs.Set.{has, count}
+use Rattle.itemset.specs.Set.{has, count, remove}
 use Rattle.protocol.specs.declared.Version.{Version}
 use Rattle.protocol.specs.declared.Entry.{Entry}
 use Rattle.protocol.specs.declared.Message.{Message}
 use Rattle.protocol.specs.declared.Message.the-variants.{Got}
-use Rattle.protocol.specs.Tables.{Tables, Mode, reading, idle, read, resting, put}
-use Rattle.protocol.specs.Range.{Capacities, isReading}
-use Rattle.protocol.specs.Steps.{delivered, got, isLast, messageAt}
+use Rattle.protocol.specs.Tables.{Tables, Client, WritePart, ofRead, read, resting, put}
+use Rattle.protocol.specs.Range.{Capacities}
+use Rattle.protocol.specs.Steps.{delivered, got, answered, isLast, messageAt}
 use Rattle.protocol.specs.Calls.{Call, startRead, startWrite, deliver, show, refusal, effect}
 use Rattle.protocol.specs.Calls.{step, outcomeOf}
 use Rattle.protocol.specs.World.{World, Labelled, placed, joining, leaving, accepts, moved}
 use Rattle.protocol.specs.World.{passed, next, isReply, isReplyFor, isRequest, ownerOf}
 use Rattle.protocol.specs.World.{outcomeIn, delivers, endsFor, startsFor}
 use Rattle.protocol.proofs.Put.{put-same}
-use Rattle.protocol.proofs.Refusals.{accepted-read, accepted-write, accepted-deliver}
-use Rattle.protocol.proofs.Invariant.{historyOf, Inv}
-use Rattle.protocol.proofs.Invariant.Delivery.{placed-message}
-use Rattle.protocol.proofs.Invariant.Step.{taken}
-use Rattle.protocol.proofs.Runs.Run.{moved-grows, grows-self}
+use Rattle.protocol.proofs.Refusals.{accepted-read, accepted-write}
+use Rattle.protocol.proofs.Link.{Inv}
+use Rattle.protocol.proofs.Link.Step.{placed-message, placed-in, fits, moved-grows}
+use Rattle.protocol.proofs.Link.Step.{grows-self}
 use Rattle.protocol.proofs.Runs.Touch.{refused-outcome, delivered-outcome, no-requests, Way}
 use Rattle.protocol.proofs.Runs.Touch.{quiet, starts, answers, way, answers-owner, got-of}
 use Rattle.protocol.proofs.Runs.ReadSpan.{Answer, Reading, undisturbed, goes-on}
@@ -41,13 +41,16 @@ module _ (t : Tables) (i d : ℕ) (u : Version) (latest : Entry)
       ap (λ (m : Message). delivered t m .client d) is-got
       ∙ put-same (t .client) d (got (t .client d) (u .item) (u .value))
 
-  got-outcome : outcomeOf t (messageAt t i) ≡ cond (isLast (t .client d) (u .item)) 1 0
+  got-outcome : outcomeOf t (messageAt t i) ≡ cond (isLast ofRead (t .client d) (u .item))
+      (cond (eqb (t .client d .write .set) 0) 1 2) 0
   unfolding outcomeOf
   got-outcome = ap (outcomeOf t) is-got
 
-reading-not-idle {ℓ} : {P : Type ℓ} {m : Mode} → m ≡ reading → m ≡ idle → P
-unfolding isReading
-reading-not-idle r w = not-both (ap isReading r) (ap isReading w)
+-- with no write part, the reply for the last item of the read part is the last
+last-read : (c : Client) (k : ℕ) → c .write .awaited ≡ 0 → (b : Bool)
+    → eqb (remove (c .read .awaited) k) 0 ≡ b → isLast ofRead c k ≡ b
+last-read c k e true h = rw (e, h) refl
+last-read c k e false h = rw (e, h) refl
 
 -- the read has ended: what its client keeps, and that every item has its answer
 pub record Finished (caps : Capacities) (d s : ℕ) (asked : ℕ → ℕ) (v : World) (c : Call)
@@ -69,11 +72,11 @@ module _ (caps : Capacities) (v : World) (inv : Inv caps v) (d s : ℕ) (asked :
   not-started : (c : Call) → refusal caps (v .tables) c ≡ 0 → startsFor d c ≡ true → ⊥
   unfolding startsFor
   not-started (startRead e n) a t =
-      reading-not-idle (r .mode) (subst (λ (x : ℕ). v .tables .client x .mode ≡ idle)
-      (eqb-true e d t) (accepted-read caps (v .tables) e n .0 a .idle))
+      r .mode (subst (λ (x : ℕ). v .tables .client x .read .set ≡ 0) (eqb-true e d t)
+      (accepted-read caps (v .tables) e n .0 a .idle .read))
   not-started (startWrite e n bytes) a t =
-      reading-not-idle (r .mode) (subst (λ (x : ℕ). v .tables .client x .mode ≡ idle)
-      (eqb-true e d t) (accepted-write caps (v .tables) e n bytes .0 a .start .idle))
+      r .mode (subst (λ (x : ℕ). v .tables .client x .read .set ≡ 0) (eqb-true e d t)
+      (accepted-write caps (v .tables) e n bytes .0 a .start .idle .read))
   not-started (deliver i) a t = not-both t refl
   not-started (show e output) a t = not-both t refl
 
@@ -85,9 +88,8 @@ module _ (caps : Capacities) (v : World) (inv : Inv caps v) (d s : ℕ) (asked :
 
   accepted-here : (c : Call) → refusal caps (v .tables) c ≡ 0 → (i : ℕ) → c ≡ deliver i
       → In (placed v i) (v .pile)
-  accepted-here c a i e = taken caps v inv i
-      (accepted-deliver caps (v .tables)
-      i .0 (subst (λ (x : Call). refusal caps (v .tables) x ≡ 0) e a)) .isIn
+  accepted-here c a i e = placed-in caps v inv i
+      (subst (λ (x : Call). refusal caps (v .tables) x ≡ 0) e a)
 
   -- the delivery of a message of the client delivers for it, sends no request, and ends by its
   -- outcome alone
@@ -116,29 +118,33 @@ module _ (caps : Capacities) (v : World) (inv : Inv caps v) (d s : ℕ) (asked :
       let record-after : moved v (deliver i) .tables .client d ≡ got c (u .item) (u .value) =
       got-client (v .tables) i d u latest same in
       let outcome : outcomeIn (step caps (v .tables) (deliver i) .answer) ≡ cond
-      (isLast c (u .item)) 1 0 =
+      (isLast ofRead c (u .item)) (cond (eqb (c .write .set) 0) 1 2) 0 =
       delivered-outcome caps v i a ∙ got-outcome (v .tables) i d u latest same in
+      let no-set : c .write .set ≡ 0 = ap (λ (p : WritePart). p .set) (r .alone) in
+      let no-more : c .write .awaited ≡ 0 = ap (λ (p : WritePart). p .awaited) (r .alone) in
       let delivers-it : delivers v d (deliver i) ≡ true = delivers-reply i here is-got in
-      by-test (isLast c (u .item))
+      by-test (eqb (remove (c .read .awaited) (u .item)) 0)
       (λ last. inr (
-        ends-by i (outcome ∙ rw last refl) delivers-it,
+        ends-by i (outcome ∙ rw (last-read c (u .item) no-more true last, no-set) refl) delivers-it,
         record {
           accepted = a;
-          outcome = outcome ∙ rw last refl;
+          outcome = outcome ∙ rw (last-read c (u .item) no-more true last, no-set) refl;
           replied = all-replied caps v inv d s asked left r i here u latest is-got last;
           onceEach = once-each caps v inv d s asked left r i here u latest is-got last;
           requests = no-requests caps v inv d i;
-          values = put (c .values) (u .item) (u .value);
-          client = record-after ∙ rw (last, r .set, r .asks) refl;
+          values = put (c .read .values) (u .item) (u .value);
+          client = record-after ∙ rw
+              (last-read c (u .item) no-more true last, no-set, r .set, r .asks) refl;
           answered = all-answered caps v inv d s asked left r i here u latest is-got
               (moved v (deliver i)) (moved-grows v (deliver i)) last;
         },
       ))
       (λ f. inl (
         goes-on caps v inv d s asked left r i here u latest is-got (moved v (deliver i))
-            (moved-grows v (deliver i)) (record-after ∙ rw f refl) f,
+            (moved-grows v (deliver i))
+            (record-after ∙ rw (last-read c (u .item) no-more false f) refl) f,
         no-requests caps v inv d i,
-        silent i (outcome ∙ rw f refl),
+        silent i (outcome ∙ rw (last-read c (u .item) no-more false f) refl),
       ))
 
   by-way : (c : Call) → refusal caps (v .tables) c ≡ 0 → Way caps v inv d c → Ways c
@@ -151,10 +157,12 @@ module _ (caps : Capacities) (v : World) (inv : Inv caps v) (d s : ℕ) (asked :
       )
   by-way c a (starts c′ t) = absurd (not-started c′ a t)
   by-way c a (answers i here t) =
-      let g = got-of (historyOf v) (v .tables .client (ownerOf (placed v i .message)))
-      (placed v i .label) (placed v i .message) d t (inv .fits (placed v i) here)
-      (subst (λ (x : ℕ). v .tables .client x .mode ≡ reading)
-      (sym (answers-owner (placed v i .message) d t)) (r .mode)) in
+      let g = got-of (inv .ledger) (v .tables .versions)
+      (v .tables .client (ownerOf (placed v i .message))) (placed v i .message) d t
+      (fits caps v inv (placed v i) here)
+      (subst (λ (x : ℕ). v .tables .client x .write .set ≡ 0)
+      (sym (answers-owner (placed v i .message) d t))
+      (ap (λ (p : WritePart). p .set) (r .alone))) in
       by-got i a here (g .0) (g .1 .0) (g .1 .1)
 
   ways : (c : Call) → refusal caps (v .tables) c ≡ 0 → Ways c

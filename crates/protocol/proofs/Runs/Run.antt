@@ -1,6 +1,6 @@
 -- Lists of calls: a run of two lists is a run of the second after the first, the invariant holds
 -- throughout, and sizes, views and the history only stay or grow.
-use mathlib.Core.Bool.{true, false, cond}
+use mathlib.Core.Bool.{false, cond}
 use mathlib.Core.List.{List, [], _∷_, _++_, append-assoc}
 use mathlib.Core.Logic.{inl, inr}
 use mathlib.Core.Path.{_≡_, refl, sym, ap, _∙_}
@@ -15,19 +15,18 @@ use Rattle.itemset.specs.Set.{has}
 use Rattle.protocol.specs.declared.Entry.{Entry}
 use Rattle.protocol.specs.declared.Message.{Message}
 use Rattle.protocol.specs.declared.Message.the-variants.{Prepare, Prepared, Commit, Get, Got}
-use Rattle.protocol.specs.Tables.{Tables, laterOf, writerOf, put}
+use Rattle.protocol.specs.Tables.{Tables, laterOf, writerOf, put, ofRead, ofWrite}
 use Rattle.protocol.specs.Range.{Capacities}
-use Rattle.protocol.specs.Steps.{delivered, stored, seen, isLast, messageAt}
+use Rattle.protocol.specs.Steps.{delivered, seen, isLast, messageAt}
 use Rattle.protocol.specs.Calls.{Call, startRead, startWrite, deliver, show, refusal, effect}
 use Rattle.protocol.specs.World.{World, Labelled, Write, Store, begun, storing, accepts}
 use Rattle.protocol.specs.World.{moved, passed, next, after, joiningOver, leavingOver}
 use Rattle.protocol.specs.World.{joining, leaving}
 use Rattle.protocol.proofs.Delivered.{delivered-sizes}
 use Rattle.protocol.proofs.Put.{put-every}
-use Rattle.protocol.proofs.Stored.{stored-more}
-use Rattle.protocol.proofs.Invariant.{Inv, historyOf, known}
-use Rattle.protocol.proofs.Invariant.Growth.{Grows}
-use Rattle.protocol.proofs.Invariant.Step.{next-inv}
+use Rattle.protocol.proofs.Link.{Inv}
+use Rattle.protocol.proofs.Link.Step.{next-inv}
+use Rattle.protocol.proofs.Common.{known}
 
 -- ---- append
 
@@ -132,16 +131,23 @@ delivered-view t (Prepare v) = λ d k. le-refl (t .view d k .stamp)
 delivered-view t (Prepared k s) =
     let d = writerOf s in
     let c = t .client d in
-    view-put t d (cond (isLast c k) (seen (t .view d) (c .set) s) (t .view d))
-    (λ j. by-test (isLast c k) (λ e. rw e (seen-ge (t .view d) (c .set) s j))
+    view-put t d (cond (isLast ofWrite c k) (seen (t .view d) (c .write .set) s) (t .view d))
+    (λ j. by-test (isLast ofWrite c k) (λ e. rw e (seen-ge (t .view d) (c .write .set) s j))
     (λ e. rw e (le-refl (t .view d j .stamp))))
 delivered-view t (Commit p s) = λ d k. le-refl (t .view d k .stamp)
 delivered-view t (Get d₀ k₀ s) = λ d k. le-refl (t .view d k .stamp)
 delivered-view t (Got d v e) =
-    view-put t d (put (t .view d) (v .item) (laterOf (t .view d (v .item)) e))
-    (put-every (λ (k : ℕ) (x : Entry). t .view d k .stamp ≤ x .stamp) (t .view d) (v .item)
-    (laterOf (t .view d (v .item)) e)
-    (later-ge (t .view d (v .item)) e) (λ k n. le-refl (t .view d k .stamp)))
+    let c = t .client d in
+    let k = v .item in
+    let offered : ℕ → Entry = put (t .view d) k (laterOf (t .view d k) e) in
+    let grown : (j : ℕ) → t .view d j .stamp ≤ offered j .stamp =
+    put-every (λ (j : ℕ) (x : Entry). t .view d j .stamp ≤ x .stamp) (t .view d) k
+    (laterOf (t .view d k) e)
+    (later-ge (t .view d k) e) (λ j n. le-refl (t .view d j .stamp)) in
+    view-put t d (cond (isLast ofRead c k) (seen offered (c .write .set) (c .write .stamp)) offered)
+    (λ j. by-test (isLast ofRead c k)
+    (λ f. rw f (le-trans (grown j) (seen-ge offered (c .write .set) (c .write .stamp) j)))
+    (λ f. rw f (grown j)))
 
 effect-view : (t : Tables) (c : Call) → ViewGrows t (effect t c)
 unfolding effect
@@ -181,34 +187,6 @@ pub after-known : (caps : Capacities) (w : World) (cs : List Call) (a : Write)
     → In a (known (w .writes)) → In a (known (after caps w cs .writes))
 after-known caps w cs a (inl e) = inl e
 after-known caps w cs a (inr i) = inr (after-writes caps w cs a i)
-
-delivered-stored : (t : Tables) (m : Message) (j s : ℕ) → stored (t .versions) j s ≡ true
-    → stored (delivered t m .versions) j s ≡ true
-unfolding delivered
-delivered-stored t (Prepare v) j s e = stored-more (t .versions) (v ∷ []) j s e
-delivered-stored t (Prepared k r) j s e = e
-delivered-stored t (Commit p r) j s e = e
-delivered-stored t (Get d k r) j s e = e
-delivered-stored t (Got d v latest) j s e = e
-
-effect-stored : (t : Tables) (c : Call) (j s : ℕ) → stored (t .versions) j s ≡ true
-    → stored (effect t c .versions) j s ≡ true
-unfolding effect
-effect-stored t (startRead d r) j s e = e
-effect-stored t (startWrite d r bytes) j s e = e
-effect-stored t (deliver i) j s e = delivered-stored t (messageAt t i) j s e
-effect-stored t (show d output) j s e = e
-
-pub moved-grows : (w : World) (c : Call) → Grows (historyOf w) (historyOf (moved w c))
-moved-grows w c =
-    record {
-      writes = λ a i. in-left a (known (w .writes)) (begun w c) i;
-      versions = effect-stored (w .tables) c;
-      stores = λ σ i. in-left σ (w .stores) (storing w c) i;
-    }
-
-pub grows-self : (w : World) → Grows (historyOf w) (historyOf (passed w))
-grows-self w = record { writes = λ a i. i; versions = λ j s e. e; stores = λ σ i. i }
 
 -- ---- the invariant holds throughout
 

@@ -13,7 +13,7 @@ use Rattle.hex.specs.Number.{numberAt, bigEndian}
 use Rattle.itemset.specs.Set.{has, count, rank}
 use Rattle.itemset.proofs.Laws.{below-le}
 use Rattle.protocol.specs.declared.Answer.the-variants.{Shown}
-use Rattle.protocol.specs.Tables.{Client, read, idle, resting, numberOf, writerOf}
+use Rattle.protocol.specs.Tables.{Client, read, resting, numberOf, writerOf}
 use Rattle.protocol.specs.Range.{Capacities}
 use Rattle.protocol.specs.Frame.{frame}
 use Rattle.protocol.specs.Calls.{show, refusal, step, reply, written, isNothing, shownFrame}
@@ -21,11 +21,11 @@ use Rattle.protocol.specs.World.{World}
 use Rattle.protocol.specs.Condition3.{shownNumber, shownWriter, shownValue}
 use Rattle.protocol.proofs.Ranges.Values.{SizesInRange, IsClient}
 use Rattle.protocol.proofs.Ranges.Clients.{ReadInRange, EndedInRange}
-use Rattle.protocol.proofs.Ranges.Tables.{Valid, valid-facts}
-use Rattle.protocol.proofs.Refusals.{accepted-show}
+use Rattle.protocol.proofs.Ranges.Tables.{Valid}
+use Rattle.protocol.proofs.Refusals.{accepted-show, idle-resting}
 use Rattle.protocol.proofs.Shown.{length-frame-read, frame-head-client, shown-number}
 use Rattle.protocol.proofs.Shown.{shown-writer, shown-value}
-use Rattle.protocol.proofs.Invariant.{Inv}
+use Rattle.protocol.proofs.Link.{Inv}
 
 -- ---- a showing of a read that is the client's last transaction
 
@@ -35,7 +35,7 @@ module _ (caps : Capacities) (x : World) (inv : Inv caps x) (d s n : ℕ) (stamp
     (kept : x .tables .client d ≡ resting n (read s stamps values))
     (enough : 10 + 9 * count s ≤ length room) where
   valid-here : Valid caps (x .tables)
-  valid-here = valid-facts caps (x .tables) (inv .inRange)
+  valid-here = inv .sound .valid
 
   sizes : SizesInRange (x .tables .sizes)
   sizes = valid-here .inRange .sizes
@@ -56,7 +56,7 @@ module _ (caps : Capacities) (x : World) (inv : Inv caps x) (d s n : ℕ) (stamp
       (record {
         valid = valid-here;
         client = isClient;
-        idle = ap (λ (c : Client). c .mode) kept;
+        idle = idle-resting (x .tables .client d) _ _ kept;
         ended = ap (λ (c : Client). isNothing (c .last)) kept;
         room = omega (arith, frame-length, enough);
       })

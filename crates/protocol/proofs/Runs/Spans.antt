@@ -14,7 +14,7 @@ use Rattle.basics.proofs.Lists.{counted-append, counted-map, counted-all}
 use Rattle.itemset.specs.Set.{has, count, members}
 use Rattle.itemset.proofs.Members.{length-members}
 use Rattle.protocol.specs.declared.Message.the-variants.{Get}
-use Rattle.protocol.specs.Tables.{Client, idle}
+use Rattle.protocol.specs.Tables.{Client}
 use Rattle.protocol.specs.Range.{Capacities}
 use Rattle.protocol.specs.Steps.{reader, gets, asks}
 use Rattle.protocol.specs.Calls.{Call, startRead, refusal, effect}
@@ -23,9 +23,9 @@ use Rattle.protocol.specs.World.{moved, next, after, joiningOver, leavin
 use Rattle.protocol.specs.World.{isRequest, ownerOf, delivers, endsFor, stays, startsFor}
 use Rattle.protocol.specs.World.{rests}
 use Rattle.protocol.proofs.Put.{put-same}
-use Rattle.protocol.proofs.Refusals.{AcceptedStart, accepted-read, accepted-deliver}
-use Rattle.protocol.proofs.Invariant.{historyOf, Inv}
-use Rattle.protocol.proofs.Invariant.Step.{taken, next-inv}
+use Rattle.protocol.proofs.Refusals.{Idle, AcceptedStart, accepted-read}
+use Rattle.protocol.proofs.Link.{Inv}
+use Rattle.protocol.proofs.Link.Step.{placed-in, fits, next-inv}
 use Rattle.protocol.proofs.Runs.Run.{next-all}
 use Rattle.protocol.proofs.Runs.Touch.{refused-outcome, Way, quiet, starts, answers, way}
 use Rattle.protocol.proofs.Runs.Touch.{answers-owner, no-answer}
@@ -43,20 +43,21 @@ module _ (caps : Capacities) (w : World) (inv : Inv caps w) (d s : ℕ)
   unfolding effect
   client-is = put-same (w .tables .client) d (reader (w .tables) d s)
 
-  pub read-started : Reading d s (reader (w .tables) d s .asked) (moved w (startRead d s)) []
+  pub read-started : Reading d s (reader (w .tables) d s .read .asked) (moved w (startRead d s)) []
   unfolding counted
   read-started =
       record {
-        mode = ap (λ (c : Client). c .mode) client-is;
-        set = ap (λ (c : Client). c .set) client-is;
-        asks = ap (λ (c : Client). c .asked) client-is;
-        busy = ap (λ (c : Client). eqb (c .awaited) 0) client-is ∙ ne-eqb s 0 (start .some);
-        once = λ k. ap (λ (c : Client). 0 + cond (has (c .awaited) k) 1 0) client-is
+        mode = λ z. start .some (sym (ap (λ (c : Client). c .read .set) client-is) ∙ z);
+        alone = ap (λ (c : Client). c .write) client-is;
+        set = ap (λ (c : Client). c .read .set) client-is;
+        asks = ap (λ (c : Client). c .read .asked) client-is;
+        busy = ap (λ (c : Client). eqb (c .read .awaited) 0) client-is ∙ ne-eqb s 0 (start .some);
+        once = λ k. ap (λ (c : Client). 0 + cond (has (c .read .awaited) k) 1 0) client-is
             ∙ zero-add (cond (has s k) 1 0);
-        replied = zero-add (count (moved w (startRead d s) .tables .client d .awaited))
-            ∙ ap (λ (c : Client). count (c .awaited)) client-is;
-        answered = λ k e f. not-both e (sym (ap (λ (c : Client). has (c .awaited) k) client-is)
-            ∙ f);
+        replied = zero-add (count (moved w (startRead d s) .tables .client d .read .awaited))
+            ∙ ap (λ (c : Client). count (c .read .awaited)) client-is;
+        answered =
+            λ k e f. not-both e (sym (ap (λ (c : Client). has (c .read .awaited) k) client-is) ∙ f);
       }
 
   -- one request for each item of its set
@@ -100,7 +101,7 @@ read-during caps v inv d s asked left r (c ∷ cs) e =
 -- ---- a client at rest: while it starts nothing, its record stays
 
 module _ (caps : Capacities) (v : World) (inv : Inv caps v) (d : ℕ)
-    (rested : v .tables .client d .mode ≡ idle) where
+    (rested : Idle (v .tables .client d)) where
   rest-way : {c : Call} → refusal caps (v .tables) c ≡ 0
       → (accepts caps v c && startsFor d c) ≡ false → Way caps v inv d c
       → effect (v .tables) c .client d ≡ v .tables .client d
@@ -108,10 +109,10 @@ module _ (caps : Capacities) (v : World) (inv : Inv caps v) (d : ℕ)
   rest-way a f (starts c t) = not-both
       (and-both (accepts caps v c) (startsFor d c) (eq-eqb (refusal caps (v .tables) c) 0 a) t) f
   rest-way a f (answers i here t) =
-      absurd (no-answer (historyOf v) (v .tables .client (ownerOf (placed v i .message)))
-      (placed v i .label) (placed v i .message) d t
-      (inv .fits (placed v i) here)
-      (subst (λ (x : ℕ). v .tables .client x .mode ≡ idle)
+      absurd (no-answer (inv .ledger) (v .tables .versions)
+      (v .tables .client (ownerOf (placed v i .message))) (placed v i .message) d t
+      (fits caps v inv (placed v i) here)
+      (subst (λ (x : ℕ). Idle (v .tables .client x))
       (sym (answers-owner (placed v i .message) d t)) rested))
 
   rest-step : (c : Call) → (accepts caps v c && startsFor d c) ≡ false
@@ -119,20 +120,18 @@ module _ (caps : Capacities) (v : World) (inv : Inv caps v) (d : ℕ)
   rest-step c f =
       next-all caps (λ (x : World). x .tables .client d ≡ v .tables .client d) v c
       (λ a. rest-way a f (way caps v inv d c
-      (λ i e. taken caps v inv i (accepted-deliver caps
-      (v .tables) i .0 (subst (λ (x : Call). refusal caps (v .tables) x ≡ 0) e a)) .isIn)))
+      (λ i e. placed-in caps v inv i (subst (λ (x : Call). refusal caps (v .tables) x ≡ 0) e a))))
       refl
 
 -- and no delivery reports an end of its
-rest-silent : (caps : Capacities) (v : World) → Inv caps v → (d : ℕ)
-    → v .tables .client d .mode ≡ idle → (c : Call)
+rest-silent : (caps : Capacities) (v : World) → Inv caps v → (d : ℕ) → Idle (v .tables .client d)
+    → (c : Call)
     → (accepts caps v c && startsFor d c) ≡ false → endsFor caps v d c ≡ false
 rest-silent caps v inv d m c f =
     by-test (accepts caps v c)
     (λ t. let a = eqb-true (refusal caps (v .tables) c) 0 t in
     by-way a f (way caps v inv d c
-    (λ i e. taken caps v inv i (accepted-deliver caps
-    (v .tables) i .0 (subst (λ (x : Call). refusal caps (v .tables) x ≡ 0) e a)) .isIn)))
+    (λ i e. placed-in caps v inv i (subst (λ (x : Call). refusal caps (v .tables) x ≡ 0) e a))))
     (λ t. rw (refused-outcome caps v c t) (and-false (delivers v d c)))
   where
     by-way : {x : Call} → refusal caps (v .tables) x ≡ 0
@@ -142,14 +141,14 @@ rest-silent caps v inv d m c f =
     by-way a f (starts x t) = not-both
         (and-both (accepts caps v x) (startsFor d x) (eq-eqb (refusal caps (v .tables) x) 0 a) t) f
     by-way a f (answers i here t) =
-        absurd (no-answer (historyOf v) (v .tables .client (ownerOf (placed v i .message)))
-        (placed v i .label) (placed v i .message) d t
-        (inv .fits (placed v i) here)
-        (subst (λ (x : ℕ). v .tables .client x .mode ≡ idle)
+        absurd (no-answer (inv .ledger) (v .tables .versions)
+        (v .tables .client (ownerOf (placed v i .message))) (placed v i .message) d t
+        (fits caps v inv (placed v i) here)
+        (subst (λ (x : ℕ). Idle (v .tables .client x))
         (sym (answers-owner (placed v i .message) d t)) m))
 
-pub rest-stays : (caps : Capacities) (v : World) → Inv caps v → (d : ℕ)
-    → v .tables .client d .mode ≡ idle → (cs : List Call) → rests caps v d cs ≡ true
+pub rest-stays : (caps : Capacities) (v : World) → Inv caps v → (d : ℕ) → Idle (v .tables .client d)
+    → (cs : List Call) → rests caps v d cs ≡ true
     → stays caps v d cs ≡ true
 unfolding stays rests
 rest-stays caps v inv d m [] e = refl
@@ -159,12 +158,11 @@ rest-stays caps v inv d m (c ∷ cs) e =
     (and-left (not (accepts caps v c && startsFor d c)) (rests caps (next caps v c) d cs) e) in
     let one = rest-step caps v inv d m c f in
     rw (rest-silent caps v inv d m c f)
-    (rest-stays caps (next caps v c) (next-inv caps v inv c) d
-    (ap (λ (x : Client). x .mode) one ∙ m) cs
+    (rest-stays caps (next caps v c) (next-inv caps v inv c) d (subst Idle (sym one) m) cs
     (and-right (not (accepts caps v c && startsFor d c)) (rests caps (next caps v c) d cs) e))
 
-pub at-rest : (caps : Capacities) (v : World) → Inv caps v → (d : ℕ)
-    → v .tables .client d .mode ≡ idle → (cs : List Call) → rests caps v d cs ≡ true
+pub at-rest : (caps : Capacities) (v : World) → Inv caps v → (d : ℕ) → Idle (v .tables .client d)
+    → (cs : List Call) → rests caps v d cs ≡ true
     → after caps v cs .tables .client d ≡ v .tables .client d
 unfolding after rests
 at-rest caps v inv d m [] e = refl
@@ -173,6 +171,6 @@ at-rest caps v inv d m (c ∷ cs) e =
     not-true (accepts caps v c && startsFor d c)
     (and-left (not (accepts caps v c && startsFor d c)) (rests caps (next caps v c) d cs) e) in
     let one = rest-step caps v inv d m c f in
-    at-rest caps (next caps v c) (next-inv caps v inv c) d (ap (λ (x : Client). x .mode) one ∙ m) cs
+    at-rest caps (next caps v c) (next-inv caps v inv c) d (subst Idle (sym one) m) cs
     (and-right (not (accepts caps v c && startsFor d c)) (rests caps (next caps v c) d cs) e)
     ∙ one

@@ -16,18 +16,20 @@ use Rattle.protocol.specs.declared.Entry.{Entry}
 use Rattle.protocol.specs.declared.Message.{Message}
 use Rattle.protocol.specs.declared.Message.the-variants.{Prepare, Prepared, Commit, Get, Got}
 use Rattle.protocol.specs.declared.Answer.the-variants.{Refused}
-use Rattle.protocol.specs.Tables.{Tables, Client, Mode, idle, reading, writing, writerOf}
-use Rattle.protocol.specs.Range.{Capacities, isReading, isWriting}
+use Rattle.protocol.specs.Tables.{Tables, Client, ofRead, ofWrite, writerOf}
+use Rattle.protocol.specs.Range.{Capacities}
 use Rattle.protocol.specs.Steps.{delivered, joined, isLast, touches, gets, prepares, reader}
 use Rattle.protocol.specs.Steps.{writer, messageAt}
 use Rattle.protocol.specs.Calls.{Call, startRead, startWrite, deliver, show, refusal, effect}
 use Rattle.protocol.specs.Calls.{step, reply, outcomeOf, pick}
-use Rattle.protocol.specs.World.{World, Label, Labelled, labelled, placed, joining, leaving}
-use Rattle.protocol.specs.World.{isGet, isGot, isRequest, isReply, ownerOf, startsFor}
-use Rattle.protocol.specs.World.{accepts, outcomeIn, delivers, endsFor}
+use Rattle.protocol.specs.World.{World, Labelled, labelled, placed, joining, leaving, isGet}
+use Rattle.protocol.specs.World.{isGot, isRequest, isReply, ownerOf, startsFor, accepts}
+use Rattle.protocol.specs.World.{outcomeIn, delivers, endsFor}
+use Rattle.protocol.proofs.Refusals.{Idle}
 use Rattle.protocol.proofs.Put.{put-other}
-use Rattle.protocol.proofs.Invariant.{History, Fits, Inv}
-use Rattle.protocol.proofs.Invariant.Delivery.{placed-message}
+use Rattle.protocol.proofs.Sound.{Ledger, Fits}
+use Rattle.protocol.proofs.Link.{Inv}
+use Rattle.protocol.proofs.Link.Step.{placed-message}
 
 -- a prepared reply or a got of client d
 unfoldable pub answersTo : ℕ → Message → Bool
@@ -53,15 +55,21 @@ joined-no-get : (t : Tables) (m j : Message) → In j (joined t m) → isGet j �
 unfolding joined isGet
 joined-no-get t (Prepare v) j (inl e) = ap isGet e
 joined-no-get t (Prepared k s) j i =
-    by-test (isLast (t .client (writerOf s)) k)
+    by-test (isLast ofWrite (t .client (writerOf s)) k)
     (λ e. let q = in-map (λ p. Commit p s) j
     (upto (t .sizes .partitions)
-    (λ p. touches t (t .client (writerOf s) .set) p (t .sizes .items))) (rw e at i) in
-    ap isGet (q .2))
+    (λ p. touches t (t .client (writerOf s) .write .set) p (t .sizes .items)))
+    (rw e at i) in ap isGet (q .2))
     (λ e. absurd (rw e at i))
 joined-no-get t (Commit p s) j i = absurd i
 joined-no-get t (Get d k s) j (inl e) = ap isGet e
-joined-no-get t (Got d v latest) j i = absurd i
+joined-no-get t (Got d v latest) j i =
+    let c = t .client d in
+    by-test (isLast ofRead c (v .item))
+    (λ e. let q = in-map (λ p. Commit p (c .write .stamp)) j
+    (upto (t .sizes .partitions) (λ p. touches t (c .write .set) p (t .sizes .items)))
+    (rw e at i) in ap isGet (q .2))
+    (λ e. absurd (rw e at i))
 
 -- a got of client d is an answer to it
 got-answers : (m : Message) (d : ℕ) → isGot m ≡ true → ownerOf m ≡ d → answersTo d m ≡ true
@@ -224,41 +232,37 @@ module _ (caps : Capacities) (v : World) (inv : Inv caps v) (d : ℕ) where
       none-here : counted (isRequest d) [] ≡ 0
       none-here = none-counted (isRequest d) [] (λ x p. absurd p)
 
--- ---- answers go to a client in the right mode
+-- ---- answers go to a client with the right part
 
-pub reading-not-writing {ℓ} : {P : Type ℓ} {m : Mode} → m ≡ reading → m ≡ writing → P
-unfolding isReading
-reading-not-writing r w = not-both (ap isReading r) (ap isReading w)
-
--- an answer to a reading client is a got
-pub got-of : (h : History) (c : Client) (l : Label) (m : Message) (d : ℕ) → answersTo d m ≡ true
-    → Fits h c l m → c .mode ≡ reading
+-- an answer to a client with no write part is a got
+pub got-of : (L : Ledger) (vs : List Version) (c : Client) (m : Message) (d : ℕ)
+    → answersTo d m ≡ true → Fits L vs c m → c .write .set ≡ 0
     → (u : Version) × ((e : Entry) × (m ≡ Got d u e))
 unfolding answersTo Fits
-got-of h c l (Prepare v) d t f r = not-both t refl
-got-of h c l (Prepared k s) d t f r = reading-not-writing r (f .mode)
-got-of h c l (Commit p s) d t f r = not-both t refl
-got-of h c l (Get e k s) d t f r = not-both t refl
-got-of h c l (Got e v latest) d t f r =
+got-of L vs c (Prepare v) d t f r = not-both t refl
+got-of L vs c (Prepared k s) d t f r = absurd (f .mode r)
+got-of L vs c (Commit p s) d t f r = not-both t refl
+got-of L vs c (Get e k s) d t f r = not-both t refl
+got-of L vs c (Got e v latest) d t f r =
     (v, (latest, ap (λ (x : ℕ). Got x v latest) (eqb-true e d t)))
 
--- an answer to a writing client is a prepared reply, of its stamp
-pub prepared-of : (h : History) (c : Client) (l : Label) (m : Message) (d : ℕ)
-    → answersTo d m ≡ true → Fits h c l m → c .mode ≡ writing
-    → (k : ℕ) × ((s : ℕ) × (m ≡ Prepared k s) × (writerOf s ≡ d) × (c .stamp ≡ s))
+-- an answer to a client with no read part is a prepared reply, of its stamp
+pub prepared-of : (L : Ledger) (vs : List Version) (c : Client) (m : Message) (d : ℕ)
+    → answersTo d m ≡ true → Fits L vs c m → c .read .set ≡ 0
+    → (k : ℕ) × ((s : ℕ) × (m ≡ Prepared k s) × (writerOf s ≡ d) × (c .write .stamp ≡ s))
 unfolding answersTo Fits
-prepared-of h c l (Prepare v) d t f r = not-both t refl
-prepared-of h c l (Prepared k s) d t f r = (k, (s, refl, eqb-true (writerOf s) d t, f .stamp))
-prepared-of h c l (Commit p s) d t f r = not-both t refl
-prepared-of h c l (Get e k s) d t f r = not-both t refl
-prepared-of h c l (Got e v latest) d t f r = reading-not-writing (f .mode) r
+prepared-of L vs c (Prepare v) d t f r = not-both t refl
+prepared-of L vs c (Prepared k s) d t f r = (k, (s, refl, eqb-true (writerOf s) d t, f .stamp))
+prepared-of L vs c (Commit p s) d t f r = not-both t refl
+prepared-of L vs c (Get e k s) d t f r = not-both t refl
+prepared-of L vs c (Got e v latest) d t f r = absurd (f .mode r)
 
 -- and an idle client has none
-pub no-answer : (h : History) (c : Client) (l : Label) (m : Message) (d : ℕ) → answersTo d m ≡ true
-    → Fits h c l m → c .mode ≡ idle → ⊥
-unfolding answersTo Fits isReading isWriting
-no-answer h c l (Prepare v) d t f r = not-both t refl
-no-answer h c l (Prepared k s) d t f r = not-both (ap isWriting (f .mode)) (ap isWriting r)
-no-answer h c l (Commit p s) d t f r = not-both t refl
-no-answer h c l (Get e k s) d t f r = not-both t refl
-no-answer h c l (Got e v latest) d t f r = not-both (ap isReading (f .mode)) (ap isReading r)
+pub no-answer : (L : Ledger) (vs : List Version) (c : Client) (m : Message) (d : ℕ)
+    → answersTo d m ≡ true → Fits L vs c m → Idle c → ⊥
+unfolding answersTo Fits
+no-answer L vs c (Prepare v) d t f r = not-both t refl
+no-answer L vs c (Prepared k s) d t f r = f .mode (r .write)
+no-answer L vs c (Commit p s) d t f r = not-both t refl
+no-answer L vs c (Get e k s) d t f r = not-both t refl
+no-answer L vs c (Got e v latest) d t f r = f .mode (r .read)

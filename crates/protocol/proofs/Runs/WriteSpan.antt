@@ -2,7 +2,7 @@
 -- nowhere older on the items written.
 use mathlib.Core.Bool.{true, false, cond, not, and-false}
 use mathlib.Core.List.{List, [], _∷_}
-use mathlib.Core.Logic.{_⊎_, inl, inr, ⊎-elim}
+use mathlib.Core.Logic.{_⊎_, inl, inr, ⊎-elim, _≢_}
 use mathlib.Core.Path.{_≡_, refl, sym, ap, _∙_, subst}
 use Prim.Native.Nat.{ℕ, _≤_}
 use native.Mathlib.Nat.{le-refl}
@@ -13,8 +13,9 @@ use Rattle.itemset.specs.Set.{has}
 use Rattle.protocol.specs.declared.Entry.{Entry}
 use Rattle.protocol.specs.declared.Message.{Message}
 use Rattle.protocol.specs.declared.Message.the-variants.{Prepared}
-use Rattle.protocol.specs.Tables.{Tables, Client, Mode, idle, writing, writerOf, laterOf}
-use Rattle.protocol.specs.Range.{Capacities, isWriting}
+use Rattle.protocol.specs.Tables.{Tables, Client, ReadPart, noRead, ofWrite, writerOf}
+use Rattle.protocol.specs.Tables.{laterOf}
+use Rattle.protocol.specs.Range.{Capacities}
 use Rattle.protocol.specs.Steps.{delivered, prepared, struck, seen, isLast, messageAt, writer}
 use Rattle.protocol.specs.Steps.{nextStamp}
 use Rattle.protocol.specs.Calls.{Call, startRead, startWrite, deliver, show, refusal, effect}
@@ -22,17 +23,17 @@ use Rattle.protocol.specs.Calls.{step, outcomeOf}
 use Rattle.protocol.specs.World.{World, placed, accepts, moved, passed, next, after, ownerOf}
 use Rattle.protocol.specs.World.{outcomeIn, delivers, endsFor, stays, startsFor}
 use Rattle.protocol.proofs.Put.{put-same}
-use Rattle.protocol.proofs.Refusals.{accepted-read, accepted-write, accepted-deliver}
-use Rattle.protocol.proofs.Invariant.{historyOf, Inv}
-use Rattle.protocol.proofs.Invariant.Delivery.{placed-message}
-use Rattle.protocol.proofs.Invariant.Step.{taken, next-inv}
+use Rattle.protocol.proofs.Refusals.{accepted-read, accepted-write}
+use Rattle.protocol.proofs.Link.{Inv}
+use Rattle.protocol.proofs.Link.Step.{placed-message, placed-in, fits, next-inv}
 use Rattle.protocol.proofs.Runs.Touch.{refused-outcome, delivered-outcome, Way, quiet}
 use Rattle.protocol.proofs.Runs.Touch.{starts, answers, way, answers-owner, prepared-of}
 
 pub record Writing (d s stamp : ℕ) (v : World) : Type 0 where
-  pub mode : v .tables .client d .mode ≡ writing
-  pub isSet : v .tables .client d .set ≡ s
-  pub isStamp : v .tables .client d .stamp ≡ stamp
+  pub mode : v .tables .client d .write .set ≢ 0
+  pub alone : v .tables .client d .read ≡ noRead
+  pub isSet : v .tables .client d .write .set ≡ s
+  pub isStamp : v .tables .client d .write .stamp ≡ stamp
 
 -- the view of client d has the write, or a later one, on each item of s
 abbrev pub Seen : ℕ → ℕ → ℕ → World → Type 0
@@ -41,10 +42,6 @@ Seen d s stamp v = (k : ℕ) → has s k ≡ true → stamp ≤ v .tables .view 
 later-other : (a b : Entry) → b .stamp ≤ laterOf a b .stamp
 later-other a b = by-test (ltb (a .stamp) (b .stamp)) (λ e. rw e (le-refl (b .stamp)))
     (λ e. rw e (ltb-false (a .stamp) (b .stamp) e))
-
-writing-not-idle {ℓ} : {P : Type ℓ} {m : Mode} → m ≡ writing → m ≡ idle → P
-unfolding isWriting
-writing-not-idle r w = not-both (ap isWriting r) (ap isWriting w)
 
 -- ---- the delivery of a prepared reply to client d
 
@@ -57,21 +54,22 @@ module _ (t : Tables) (i k s : ℕ) (is-prepared : messageAt t i ≡ Prepared k 
   prepared-client = ap (λ (m : Message). delivered t m .client (writerOf s)) is-prepared
       ∙ put-same (t .client) (writerOf s) (prepared c k)
 
-  prepared-outcome : outcomeOf t (messageAt t i) ≡ cond (isLast c k) 2 0
+  prepared-outcome : outcomeOf t (messageAt t i) ≡ cond (isLast ofWrite c k) 2 0
   unfolding outcomeOf
   prepared-outcome = ap (outcomeOf t) is-prepared
 
-  prepared-view : isLast c k ≡ true → (j : ℕ) → has (c .set) j ≡ true
+  prepared-view : isLast ofWrite c k ≡ true → (j : ℕ) → has (c .write .set) j ≡ true
       → s ≤ effect t (deliver i) .view (writerOf s) j .stamp
   unfolding effect delivered
   prepared-view last j e =
       let mine : Entry = t .view (writerOf s) j in
-      let other : Entry = record { stamp = s; set = c .set } in
+      let other : Entry = record { stamp = s; set = c .write .set } in
       let is : effect t (deliver i) .view (writerOf s) j ≡ laterOf mine other =
       ap (λ (m : Message). delivered t m .view (writerOf s) j) is-prepared
       ∙ ap (λ (f : ℕ → Entry). f j)
       (put-same (t .view) (writerOf s)
-      (cond (isLast c k) (seen (t .view (writerOf s)) (c .set) s) (t .view (writerOf s))))
+      (cond (isLast ofWrite c k) (seen (t .view (writerOf s)) (c .write .set) s)
+      (t .view (writerOf s))))
       ∙ rw (last, e) refl in
       subst (λ (x : Entry). s ≤ x .stamp) (sym is) (later-other mine other)
 
@@ -82,11 +80,11 @@ module _ (caps : Capacities) (v : World) (inv : Inv caps v) (d s stamp : ℕ)
   not-started : (c : Call) → refusal caps (v .tables) c ≡ 0 → startsFor d c ≡ true → ⊥
   unfolding startsFor
   not-started (startRead e n) a t =
-      writing-not-idle (r .mode) (subst (λ (x : ℕ). v .tables .client x .mode ≡ idle)
-      (eqb-true e d t) (accepted-read caps (v .tables) e n .0 a .idle))
+      r .mode (subst (λ (x : ℕ). v .tables .client x .write .set ≡ 0) (eqb-true e d t)
+      (accepted-read caps (v .tables) e n .0 a .idle .write))
   not-started (startWrite e n bytes) a t =
-      writing-not-idle (r .mode) (subst (λ (x : ℕ). v .tables .client x .mode ≡ idle)
-      (eqb-true e d t) (accepted-write caps (v .tables) e n bytes .0 a .start .idle))
+      r .mode (subst (λ (x : ℕ). v .tables .client x .write .set ≡ 0) (eqb-true e d t)
+      (accepted-write caps (v .tables) e n bytes .0 a .start .idle .write))
   not-started (deliver i) a t = not-both t refl
   not-started (show e output) a t = not-both t refl
 
@@ -97,23 +95,25 @@ module _ (caps : Capacities) (v : World) (inv : Inv caps v) (d s stamp : ℕ)
   same-record : (v′ : World) → v′ .tables .client d ≡ v .tables .client d → Writing d s stamp v′
   same-record v′ e =
       record {
-        mode = ap (λ (x : Client). x .mode) e ∙ r .mode;
+        mode = λ z. r .mode (sym (ap (λ (x : Client). x .write .set) e) ∙ z);
+        alone =
+            ap (λ (x : Client). x .read) e ∙ r .alone;
         isSet =
-            ap (λ (x : Client). x .set) e ∙ r .isSet;
+            ap (λ (x : Client). x .write .set) e ∙ r .isSet;
         isStamp =
-            ap (λ (x : Client). x .stamp) e ∙ r .isStamp;
+            ap (λ (x : Client). x .write .stamp) e ∙ r .isStamp;
       }
 
   by-prepared : (i k n : ℕ) → refusal caps (v .tables) (deliver i) ≡ 0
       → messageAt (v .tables) i ≡ Prepared k n → writerOf n ≡ d
-      → v .tables .client d .stamp ≡ n → delivers v d (deliver i) ≡ true → Ways (deliver i)
+      → v .tables .client d .write .stamp ≡ n → delivers v d (deliver i) ≡ true → Ways (deliver i)
   by-prepared i k n a same owner is-stamp delivers-it =
       let outcome : outcomeIn (step caps (v .tables) (deliver i) .answer) ≡ cond
-      (isLast (v .tables .client (writerOf n)) k) 2 0 =
+      (isLast ofWrite (v .tables .client (writerOf n)) k) 2 0 =
       delivered-outcome caps v i a ∙ prepared-outcome (v .tables) i k n same in
       let c = v .tables .client (writerOf n) in
       let at-d : c ≡ v .tables .client d = ap (v .tables .client) owner in
-      by-test (isLast c k)
+      by-test (isLast ofWrite c k)
       (λ last. inr (
         rw (delivers-it, outcome, last) refl,
         λ j e.
@@ -122,17 +122,21 @@ module _ (caps : Capacities) (v : World) (inv : Inv caps v) (d s stamp : ℕ)
             (subst (λ (x : ℕ). n ≤ effect (v .tables) (deliver i) .view x j .stamp) owner
             (prepared-view (v .tables) i k n same last j
             (subst (λ (x : ℕ). has x j ≡ true)
-            (sym (ap (λ (x : Client). x .set) at-d ∙ r .isSet)) e))),
+            (sym (ap (λ (x : Client). x .write .set) at-d ∙ r .isSet)) e))),
       ))
       (λ f. inl (
-        (let is : effect (v .tables) (deliver i) .client d ≡ struck c k (c .values) =
-            subst (λ (x : ℕ). effect (v .tables) (deliver i) .client x ≡ struck c k (c .values))
-            owner (prepared-client (v .tables) i k n same ∙ rw f refl) in
+        (let is : effect (v .tables) (deliver i) .client d ≡ struck c k =
+            subst (λ (x : ℕ). effect (v .tables) (deliver i) .client x ≡ struck c k) owner
+            (prepared-client (v .tables) i k n same ∙ rw f refl) in
             record {
-              mode = ap (λ (x : Client). x .mode) is ∙ ap (λ (x : Client). x .mode) at-d ∙ r .mode;
-              isSet = ap (λ (x : Client). x .set) is ∙ ap (λ (x : Client). x .set) at-d ∙ r .isSet;
-              isStamp = ap (λ (x : Client). x .stamp) is ∙ ap (λ (x : Client). x .stamp) at-d
-                  ∙ r .isStamp;
+              mode = λ z. r .mode (sym (ap (λ (x : Client). x .write .set) is
+                  ∙ ap (λ (x : Client). x .write .set) at-d) ∙ z);
+              alone = ap (λ (x : Client). x .read) is ∙ ap (λ (x : Client). x .read) at-d
+                  ∙ r .alone;
+              isSet = ap (λ (x : Client). x .write .set) is
+                  ∙ ap (λ (x : Client). x .write .set) at-d ∙ r .isSet;
+              isStamp = ap (λ (x : Client). x .write .stamp) is
+                  ∙ ap (λ (x : Client). x .write .stamp) at-d ∙ r .isStamp;
             }),
         rw (outcome, f) (and-false (delivers v d (deliver i))),
       ))
@@ -143,18 +147,19 @@ module _ (caps : Capacities) (v : World) (inv : Inv caps v) (d s stamp : ℕ)
   by-way a (starts c t) = absurd (not-started c a t)
   by-way a (answers i here t) =
       let owner = answers-owner (placed v i .message) d t in
-      let g = prepared-of (historyOf v) (v .tables .client (ownerOf (placed v i .message)))
-      (placed v i .label) (placed v i .message) d t (inv .fits (placed v i) here)
-      (subst (λ (x : ℕ). v .tables .client x .mode ≡ writing) (sym owner) (r .mode)) in
+      let g = prepared-of (inv .ledger) (v .tables .versions)
+      (v .tables .client (ownerOf (placed v i .message))) (placed v i .message) d t
+      (fits caps v inv (placed v i) here)
+      (subst (λ (x : ℕ). v .tables .client x .read .set ≡ 0) (sym owner)
+      (ap (λ (p : ReadPart). p .set) (r .alone))) in
       by-prepared i (g .0) (g .1 .0) a (sym (placed-message caps v inv i) ∙ g .1 .1) (g .1 .2)
-      (subst (λ (x : ℕ). v .tables .client x .stamp ≡ g .1 .0) owner (g .1 .3))
+      (subst (λ (x : ℕ). v .tables .client x .write .stamp ≡ g .1 .0) owner (g .1 .3))
       (eq-eqb (placed v i .label .client) d (inv .owners (placed v i) here ∙ owner))
 
   ways : (c : Call) → refusal caps (v .tables) c ≡ 0 → Ways c
   ways c a =
       by-way a (way caps v inv d c
-      (λ i e. taken caps v inv i (accepted-deliver caps
-      (v .tables) i .0 (subst (λ (x : Call). refusal caps (v .tables) x ≡ 0) e a)) .isIn))
+      (λ i e. placed-in caps v inv i (subst (λ (x : Call). refusal caps (v .tables) x ≡ 0) e a)))
 
   write-goes-on : (c : Call) → endsFor caps v d c ≡ false → Writing d s stamp (next caps v c)
   unfolding next
@@ -174,16 +179,16 @@ module _ (caps : Capacities) (v : World) (inv : Inv caps v) (d s stamp : ℕ)
 
 -- ---- from its start
 
-pub write-started : (caps : Capacities) (w : World) (d s : ℕ) (bytes : List ℕ)
+pub write-started : (caps : Capacities) (w : World) (d s : ℕ) (bytes : List ℕ) → s ≢ 0
     → Writing d s (nextStamp (w .tables) d) (moved w (startWrite d s bytes))
 unfolding effect
-write-started caps w d s bytes =
+write-started caps w d s bytes some =
     let is = put-same (w .tables .client) d (writer (w .tables) d s bytes) in
     record {
-      mode = ap (λ (x : Client). x .mode) is;
-      isSet =
-          ap (λ (x : Client). x .set) is;
-      isStamp = ap (λ (x : Client). x .stamp) is;
+      mode = λ z. some (sym (ap (λ (x : Client). x .write .set) is) ∙ z);
+      alone = ap (λ (x : Client). x .read) is;
+      isSet = ap (λ (x : Client). x .write .set) is;
+      isStamp = ap (λ (x : Client). x .write .stamp) is;
     }
 
 pub write-during : (caps : Capacities) (v : World) → Inv caps v → (d s stamp : ℕ)
