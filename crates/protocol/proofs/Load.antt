@@ -7,7 +7,7 @@ use Prim.Native.Nat.{ℕ, suc, _+_, _-_, _^_, _≤_, _<_}
 use native.Mathlib.Omega.{arith}
 use lib.Dec.{eqb}
 use lib.ListN.{length, length-append, length-map}
-use borrow.Author.Tests.{eqb-true}
+use borrow.Author.Tests.{eqb-true, eqb-false}
 use Rattle.basics.proofs.Cases.{by-test, and-right}
 use Rattle.basics.specs.Lists.{without}
 use Rattle.basics.proofs.Lists.{length-without}
@@ -62,7 +62,7 @@ arrived-of c = refl
 
 -- client d of t, idle, is replaced by one of whose messages none has arrived, and messages join
 load-start : (t : Tables) (d : ℕ) (c : Client) (ms : List Message) → IsClient (t .sizes) d
-    → Idle (t .client d) → arrived c ≡ 0
+    → t .client d .write .set ≡ 0 → arrived c ≡ 0
     → load (withMessages (withClient t d c) (t .messages ++ ms)) ≡ load t + length ms
 load-start t d c ms h rests none =
     omega (
@@ -71,21 +71,30 @@ load-start t d c ms h rests none =
       length-append
           (t .messages) ms,
       load-client t d c h,
-      arrived-none (t .client d) (rests .write),
+      arrived-none (t .client d) rests,
     )
+
+-- an idle client in range has no write part
+start-writes : (caps : Capacities) (t : Tables) (d s : ℕ) → AcceptedStart caps t d s
+    → t .client d .write .set ≡ 0
+start-writes caps t d s a =
+    by-test (eqb (t .client d .write .set) 0) (λ e. eqb-true (t .client d .write .set) 0 e)
+    (λ e. absurd (a .valid .inRange .client d (a .client) .alone
+    (eqb-false (t .client d .write .set) 0 e) .1 (a .idle .write)))
 
 module _ (caps : Capacities) (t : Tables) (d s : ℕ) (a : AcceptedStart caps t d s) where
   pub load-read : load (effect t (startRead d s)) ≡ load t + count s
   unfolding effect
   load-read =
-      load-start t d (reader t d s) (gets t d s) (a .client) (a .idle)
+      load-start t d (reader t d s) (gets t d s) (a .client) (start-writes caps t d s a)
       (arrived-none (reader t d s) refl)
       ∙ ap (λ (n : ℕ). load t + n) (simp length-map (length-members s (t .sizes .items) (a .set)))
 
   pub load-write : (bytes : List ℕ) → load (effect t (startWrite d s bytes)) ≡ load t + count s
   unfolding effect
   load-write bytes =
-      load-start t d (writer t d s bytes) (prepares t d s bytes) (a .client) (a .idle)
+      load-start t d (writer t d s bytes) (prepares t d s bytes) (a .client)
+      (start-writes caps t d s a)
       (omega (arith, arrived-of (writer t d s bytes)))
       ∙ ap (λ (n : ℕ). load t + n) (simp length-map (length-members s (t .sizes .items) (a .set)))
 

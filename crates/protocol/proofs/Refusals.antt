@@ -10,10 +10,12 @@ use borrow.Author.Tests.{eqb-false}
 use Rattle.basics.proofs.Cases.{not-both}
 use Rattle.basics.proofs.Lists.{in-getD}
 use Rattle.itemset.specs.Set.{has, count}
+use Rattle.itemset.proofs.Laws.{has-empty}
 use Rattle.protocol.specs.declared.Version.{Version}
 use Rattle.protocol.specs.declared.Message.{Message}
 use Rattle.protocol.specs.declared.Message.the-variants.{Prepare, Prepared, Commit, Get, Got}
-use Rattle.protocol.specs.Tables.{Sizes, Tables, Client, writerOf, Ended, resting}
+use Rattle.protocol.specs.Tables.{Sizes, Tables, Client, writerOf, Ended, resting, Side}
+use Rattle.protocol.specs.Tables.{ofRead, ofWrite, awaitedOf}
 use Rattle.protocol.specs.Range.{Capacities, load, occupied}
 use Rattle.protocol.specs.Steps.{messageAt, stored}
 use Rattle.protocol.specs.Calls.{startRead, startWrite, deliver, show, Test, test, first}
@@ -44,17 +46,20 @@ first-empty = refl
 
 -- ---- Starts
 
--- neither part has an item
+-- neither part awaits an item
 pub record Idle (c : Client) : Type 0 where
-  pub read : c .read .set ≡ 0
-  pub write : c .write .set ≡ 0
+  pub read : c .read .awaited ≡ 0
+  pub write : c .write .awaited ≡ 0
 
 pub idle-resting : (c : Client) (n : ℕ) (e : Ended) → c ≡ resting n e → Idle c
 idle-resting c n e h = record {
-  read = ap (λ (x : Client). x .read .set) h;
-  write =
-      ap (λ (x : Client). x .write .set) h;
+  read = ap (λ (x : Client). x .read .awaited) h;
+  write = ap (λ (x : Client). x .write .awaited) h;
 }
+
+pub idle-awaits : (c : Client) → Idle c → (σ : Side) (k : ℕ) → has (awaitedOf σ c) k ≡ false
+idle-awaits c i ofRead k = rw (i .read) (has-empty k)
+idle-awaits c i ofWrite k = rw (i .write) (has-empty k)
 
 -- what both starts test
 pub record AcceptedStart (caps : Capacities) (t : Tables) (d s : ℕ) : Type 0 where

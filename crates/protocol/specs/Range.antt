@@ -1,6 +1,6 @@
 -- What is in range, and the load (document 01, 'Tables'): the fields that a block's words are held
 -- to.
-use mathlib.Core.Bool.{Bool, true, false, cond, not, Bool·beq, _&&_, _||_}
+use mathlib.Core.Bool.{Bool, true, false, cond, not, _&&_, _||_}
 use Prim.Native.Nat.{ℕ, zero, suc, _+_, _-_, _^_}
 use lib.Dec.{eqb, ltb, leb}
 use lib.ListN.{length}
@@ -10,7 +10,8 @@ use Rattle.protocol.specs.declared.Version.{Version}
 use Rattle.protocol.specs.declared.Entry.{Entry}
 use Rattle.protocol.specs.declared.Message.{Message}
 use Rattle.protocol.specs.declared.Message.the-variants.{Prepare, Prepared, Commit, Get, Got}
-use Rattle.protocol.specs.Tables.{Sizes, Tables, Client, Ended, nothing, read, write}
+use Rattle.protocol.specs.Tables.{Sizes, Tables, Client, ReadPart, WritePart, Ended, nothing}
+use Rattle.protocol.specs.Tables.{read, write}
 use Rattle.protocol.specs.Tables.{numberOf, writerOf}
 
 -- counts are at most 4,294,967,295 and values of 32 bits
@@ -72,34 +73,32 @@ endedInRange z (read s stamps values) =
 endedInRange z (write s stamp values) =
     allBelow s (z .items) && stampInRange z stamp && each z s (λ k. fits (values k))
 
--- a part is under way where it has items, and a client is idle that has neither part
-abbrev pub isReading : Client → Bool
-isReading c = not (eqb (c .read .set) 0)
+-- a client is idle exactly when it awaits no item, of either part
+abbrev pub isIdle : Client → Bool
+isIdle c = eqb (c .read .awaited) 0 && eqb (c .write .awaited) 0
 
 abbrev pub isWriting : Client → Bool
 isWriting c = not (eqb (c .write .set) 0)
 
-abbrev pub isIdle : Client → Bool
-isIdle c = eqb (c .read .set) 0 && eqb (c .write .set) 0
+-- awaited items lie in their part's set; a write part has one stamp for all its items
+unfoldable pub readPartInRange : Sizes → ReadPart → Bool
+readPartInRange z p =
+    allBelow (p .set) (z .items) && allBelow (p .awaited) (z .items)
+    && each z (p .awaited) (has (p .set))
+    && each z (p .set) (λ k. stampInRange z (p .asked k) && fits (p .values k))
 
-abbrev pub awaitsNone : Client → Bool
-awaitsNone c = eqb (c .read .awaited) 0 && eqb (c .write .awaited) 0
+unfoldable pub writePartInRange : Sizes → WritePart → Bool
+writePartInRange z p =
+    allBelow (p .set) (z .items) && allBelow (p .awaited) (z .items)
+    && each z (p .awaited) (has (p .set))
+    && stampInRange z (p .stamp)
+    && each z (p .set) (λ k. fits (p .values k))
 
--- a client is idle exactly when it awaits no item of either part, awaited items lie in their part's
--- set, and one with both parts has a stamp later than the initial one (a got may end it, and its
--- commits take the stamp from here)
+-- a write part awaits an item, and there is no read part beside it
 unfoldable pub clientInRange : Sizes → Client → Bool
 clientInRange z c =
-    fits (c .count)
-    && allBelow (c .read .set) (z .items) && allBelow (c .read .awaited) (z .items)
-    && each z (c .read .awaited) (has (c .read .set))
-    && each z (c .read .set) (λ k. stampInRange z (c .read .asked k) && fits (c .read .values k))
-    && allBelow (c .write .set) (z .items) && allBelow (c .write .awaited) (z .items)
-    && each z (c .write .awaited) (has (c .write .set))
-    && stampInRange z (c .write .stamp)
-    && each z (c .write .set) (λ k. fits (c .write .values k))
-    && Bool·beq (isIdle c) (awaitsNone c)
-    && (eqb (c .read .set) 0 || eqb (c .write .set) 0 || notInitial (c .write .stamp))
+    fits (c .count) && readPartInRange z (c .read) && writePartInRange z (c .write)
+    && (eqb (c .write .set) 0 || (eqb (c .read .set) 0 && not (eqb (c .write .awaited) 0)))
     && endedInRange z (c .last)
 
 -- p holds of every client

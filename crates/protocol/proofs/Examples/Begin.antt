@@ -44,21 +44,25 @@ writer set awaited stamp value =
           nothing;
     }
 
+-- the read part of one client and the write part of another
+abbrev pub both : Client → Client → Client
+both r w = record { count = r .count; read = r .read; write = w .write; last = r .last }
+
 -- ---- Load
 
 abbrev pub storedBy : ℕ → List Version
 storedBy d = version 0 7 1 d 15 ∷ version 1 7 1 d 15 ∷ version 2 7 1 d 15 ∷ version 3 7 1 d 15 ∷ []
 
 -- Of eight clients 1 to 7 write {0, 1, 2, 3} and still await the reply for 3: 21 replies have come,
--- the other 7 are in flight. Beside those there are n commits of client 8, which is idle. The load
--- is 28 + n.
+-- the other 7 are in flight. Beside those there are n commits of client 8, which is idle; that it
+-- has a set adds nothing. The load is 28 + n.
 abbrev pub loaded : ℕ → Tables
 loaded n =
     record {
       sizes = sizes 8 4 4;
       latest = λ k. initial;
       view = λ d k. initial;
-      client = put (λ d. writer 15 8 (stampOf 1 d) 7) 8 (resting 5 nothing);
+      client = put (λ d. writer 15 8 (stampOf 1 d) 7) 8 (reader 15 0 0 0);
       versions = storedBy 1 ++ storedBy 2 ++ storedBy 3 ++ storedBy 4 ++ storedBy 5 ++ storedBy
           6 ++ storedBy 7;
       messages = map (λ d. Prepared 3 (stampOf 1 d)) (1 ∷ 2 ∷ 3 ∷ 4 ∷ 5 ∷ 6 ∷ 7 ∷ []) ++ replicate n

@@ -9,7 +9,7 @@ use Rattle.protocol.specs.Tables.{Sizes, Tables, Client, Ended, nothing,
 use Rattle.protocol.specs.Tables.{initial, resting, stampOf, put, withClient, withView}
 use Rattle.protocol.specs.Tables.{withLatest, withVersions, withMessages}
 use Rattle.protocol.proofs.Examples.Begin.{sizes, entry, version, reader, writer, loaded}
-use Rattle.protocol.proofs.Examples.Begin.{holding}
+use Rattle.protocol.proofs.Examples.Begin.{holding, both}
 
 -- ---- Fresh tables of two clients, partitions and items, but for one field
 
@@ -79,10 +79,10 @@ faults =
     ∷ withStored (version 1 0 1 1 1) ∷ withMessage (Prepare (version 1 0 1 1 1))
     -- a prepared reply or commit of the initial stamp
     ∷ withMessage (Prepared 1 0) ∷ withMessage (Commit 1 0)
-    -- awaited items outside the set; idle and yet awaiting; busy and awaiting none
+    -- awaited items outside the set; a write that awaits none; a write and a read at once
     ∷ withBusy (reader 2 3 0 0) ∷ withBusy (writer 2 1 (stampOf 1 2) 0) ∷ withBusy (reader 0 2 0 0)
-    ∷ withBusy (writer 0 2 (stampOf 1 2) 0) ∷ withBusy (reader 2 0 0 0)
-    ∷ withBusy (writer 2 0 (stampOf 1 2) 0)
+    ∷ withBusy (writer 0 2 (stampOf 1 2) 0) ∷ withBusy (writer 2 0 (stampOf 1 2) 0)
+    ∷ withBusy (both (reader 2 2 0 0) (writer 1 1 (stampOf 1 2) 0))
     -- load 129; 513 versions; 512 and a prepare
     ∷ loaded 101 ∷ holding 513 ∷ withMessages (holding 512) (Prepare (version 1 7 1 2 2) ∷ [])
     ∷ []

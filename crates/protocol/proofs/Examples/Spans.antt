@@ -12,7 +12,8 @@ use Rattle.hex.specs.Number.{bigEndian, numberAt}
 use Rattle.itemset.specs.Set.{has, upto, remove}
 use Rattle.protocol.specs.Range.{capacities, valid, inRange, stampInRange, sizesInRange}
 use Rattle.protocol.specs.Range.{entryInRange, versionInRange, messageInRange, endedInRange}
-use Rattle.protocol.specs.Range.{clientInRange, arrived, total, load, occupied, isPrepare}
+use Rattle.protocol.specs.Range.{clientInRange, readPartInRange, writePartInRange}
+use Rattle.protocol.specs.Range.{arrived, total, load, occupied, isPrepare}
 use Rattle.protocol.specs.Steps.{choice, stored, found, delivered, joined, touches}
 use Rattle.protocol.specs.Frame.{listed, frame}
 use Rattle.protocol.specs.Calls.{Call, startRead, startWrite, deliver, show, first, refusal}
@@ -73,7 +74,8 @@ pub spans : (whole written-first && whole between && storedBefore) ≡ true
 unfolding next after joining leaving staying begun landed storing joiningOver leavingOver isGet
     isGot itemOf outcomeIn delivers stays startsFor rests step refusal first unexpected missing
     isNothing effect reply written lent kindOf outcomeOf valid inRange sizesInRange stampInRange
-    entryInRange versionInRange messageInRange endedInRange clientInRange load arrived total
+    entryInRange versionInRange messageInRange endedInRange clientInRange readPartInRange
+    writePartInRange load arrived total
     occupied isPrepare choice stored found delivered joined touches listed frame every
     all counted without has upto remove ones onesIn bigEndian numberAt
 spans = refl

@@ -21,7 +21,8 @@ use Rattle.protocol.specs.declared.Entry.{Entry}
 use Rattle.protocol.specs.Tables.{Sizes, Tables, fresh, numberOf, writerOf}
 use Rattle.protocol.specs.Range.{capacities, valid, inRange, stampInRange, sizesInRange}
 use Rattle.protocol.specs.Range.{entryInRange, versionInRange, messageInRange, endedInRange}
-use Rattle.protocol.specs.Range.{clientInRange, arrived, total, load, occupied, isPrepare}
+use Rattle.protocol.specs.Range.{clientInRange, readPartInRange, writePartInRange}
+use Rattle.protocol.specs.Range.{arrived, total, load, occupied, isPrepare}
 use Rattle.protocol.specs.Steps.{choice, stored, found, delivered, joined, touches}
 use Rattle.protocol.specs.Frame.{listed, frame}
 use Rattle.protocol.specs.Calls.{Call, Given, first, refusal, freshAnswer, unexpected}
@@ -64,7 +65,8 @@ anything t = true
 unfoldable pub given : Tables → Call → Given
 unfolding step refusal first unexpected missing isNothing effect reply written lent kindOf outcomeOf
     valid inRange sizesInRange stampInRange entryInRange versionInRange messageInRange endedInRange
-    clientInRange load arrived total occupied isPrepare choice stored found delivered joined
+    clientInRange readPartInRange writePartInRange load arrived total occupied isPrepare choice
+    stored found delivered joined
     touches listed frame every all counted without has upto remove ones onesIn bigEndian
     numberAt
 given t c = step capacities t c

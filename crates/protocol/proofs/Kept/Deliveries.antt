@@ -106,11 +106,7 @@ range-joined t (Got d v latest) r h x =
     ∙ no-commits t (c .write .stamp))) (each-none (MessageInRange (t .sizes))))
     (λ e. each-upto (MessageInRange (t .sizes)) (λ p. Commit p (c .write .stamp))
     (t .sizes .partitions) (λ p. touches t s p (t .sizes .items)) (λ p b u.
-    record {
-      partition = b;
-      stamp =
-          one .write .stamp (one .stamped (eqb-false (c .read .set) 0 reads, eqb-false s 0 e));
-    })))
+    absurd (eqb-false (c .read .set) 0 reads (one .alone (eqb-false s 0 e) .0)))))
     (λ l. each-none (MessageInRange (t .sizes)))
 
 pub range-deliver : (caps : Capacities) (t : Tables) (i : ℕ) → AcceptedDeliver caps t i

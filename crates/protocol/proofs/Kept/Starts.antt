@@ -13,7 +13,7 @@ use Rattle.protocol.specs.declared.Entry.{Entry}
 use Rattle.protocol.specs.declared.Message.{Message}
 use Rattle.protocol.specs.declared.Message.the-variants.{Prepare, Get}
 use Rattle.protocol.specs.Tables.{Sizes, Tables, Client, withClient, withMessages}
-use Rattle.protocol.specs.Range.{Capacities, isIdle}
+use Rattle.protocol.specs.Range.{Capacities}
 use Rattle.protocol.specs.Steps.{choice, asks, reader, gets, nextStamp, valueOf, writer}
 use Rattle.protocol.specs.Steps.{version, prepares}
 use Rattle.protocol.specs.Calls.{startRead, startWrite, effect}
@@ -77,8 +77,7 @@ module _ (caps : Capacities) (t : Tables) (d s : ℕ) (a : AcceptedStart caps t 
           values = λ k e. omega arith;
         };
         write = range-no-write (t .sizes);
-        idle = refl;
-        stamped = λ p. absurd (p .1 refl);
+        alone = λ n. absurd (n refl);
         last = c .last;
       }
 
@@ -118,8 +117,7 @@ module _ (caps : Capacities) (t : Tables) (d s : ℕ) (bytes : List ℕ)
               λ n. range-next;
           values = λ k e. value-fits s bytes k;
         };
-        idle = refl;
-        stamped = λ p. absurd (p .0 refl);
+        alone = λ n. (refl, n);
         last = a .start .valid .inRange .client d (a .start .client) .last;
       }
 

@@ -2,7 +2,7 @@
 -- from are.
 use mathlib.Core.Bool.{true, false, not, _&&_, and-false}
 use mathlib.Core.List.{List, [], _∷_}
-use mathlib.Core.Logic.{inl, inr}
+use mathlib.Core.Logic.{_≢_, inl, inr}
 use mathlib.Core.Path.{_≡_, refl, sym, _∙_, subst}
 use Prim.Native.Nat.{ℕ, _^_, _<_, max}
 use native.Mathlib.Nat.{lt-of-le-of-lt}
@@ -12,12 +12,12 @@ use lib.Pow.{pow-pos}
 use borrow.Author.Tests.{leb-true, leb-false, eqb-true}
 use Rattle.basics.proofs.Cases.{by-test, not-both, and-right}
 use Rattle.itemset.specs.Set.{has, remove}
-use Rattle.itemset.proofs.Laws.{has-empty, has-remove, remove-le}
+use Rattle.itemset.proofs.Laws.{has-empty, has-remove, remove-le, set-empty}
 use Rattle.protocol.specs.declared.Version.{Version}
 use Rattle.protocol.specs.declared.Entry.{Entry}
-use Rattle.protocol.specs.Tables.{Sizes, Tables, Client, Ended, read, write, ofRead, ofWrite}
+use Rattle.protocol.specs.Tables.{Sizes, Tables, Client, ReadPart, Ended, read, write}
+use Rattle.protocol.specs.Tables.{ofRead, ofWrite}
 use Rattle.protocol.specs.Tables.{noRead, noWrite, laterOf, partitionOf, resting, put}
-use Rattle.protocol.specs.Range.{isIdle, awaitsNone}
 use Rattle.protocol.specs.Steps.{alike, stored, found, struck, answered, isLast, ended}
 use Rattle.protocol.specs.Steps.{prepared, got, seen, committed}
 use Rattle.protocol.proofs.Each.{Each}
@@ -111,8 +111,7 @@ range-resting z n e h r =
       count = h;
       read = range-no-read z;
       write = range-no-write z;
-      idle = refl;
-      stamped = λ p. absurd (p .0 refl);
+      alone = λ n. absurd (n refl);
       last = r;
     }
 
@@ -138,10 +137,18 @@ awaits-some a s k h e =
     by-test (eqb s 0) (λ z. not-both (h k e) (subst (λ (x : ℕ). has x k ≡ false)
     (sym (eqb-true s 0 z)) (has-empty k))) (λ z. z)
 
+-- and an empty one awaits none
+none-awaited : (z : Sizes) (p : ReadPart) → ReadPartInRange z p → p .set ≡ 0 → p .awaited ≡ 0
+none-awaited z p r e =
+    set-empty (p .awaited) (λ k. by-test (has (p .awaited) k)
+    (λ h. not-both (r .within k h) (rw e (has-empty k))) (λ h. h))
+
 pub range-prepared : (z : Sizes) (c : Client) (k : ℕ) → ClientInRange z c
     → has (c .write .awaited) k ≡ true → ClientInRange z (prepared c k)
 range-prepared z c k r m =
     let w = r .write in
+    let last-of : c .write .set ≢ 0 → remove (c .write .awaited) k ≡ 0 → isLast ofWrite c k ≡ true =
+    λ n e. rw (none-awaited z (c .read) (r .read) (r .alone n .0), e) refl in
     by-cond (ClientInRange z) (isLast ofWrite c k) _ _
     (λ l. range-resting z (c .count) (ended c) (r .count) (range-ended z c (r .read) w))
     (λ l. record {
@@ -154,9 +161,7 @@ range-prepared z c k r m =
         stamp = w .stamp;
         values = w .values;
       };
-      idle = rw (awaits-some (c .write .awaited) (c .write .set) k (w .within) m)
-          (and-false (eqb (c .read .set) 0)) ∙ sym l;
-      stamped = r .stamped;
+      alone = λ n. (r .alone n .0, λ e. not-both (last-of n e) l);
       last = r .last;
     })
 
@@ -182,7 +187,6 @@ range-got z c k value r m h =
       count = r .count;
       read = part;
       write = r .write;
-      idle = rw (awaits-some (c .read .awaited) (c .read .set) k (p .within) m) refl ∙ sym l;
-      stamped = r .stamped;
+      alone = r .alone;
       last = r .last;
     })

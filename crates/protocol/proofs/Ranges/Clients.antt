@@ -8,7 +8,8 @@ use Rattle.itemset.specs.Set.{has}
 use Rattle.itemset.proofs.Laws.{has-below}
 use Rattle.protocol.specs.Tables.{Sizes, Client, ReadPart, WritePart, Ended, nothing, read}
 use Rattle.protocol.specs.Tables.{write}
-use Rattle.protocol.specs.Range.{clientInRange, endedInRange, isIdle, awaitsNone}
+use Rattle.protocol.specs.Range.{readPartInRange, writePartInRange, clientInRange}
+use Rattle.protocol.specs.Range.{endedInRange}
 use Rattle.protocol.proofs.Ranges.Values.{StampInRange, parts}
 
 -- ---- The last ended transaction, clients
@@ -58,6 +59,24 @@ pub record ReadPartInRange (z : Sizes) (p : ReadPart) : Type 0 where
   pub asked : (k : ℕ) → has (p .set) k ≡ true → StampInRange z (p .asked k)
   pub values : (k : ℕ) → has (p .set) k ≡ true → p .values k < 2 ^ 32
 
+pub tells-read-part : (z : Sizes) (p : ReadPart)
+    → (readPartInRange z p ≡ true) ↔ ReadPartInRange z p
+unfolding readPartInRange
+tells-read-part z p = (
+  λ h.
+      let f = simp parts at h in
+      let within = each-has (p .awaited) (z .items) (f .0 .0 .1) (f .0 .1) in
+      let items = each-has (p .set) (z .items) (f .0 .0 .0) (f .1) in
+      record {
+        set = f .0 .0 .0;
+        awaited = f .0 .0 .1;
+        within = within;
+        asked = λ k e. items k e .0;
+        values = λ k e. items k e .1;
+      },
+  λ r. simp parts (((r .set, r .awaited), λ k l. r .within k), λ k l e. (r .asked k e, r .values k e)),
+)
+
 pub record WritePartInRange (z : Sizes) (p : WritePart) : Type 0 where
   pub set : p .set < 2 ^ z .items
   pub awaited : p .awaited < 2 ^ z .items
@@ -65,49 +84,44 @@ pub record WritePartInRange (z : Sizes) (p : WritePart) : Type 0 where
   pub stamp : StampInRange z (p .stamp)
   pub values : (k : ℕ) → has (p .set) k ≡ true → p .values k < 2 ^ 32
 
+pub tells-write-part : (z : Sizes) (p : WritePart)
+    → (writePartInRange z p ≡ true) ↔ WritePartInRange z p
+unfolding writePartInRange
+tells-write-part z p = (
+  λ h.
+      let f = simp parts at h in
+      let within = each-has (p .awaited) (z .items) (f .0 .0 .0 .1) (f .0 .0 .1) in
+      let values = each-has (p .set) (z .items) (f .0 .0 .0 .0) (f .1) in
+      record {
+        set = f .0 .0 .0 .0;
+        awaited = f .0 .0 .0 .1;
+        within = within;
+        stamp = f .0 .1;
+        values = values;
+      },
+  λ r. simp parts
+      ((((r .set, r .awaited), λ k l. r .within k), r .stamp), λ k l. r .values k),
+)
+
 pub record ClientInRange (z : Sizes) (c : Client) : Type 0 where
   pub count : c .count < 2 ^ 32
   pub read : ReadPartInRange z (c .read)
   pub write : WritePartInRange z (c .write)
-  pub idle : isIdle c ≡ awaitsNone c
-  pub stamped : (c .read .set ≢ 0) × (c .write .set ≢ 0) → c .write .stamp ≢ 0
+  pub alone : c .write .set ≢ 0 → (c .read .set ≡ 0) × (c .write .awaited ≢ 0)
   pub last : EndedInRange z (c .last)
 
 pub tells-client : (z : Sizes) (c : Client) → (clientInRange z c ≡ true) ↔ ClientInRange z c
 unfolding clientInRange
 tells-client z c = (
   λ h.
-      let f = simp (parts, tells-ended) at h in
-      let set : c .read .set < 2 ^ z .items = search in
-      let awaited : c .read .awaited < 2 ^ z .items = search in
-      let within = each-has (c .read .awaited) (z .items) awaited
-      (f .0 .0 .0 .0 .0 .0 .0 .0 .0 .1) in
-      let items = each-has (c .read .set) (z .items) set (f .0 .0 .0 .0 .0 .0 .0 .0 .1) in
-      let wset : c .write .set < 2 ^ z .items = search in
-      let wawaited : c .write .awaited < 2 ^ z .items = search in
-      let wwithin = each-has (c .write .awaited) (z .items) wawaited (f .0 .0 .0 .0 .0 .1) in
-      let witems = each-has (c .write .set) (z .items) wset (f .0 .0 .0 .1) in
+      let f = simp (parts, tells-read-part, tells-write-part, tells-ended) at h in
       record {
-        count = search;
-        read = record {
-          set = set;
-          awaited = awaited;
-          within = within;
-          asked =
-              λ k e. items k e .0;
-          values = λ k e. items k e .1;
-        };
-        write = record {
-          set = wset;
-          awaited = wawaited;
-          within = wwithin;
-          stamp =
-              f .0 .0 .0 .0 .1;
-          values = witems;
-        };
-        idle = f .0 .0 .1;
-        stamped = f .0 .1;
+        count = f .0 .0 .0 .0;
+        read = f .0 .0 .0 .1;
+        write = f .0 .0 .1;
+        alone = f .0 .1;
         last = f .1;
       },
-  λ r. simp (parts, tells-ended) (((((((((((((r .count, r .read .set), r .read .awaited), λ k l. r .read .within k), λ k l e. (r .read .asked k e, r .read .values k e)), r .write .set), r .write .awaited), λ k l. r .write .within k), r .write .stamp), λ k l. r .write .values k), r .idle), r .stamped), r .last)),
+  λ r. simp (parts, tells-read-part, tells-write-part, tells-ended)
+      ((((r .count, r .read), r .write), r .alone), r .last),
 )

@@ -5,7 +5,7 @@ use mathlib.Core.Logic.{_⊎_, inl, inr, ⊎-elim}
 use mathlib.Core.Path.{_≡_, refl, sym, ap, _∙_, subst}
 use Prim.Native.Nat.{ℕ}
 use lib.Dec.{eqb}
-use borrow.Author.Tests.{eqb-true, eq-eqb}
+use borrow.Author.Tests.{eqb-true, eq-eqb, eqb-false}
 use Rattle.basics.proofs.Cases.{by-test, not-both}
 use Rattle.basics.specs.Lists.{In, counted}
 use Rattle.itemset.specs.Set.{has, count, remove}
@@ -72,10 +72,12 @@ module _ (caps : Capacities) (v : World) (inv : Inv caps v) (d s : ℕ) (asked :
   not-started : (c : Call) → refusal caps (v .tables) c ≡ 0 → startsFor d c ≡ true → ⊥
   unfolding startsFor
   not-started (startRead e n) a t =
-      r .mode (subst (λ (x : ℕ). v .tables .client x .read .set ≡ 0) (eqb-true e d t)
+      eqb-false (v .tables .client d .read .awaited) 0 (r .busy)
+      (subst (λ (x : ℕ). v .tables .client x .read .awaited ≡ 0) (eqb-true e d t)
       (accepted-read caps (v .tables) e n .0 a .idle .read))
   not-started (startWrite e n bytes) a t =
-      r .mode (subst (λ (x : ℕ). v .tables .client x .read .set ≡ 0) (eqb-true e d t)
+      eqb-false (v .tables .client d .read .awaited) 0 (r .busy)
+      (subst (λ (x : ℕ). v .tables .client x .read .awaited ≡ 0) (eqb-true e d t)
       (accepted-write caps (v .tables) e n bytes .0 a .start .idle .read))
   not-started (deliver i) a t = not-both t refl
   not-started (show e output) a t = not-both t refl

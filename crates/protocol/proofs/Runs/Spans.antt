@@ -25,7 +25,7 @@ use Rattle.protocol.specs.World.{rests}
 use Rattle.protocol.proofs.Put.{put-same}
 use Rattle.protocol.proofs.Refusals.{Idle, AcceptedStart, accepted-read}
 use Rattle.protocol.proofs.Link.{Inv}
-use Rattle.protocol.proofs.Link.Step.{placed-in, fits, next-inv}
+use Rattle.protocol.proofs.Link.Step.{placed-in, fits, next-inv, in-message}
 use Rattle.protocol.proofs.Runs.Run.{next-all}
 use Rattle.protocol.proofs.Runs.Touch.{refused-outcome, Way, quiet, starts, answers, way}
 use Rattle.protocol.proofs.Runs.Touch.{answers-owner, no-answer}
@@ -109,11 +109,8 @@ module _ (caps : Capacities) (v : World) (inv : Inv caps v) (d : ℕ)
   rest-way a f (starts c t) = not-both
       (and-both (accepts caps v c) (startsFor d c) (eq-eqb (refusal caps (v .tables) c) 0 a) t) f
   rest-way a f (answers i here t) =
-      absurd (no-answer (inv .ledger) (v .tables .versions)
-      (v .tables .client (ownerOf (placed v i .message))) (placed v i .message) d t
-      (fits caps v inv (placed v i) here)
-      (subst (λ (x : ℕ). Idle (v .tables .client x))
-      (sym (answers-owner (placed v i .message) d t)) rested))
+      absurd (no-answer caps (inv .ledger) (v .tables) (inv .sound) (placed v i .message)
+      (in-message caps v inv (placed v i) here) d t rested)
 
   rest-step : (c : Call) → (accepts caps v c && startsFor d c) ≡ false
       → next caps v c .tables .client d ≡ v .tables .client d
@@ -141,11 +138,8 @@ rest-silent caps v inv d m c f =
     by-way a f (starts x t) = not-both
         (and-both (accepts caps v x) (startsFor d x) (eq-eqb (refusal caps (v .tables) x) 0 a) t) f
     by-way a f (answers i here t) =
-        absurd (no-answer (inv .ledger) (v .tables .versions)
-        (v .tables .client (ownerOf (placed v i .message))) (placed v i .message) d t
-        (fits caps v inv (placed v i) here)
-        (subst (λ (x : ℕ). Idle (v .tables .client x))
-        (sym (answers-owner (placed v i .message) d t)) m))
+        absurd (no-answer caps (inv .ledger) (v .tables) (inv .sound) (placed v i .message)
+        (in-message caps v inv (placed v i) here) d t m)
 
 pub rest-stays : (caps : Capacities) (v : World) → Inv caps v → (d : ℕ) → Idle (v .tables .client d)
     → (cs : List Call) → rests caps v d cs ≡ true

@@ -27,7 +27,9 @@ use Rattle.protocol.specs.World.{isGot, isRequest, isReply, ownerOf, sta
 use Rattle.protocol.specs.World.{outcomeIn, delivers, endsFor}
 use Rattle.protocol.proofs.Refusals.{Idle}
 use Rattle.protocol.proofs.Put.{put-other}
-use Rattle.protocol.proofs.Sound.{Ledger, Fits}
+use Rattle.protocol.proofs.Sound.{Ledger, Fits, SoundBy}
+use Rattle.protocol.proofs.Sound.Delivery.{no-message}
+use Rattle.protocol.proofs.Common.{hasItem}
 use Rattle.protocol.proofs.Link.{Inv}
 use Rattle.protocol.proofs.Link.Step.{placed-message}
 
@@ -109,6 +111,14 @@ no-outcome t (Prepared k s) d o f = not-both (eq-eqb (writerOf s) d o) f
 no-outcome t (Commit p s) d o f = refl
 no-outcome t (Get e k s) d o f = refl
 no-outcome t (Got e v latest) d o f = not-both (eq-eqb e d o) f
+
+answers-item : (m : Message) (d : ℕ) → answersTo d m ≡ true → hasItem m ≡ true
+unfolding hasItem answersTo
+answers-item (Prepare v) d e = refl
+answers-item (Prepared k s) d e = refl
+answers-item (Commit p s) d e = not-both e refl
+answers-item (Get c k s) d e = refl
+answers-item (Got c v latest) d e = refl
 
 pub answers-owner : (m : Message) (d : ℕ) → answersTo d m ≡ true → ownerOf m ≡ d
 unfolding ownerOf answersTo
@@ -258,11 +268,8 @@ prepared-of L vs c (Get e k s) d t f r = not-both t refl
 prepared-of L vs c (Got e v latest) d t f r = absurd (f .mode r)
 
 -- and an idle client has none
-pub no-answer : (L : Ledger) (vs : List Version) (c : Client) (m : Message) (d : ℕ)
-    → answersTo d m ≡ true → Fits L vs c m → Idle c → ⊥
-unfolding answersTo Fits
-no-answer L vs c (Prepare v) d t f r = not-both t refl
-no-answer L vs c (Prepared k s) d t f r = f .mode (r .write)
-no-answer L vs c (Commit p s) d t f r = not-both t refl
-no-answer L vs c (Get e k s) d t f r = not-both t refl
-no-answer L vs c (Got e v latest) d t f r = f .mode (r .read)
+pub no-answer : (caps : Capacities) (L : Ledger) (t : Tables) → SoundBy caps L t → (m : Message)
+    → In m (t .messages) → (d : ℕ) → answersTo d m ≡ true → Idle (t .client d) → ⊥
+no-answer caps L t sound m i d e idle =
+    no-message caps L t sound m i (answers-item m d e)
+    (subst (λ (x : ℕ). Idle (t .client x)) (sym (answers-owner m d e)) idle)

@@ -6,7 +6,7 @@ use mathlib.Core.Logic.{_⊎_, inl, inr, ⊎-elim, _≢_}
 use mathlib.Core.Path.{_≡_, refl, sym, ap, _∙_, subst}
 use Prim.Native.Nat.{ℕ, _≤_}
 use native.Mathlib.Nat.{le-refl}
-use lib.Dec.{ltb}
+use lib.Dec.{ltb, eqb}
 use borrow.Author.Tests.{eqb-true, eq-eqb, ltb-false}
 use Rattle.basics.proofs.Cases.{by-test, not-both, and-left, and-right, not-true}
 use Rattle.itemset.specs.Set.{has}
@@ -24,6 +24,7 @@ use Rattle.protocol.specs.World.{World, placed, accepts, moved, passed, 
 use Rattle.protocol.specs.World.{outcomeIn, delivers, endsFor, stays, startsFor}
 use Rattle.protocol.proofs.Put.{put-same}
 use Rattle.protocol.proofs.Refusals.{accepted-read, accepted-write}
+use Rattle.protocol.proofs.Ranges.Values.{IsClient}
 use Rattle.protocol.proofs.Link.{Inv}
 use Rattle.protocol.proofs.Link.Step.{placed-message, placed-in, fits, next-inv}
 use Rattle.protocol.proofs.Runs.Touch.{refused-outcome, delivered-outcome, Way, quiet}
@@ -77,14 +78,22 @@ module _ (t : Tables) (i k s : ℕ) (is-prepared : messageAt t i ≡ Prepared k 
 
 module _ (caps : Capacities) (v : World) (inv : Inv caps v) (d s stamp : ℕ)
     (r : Writing d s stamp v) where
+  -- a client that starts awaits nothing, and one that writes does
+  started : (e : ℕ) → eqb e d ≡ true → IsClient (v .tables .sizes) e
+      → v .tables .client e .write .awaited ≡ 0 → ⊥
+  started e t is-client none =
+      inv .sound .valid .inRange .client e is-client .alone
+      (subst (λ (x : ℕ). v .tables .client x .write .set ≢ 0) (sym (eqb-true e d t)) (r .mode)) .1
+      none
+
   not-started : (c : Call) → refusal caps (v .tables) c ≡ 0 → startsFor d c ≡ true → ⊥
   unfolding startsFor
   not-started (startRead e n) a t =
-      r .mode (subst (λ (x : ℕ). v .tables .client x .write .set ≡ 0) (eqb-true e d t)
-      (accepted-read caps (v .tables) e n .0 a .idle .write))
+      let s = accepted-read caps (v .tables) e n .0 a in
+      started e t (s .client) (s .idle .write)
   not-started (startWrite e n bytes) a t =
-      r .mode (subst (λ (x : ℕ). v .tables .client x .write .set ≡ 0) (eqb-true e d t)
-      (accepted-write caps (v .tables) e n bytes .0 a .start .idle .write))
+      let s = accepted-write caps (v .tables) e n bytes .0 a .start in
+      started e t (s .client) (s .idle .write)
   not-started (deliver i) a t = not-both t refl
   not-started (show e output) a t = not-both t refl
 

@@ -21,6 +21,7 @@ use Rattle.protocol.specs.Range.{Capacities}
 use Rattle.protocol.specs.Steps.{isLast, messageAt}
 use Rattle.protocol.specs.World.{ownerOf, itemOf}
 use Rattle.protocol.proofs.Ranges.Values.{IsClient}
+use Rattle.protocol.proofs.Refusals.{Idle, idle-awaits}
 use Rattle.protocol.proofs.Sound.{Ledger, SoundBy}
 use Rattle.protocol.proofs.Sound.Carry.{owner-client}
 use Rattle.protocol.proofs.Common.{isFor, hasItem, ofSide, side-of, leftOf, Like, like-self}
@@ -50,6 +51,17 @@ module _ (caps : Capacities) (L : Ledger) (t : Tables) (sound : SoundBy caps L t
       by-test (has (awaitedOf σ (t .client d)) k) (λ h. h)
       (λ f. let none : counted (isFor σ d k) (t .messages) ≡ 0 = sound .one σ d k c ∙ rw f refl in
       absurd (omega arith))
+
+  -- an idle client has no message in flight but commits
+  pub no-message : (m : Message) → In m (t .messages) → hasItem m ≡ true
+      → Idle (t .client (ownerOf m))
+      → ⊥
+  no-message m i e idle =
+      let side = side-of m e in
+      not-both
+      (awaited-in m i (side .0) (ownerOf m) (itemOf m) (owner-client caps L t sound m i)
+      (rw (side .1, eqb-same (ownerOf m)) (eqb-same (itemOf m))))
+      (idle-awaits (t .client (ownerOf m)) idle (side .0) (itemOf m))
 
   module _ (i : ℕ) (m : Message) (taken : Taken t i m) where
     pub none-left : (σ : Side) (d k : ℕ) → IsClient (t .sizes) d → isFor σ d k m ≡ true

@@ -18,17 +18,17 @@ use Rattle.protocol.specs.declared.Version.{Version}
 use Rattle.protocol.specs.declared.Message.{Message}
 use Rattle.protocol.specs.Tables.{Tables, Client, Side, ofRead, ofWrite, awaitedOf, Ended}
 use Rattle.protocol.specs.Tables.{nothing, read, write, withClient, withMessages}
-use Rattle.protocol.specs.Range.{Capacities, isIdle, awaitsNone}
+use Rattle.protocol.specs.Range.{Capacities}
 use Rattle.protocol.specs.World.{ownerOf, itemOf}
 use Rattle.protocol.proofs.Each.{each-append}
 use Rattle.protocol.proofs.Put.{put-every}
 use Rattle.protocol.proofs.Ranges.Values.{IsClient}
-use Rattle.protocol.proofs.Refusals.{Idle}
+use Rattle.protocol.proofs.Refusals.{Idle, idle-awaits}
 use Rattle.protocol.proofs.Ranges.Tables.{Valid}
 use Rattle.protocol.proofs.Sound.{Ledger, Kept, Counted, Writes, Last, Fits, SoundBy}
 use Rattle.protocol.proofs.Sound.Carry.{Carries, view-carried, latest-carried}
 use Rattle.protocol.proofs.Sound.Carry.{writes-carried, fits-carried}
-use Rattle.protocol.proofs.Sound.Delivery.{awaited-in}
+use Rattle.protocol.proofs.Sound.Delivery.{awaited-in, no-message}
 use Rattle.protocol.proofs.Sound.Counts.{counted-covered}
 use Rattle.protocol.proofs.Common.{isFor, hasItem, ofSide, side-of, Like, like-self}
 use Rattle.protocol.proofs.Common.{members-once}
@@ -71,23 +71,8 @@ module _ (caps : Capacities) (L : Ledger) (t : Tables) (sound : SoundBy caps L t
   abbrev t′ : Tables
   t′ = afterStart t d c′ ms
 
-  none-awaited : awaitsNone (t .client d) ≡ true
-  none-awaited = sym (sound .valid .inRange .client d is-client .idle)
-      ∙ rw (rests .read, rests .write) refl
-
   awaits-none : (σ : Side) (k : ℕ) → has (awaitedOf σ (t .client d)) k ≡ false
-  awaits-none ofRead k =
-      let none : t .client d .read .awaited ≡ 0 =
-      eqb-true (t .client d .read .awaited) 0
-      (and-left (eqb (t .client d .read .awaited) 0)
-      (eqb (t .client d .write .awaited) 0) none-awaited) in
-      rw none (has-empty k)
-  awaits-none ofWrite k =
-      let none : t .client d .write .awaited ≡ 0 =
-      eqb-true (t .client d .write .awaited) 0
-      (and-right (eqb (t .client d .read .awaited) 0)
-      (eqb (t .client d .write .awaited) 0) none-awaited) in
-      rw none (has-empty k)
+  awaits-none = idle-awaits (t .client d) rests
 
   one : (σ : Side) (e j : ℕ) → IsClient (t .sizes) e
       → counted (isFor σ e j) (t′ .messages) ≡ cond (has (awaitedOf σ (t′ .client e)) j) 1 0
@@ -106,12 +91,9 @@ module _ (caps : Capacities) (L : Ledger) (t : Tables) (sound : SoundBy caps L t
   likes : (x : Message) → In x (t .messages) → hasItem x ≡ true
       → Like (t .client (ownerOf x)) (t′ .client (ownerOf x))
   likes x p e =
-      let side = side-of x e in
       by-test (eqb (ownerOf x) d)
-      (λ u. not-both
-      (awaited-in caps L t sound x p (side .0) d (itemOf x) is-client
-      (rw (side .1, u) (eqb-same (itemOf x))))
-      (awaits-none (side .0) (itemOf x)))
+      (λ u. absurd (no-message caps L t sound x p e
+      (subst (λ (y : ℕ). Idle (t .client y)) (sym (eqb-true (ownerOf x) d u)) rests)))
       (λ u. rw u (like-self (t .client (ownerOf x))))
 
   counts : (e : ℕ) → t .client e .count ≤ t′ .client e .count
