@@ -5,7 +5,7 @@ use mathlib.Core.Path.{_≡_, _∙_}
 use Prim.Native.Nat.{ℕ}
 use lib.Dec.{lit<}
 use Rattle.itemset.specs.Set.{has}
-use Rattle.protocol.specs.Tables.{Client, Ended, nothing, read, write}
+use Rattle.protocol.specs.Tables.{Client, ReadPart, WritePart, Ended, nothing, read, write}
 use Rattle.protocol.specs.Range.{isWriting}
 use Rattle.layout.specs.Encodes.{numberOfMode, HoldsEnded, HoldsClient}
 use Rattle.layout.proofs.Room.{NarrowEnded, NarrowClient}
@@ -25,16 +25,24 @@ abbrev pub WordsEnded : Words → Ended → Type 0
 WordsEnded w e = EndedHold (w .scalar 5) (w .scalar 6) (w .scalar 7) (w .lastStamps)
     (w .lastValues) e
 
--- as `HoldsClient`, of a client's words
+-- as `HoldsRead`, `HoldsWrite` and `HoldsClient`, of a client's words
+pub record WordsRead (w : Words) (p : ReadPart) : Type 0 where
+  pub set : w .scalar 2 ≡ p .set
+  pub awaited : w .scalar 3 ≡ p .awaited
+  pub asked : (k : ℕ) → has (p .set) k ≡ true → w .asked k ≡ p .asked k
+  pub values : (k : ℕ) → has (p .set) k ≡ true → w .values k ≡ p .values k
+
+pub record WordsWrite (w : Words) (p : WritePart) : Type 0 where
+  pub set : w .scalar 2 ≡ p .set
+  pub awaited : w .scalar 3 ≡ p .awaited
+  pub stamp : w .scalar 4 ≡ p .stamp
+  pub values : (k : ℕ) → has (p .set) k ≡ true → w .values k ≡ p .values k
+
 pub record WordsHold (w : Words) (c : Client) : Type 0 where
-  pub mode : w .scalar 0 ≡ numberOfMode (c .mode)
+  pub mode : w .scalar 0 ≡ numberOfMode c
   pub count : w .scalar 1 ≡ c .count
-  pub set : w .scalar 2 ≡ c .set
-  pub awaited : w .scalar 3 ≡ c .awaited
-  pub stamp : isWriting (c .mode) ≡ true → w .scalar 4 ≡ c .stamp
-  pub asked : isWriting (c .mode) ≡ false → (k : ℕ) → has (c .set) k ≡ true
-      → w .asked k ≡ c .asked k
-  pub values : (k : ℕ) → has (c .set) k ≡ true → w .values k ≡ c .values k
+  pub read : isWriting c ≡ false → WordsRead w (c .read)
+  pub write : isWriting c ≡ true → WordsWrite w (c .write)
   pub last : WordsEnded w (c .last)
 
 ended-hold : (d : ℕ) (b : List ℕ) (e : Ended) → HoldsEnded b d e → WordsEnded (wordsOf b d) e
@@ -47,11 +55,18 @@ words-hold {d} {b} {c} h =
     record {
       mode = h .mode;
       count = h .count;
-      set = h .set;
-      awaited = h .awaited;
-      stamp = h .stamp;
-      asked = h .asked;
-      values = h .values;
+      read = λ x. let p = h .read x in record {
+        set = p .set;
+        awaited = p .awaited;
+        asked = p .asked;
+        values = p .values;
+      };
+      write = λ x. let p = h .write x in record {
+        set = p .set;
+        awaited = p .awaited;
+        stamp = p .stamp;
+        values = p .values;
+      };
       last = ended-hold d b (c .last) (h .last);
     }
 
@@ -79,11 +94,18 @@ holds-words {d} {b} {w} {c} k n h =
     record {
       mode = k .scalar 0 (lit< tt) ∙ h .mode;
       count = k .scalar 1 (lit< tt) ∙ h .count;
-      set = k .scalar 2 (lit< tt) ∙ h .set;
-      awaited = k .scalar 3 (lit< tt) ∙ h .awaited;
-      stamp = λ x. k .scalar 4 (lit< tt) ∙ h .stamp x;
-      asked = λ x j e. k .asked j (n .set j e) ∙ h .asked x j e;
-      values = λ j e. k .values j (n .set j e) ∙ h .values j e;
+      read = λ x. let p = h .read x in record {
+        set = k .scalar 2 (lit< tt) ∙ p .set;
+        awaited = k .scalar 3 (lit< tt) ∙ p .awaited;
+        asked = λ j e. k .asked j (n .read j e) ∙ p .asked j e;
+        values = λ j e. k .values j (n .read j e) ∙ p .values j e;
+      };
+      write = λ x. let p = h .write x in record {
+        set = k .scalar 2 (lit< tt) ∙ p .set;
+        awaited = k .scalar 3 (lit< tt) ∙ p .awaited;
+        stamp = k .scalar 4 (lit< tt) ∙ p .stamp;
+        values = λ j e. k .values j (n .write j e) ∙ p .values j e;
+      };
       last = holds-ended d b w k (c .last) (n .last) (h .last);
     }
 

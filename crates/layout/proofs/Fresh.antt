@@ -1,6 +1,6 @@
 -- A block after an accepted fresh holds fresh tables: its words are 0 but for the sizes.
 use mathlib.Core.List.{List}
-use mathlib.Core.Path.{_≡_, _∙_}
+use mathlib.Core.Path.{_≡_, refl, _∙_}
 use Prim.Native.Nat.{ℕ, _+_, _≤_, _<_}
 use native.Mathlib.Omega.{arith}
 use lib.Dec.{lit<}
@@ -77,11 +77,13 @@ module _ (b : List ℕ) (z : Sizes) (long : needed ≤ length b) where
       record {
         mode = zero 0 (lit< tt);
         count = zero 1 (lit< tt);
-        set = zero 2 (lit< tt);
-        awaited = zero 3 (lit< tt);
-        stamp = λ e. zero 4 (lit< tt);
-        asked = λ e k i. not-both i (has-empty k);
-        values = λ k i. not-both i (has-empty k);
+        read = λ e. record {
+          set = zero 2 (lit< tt);
+          awaited = zero 3 (lit< tt);
+          asked = λ k i. not-both i (has-empty k);
+          values = λ k i. not-both i (has-empty k);
+        };
+        write = λ e. not-both e refl;
         last = zero 5 (lit< tt);
       }
 

@@ -28,7 +28,8 @@ NarrowEnded (read s stamps vs) = Narrow s
 NarrowEnded (write s stamp vs) = Narrow s
 
 pub record NarrowClient (c : Client) : Type 0 where
-  pub set : Narrow (c .set)
+  pub read : Narrow (c .read .set)
+  pub write : Narrow (c .write .set)
   pub last : NarrowEnded (c .last)
 
 pub record Room (z : Sizes) (each : ℕ → Client) (versionCount messageCount : ℕ) : Type 0 where
@@ -52,9 +53,9 @@ narrow-ended z h (write s stamp vs) r = narrow-below s (z .items) (r .set) h
 
 pub narrow-client : (z : Sizes) → z .items ≤ 64 → (c : Client) → ClientInRange z c → NarrowClient c
 narrow-client z h c r = record {
-  set = narrow-below (c .set) (z .items) (r .set) h;
-  last =
-      narrow-ended z h (c .last) (r .last);
+  read = narrow-below (c .read .set) (z .items) (r .read .set) h;
+  write = narrow-below (c .write .set) (z .items) (r .write .set) h;
+  last = narrow-ended z h (c .last) (r .last);
 }
 
 pub room-valid : (t : Tables) → Valid capacities t → HasRoom t

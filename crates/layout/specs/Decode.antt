@@ -1,6 +1,6 @@
 -- The decoder: the tables that the words of a block are, initial outside the sizes, the counts and
 -- the sets; and which blocks are valid.
-use mathlib.Core.Bool.{Bool, true, false, cond, not, _&&_, _||_}
+use mathlib.Core.Bool.{Bool, cond, Bool·beq, _&&_}
 use mathlib.Core.List.{List, [], _∷_, _++_, map}
 use Prim.Native.Nat.{ℕ, zero, suc, _+_, min}
 use lib.Dec.{leb, ltb, eqb}
@@ -11,23 +11,17 @@ use Rattle.protocol.specs.declared.Version.{Version}
 use Rattle.protocol.specs.declared.Entry.{Entry}
 use Rattle.protocol.specs.declared.Message.{Message}
 use Rattle.protocol.specs.declared.Message.the-variants.{Prepare, Prepared, Commit, Get, Got}
-use Rattle.protocol.specs.Tables.{Sizes, Tables, Client, Mode, idle, reading, writing, Ended}
-use Rattle.protocol.specs.Tables.{nothing, read, write, initial, resting}
+use Rattle.protocol.specs.Tables.{Sizes, Tables, Client, noRead, noWrite, Ended, nothing, read}
+use Rattle.protocol.specs.Tables.{write, initial, resting}
 use Rattle.protocol.specs.Steps.{version}
-use Rattle.protocol.specs.Range.{capacities, valid, sizesInRange, isClient, isItem, isWriting}
-use Rattle.protocol.specs.Range.{everyClient}
+use Rattle.protocol.specs.Range.{capacities, valid, sizesInRange, isClient, isItem, everyClient}
 use Rattle.layout.specs.Layout.{header, scalars, latest, views, asked, values, lastStamps}
 use Rattle.layout.specs.Layout.{lastValues, versions, messages, needed, at, clientsAt}
 use Rattle.layout.specs.Layout.{partitionsAt, itemsAt, versionsAt, messagesAt, modeAt}
 use Rattle.layout.specs.Layout.{countAt, setAt, awaitedAt, stampAt, lastKindAt, lastSetAt}
 use Rattle.layout.specs.Layout.{lastStampAt, latestAt, viewAt, itemAt, versionAt, messageAt}
 
--- ---- numbers of modes, kinds and ended transactions
-
-unfoldable pub modeOf : ℕ → Mode
-modeOf zero = idle
-modeOf (suc zero) = reading
-modeOf (suc (suc n)) = writing
+-- ---- numbers of kinds and ended transactions
 
 -- only the items of s count
 abbrev pub within : ℕ → (ℕ → ℕ) → ℕ → ℕ
@@ -63,18 +57,27 @@ latestIn b k = record { stamp = at b latest (latestAt k); set = at b latest (lat
 abbrev pub viewIn : List ℕ → ℕ → ℕ → Entry
 viewIn b d k = record { stamp = at b views (viewAt d k); set = at b views (viewAt d k + 1) }
 
+-- mode 2 is a write under way; in any other the words are those of a read part
 unfoldable pub clientIn : List ℕ → ℕ → Client
 clientIn b d =
-    let mode = modeOf (at b scalars (modeAt d)) in
+    let writes = eqb (at b scalars (modeAt d)) 2 in
     let s = at b scalars (setAt d) in
+    let awaited = at b scalars (awaitedAt d) in
+    let answers = within s (λ j. at b values (itemAt d j)) in
     record {
-      mode = mode;
       count = at b scalars (countAt d);
-      set = s;
-      awaited = at b scalars (awaitedAt d);
-      asked = λ k. cond (isWriting mode) 0 (within s (λ j. at b asked (itemAt d j)) k);
-      stamp = cond (isWriting mode) (at b scalars (stampAt d)) 0;
-      values = within s (λ j. at b values (itemAt d j));
+      read = cond writes noRead (record {
+        set = s;
+        awaited = awaited;
+        asked = within s (λ j. at b asked (itemAt d j));
+        values = answers;
+      });
+      write = cond writes (record {
+        set = s;
+        awaited = awaited;
+        stamp = at b scalars (stampAt d);
+        values = answers;
+      }) noWrite;
       last = endedOf (at b scalars (lastKindAt d)) (at b scalars (lastSetAt d))
           (at b scalars (lastStampAt d))
           (λ j. at b lastStamps (itemAt d j)) (λ j. at b lastValues (itemAt d j));
@@ -109,13 +112,18 @@ tablesOf b =
       messages = table (min (at b header messagesAt) 128) (messageIn b);
     }
 
+-- a mode is 0 idle, 1 reading or 2 writing, and idle exactly when no item is awaited
+abbrev pub modeFits : List ℕ → ℕ → Bool
+modeFits b d =
+    let mode = at b scalars (modeAt d) in
+    ltb mode 3 && Bool·beq (eqb mode 0) (eqb (at b scalars (awaitedAt d)) 0)
+
 -- modes, kinds and counts are the numbers of some
 unfoldable pub wellFormed : List ℕ → Bool
 wellFormed b =
     leb needed (length b) && sizesInRange (sizesIn b) && leb (at b header versionsAt) 512
     && leb (at b header messagesAt) 128
-    && everyClient (sizesIn b) (λ d. ltb (at b scalars (modeAt d)) 3
-    && ltb (at b scalars (lastKindAt d)) 3)
+    && everyClient (sizesIn b) (λ d. modeFits b d && ltb (at b scalars (lastKindAt d)) 3)
     && every (at b header messagesAt) (λ i. leb 1 (kindIn b i) && leb (kindIn b i) 5)
 
 -- not refused by 1: the words are those of tables that are in range and within the capacities

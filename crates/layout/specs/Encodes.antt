@@ -1,5 +1,5 @@
 -- When a block holds tables, word by word, with no mention of the decoder.
-use mathlib.Core.Bool.{Bool, true, false}
+use mathlib.Core.Bool.{Bool, true, false, cond}
 use mathlib.Core.List.{List, [], _∷_}
 use mathlib.Core.Path.{_≡_}
 use Prim.Native.Nat.{ℕ, _+_, _≤_, _<_}
@@ -9,9 +9,8 @@ use Rattle.protocol.specs.declared.Version.{Version}
 use Rattle.protocol.specs.declared.Entry.{Entry}
 use Rattle.protocol.specs.declared.Message.{Message}
 use Rattle.protocol.specs.declared.Message.the-variants.{Prepare, Prepared, Commit, Get, Got}
-use Rattle.protocol.specs.Tables.{Tables, Client, Mode, idle, reading, writing, Ended, nothing}
-use Rattle.protocol.specs.Tables.{read, write}
-use Rattle.protocol.specs.Range.{isWriting}
+use Rattle.protocol.specs.Tables.{Tables, Client, ReadPart, WritePart, Ended, nothing, read, write}
+use Rattle.protocol.specs.Range.{isIdle, isWriting}
 use Rattle.layout.specs.Layout.{Section, header, scalars, latest, views, asked, values}
 use Rattle.layout.specs.Layout.{lastStamps, lastValues, versions, messages, needed, at}
 use Rattle.layout.specs.Layout.{clientsAt, partitionsAt, itemsAt, versionsAt, messagesAt}
@@ -21,10 +20,8 @@ use Rattle.layout.specs.Layout.{messageAt}
 
 -- ---- the numbers
 
-abbrev pub numberOfMode : Mode → ℕ
-numberOfMode idle = 0
-numberOfMode reading = 1
-numberOfMode writing = 2
+abbrev pub numberOfMode : Client → ℕ
+numberOfMode c = cond (isIdle c) 0 (cond (isWriting c) 2 1)
 
 abbrev pub numberOfEnded : Ended → ℕ
 numberOfEnded nothing = 0
@@ -72,16 +69,26 @@ HoldsEnded b d (write s stamp vs) =
     × (at b scalars (lastStampAt d) ≡ stamp)
     × ((k : ℕ) → has s k ≡ true → at b lastValues (itemAt d k) ≡ vs k)
 
+-- the words of the transaction under way, as a read part and as a write part of client d: for the
+-- items of its set, and no others
+pub record HoldsRead (b : List ℕ) (d : ℕ) (p : ReadPart) : Type 0 where
+  pub set : at b scalars (setAt d) ≡ p .set
+  pub awaited : at b scalars (awaitedAt d) ≡ p .awaited
+  pub asked : (k : ℕ) → has (p .set) k ≡ true → at b asked (itemAt d k) ≡ p .asked k
+  pub values : (k : ℕ) → has (p .set) k ≡ true → at b values (itemAt d k) ≡ p .values k
+
+pub record HoldsWrite (b : List ℕ) (d : ℕ) (p : WritePart) : Type 0 where
+  pub set : at b scalars (setAt d) ≡ p .set
+  pub awaited : at b scalars (awaitedAt d) ≡ p .awaited
+  pub stamp : at b scalars (stampAt d) ≡ p .stamp
+  pub values : (k : ℕ) → has (p .set) k ≡ true → at b values (itemAt d k) ≡ p .values k
+
+-- they are those of the write part, where there is one, and else of the read part
 pub record HoldsClient (b : List ℕ) (d : ℕ) (c : Client) : Type 0 where
-  pub mode : at b scalars (modeAt d) ≡ numberOfMode (c .mode)
+  pub mode : at b scalars (modeAt d) ≡ numberOfMode c
   pub count : at b scalars (countAt d) ≡ c .count
-  pub set : at b scalars (setAt d) ≡ c .set
-  pub awaited : at b scalars (awaitedAt d) ≡ c .awaited
-  -- a write has one stamp for all its items, any other client one for each item of its set
-  pub stamp : isWriting (c .mode) ≡ true → at b scalars (stampAt d) ≡ c .stamp
-  pub asked : isWriting (c .mode) ≡ false → (k : ℕ) → has (c .set) k ≡ true
-      → at b asked (itemAt d k) ≡ c .asked k
-  pub values : (k : ℕ) → has (c .set) k ≡ true → at b values (itemAt d k) ≡ c .values k
+  pub read : isWriting c ≡ false → HoldsRead b d (c .read)
+  pub write : isWriting c ≡ true → HoldsWrite b d (c .write)
   pub last : HoldsEnded b d (c .last)
 
 -- ---- the whole

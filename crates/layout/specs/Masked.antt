@@ -7,7 +7,8 @@ use Rattle.protocol.specs.declared.Entry.{Entry}
 use Rattle.protocol.specs.declared.Version.{Version}
 use Rattle.protocol.specs.declared.Message.{Message}
 use Rattle.protocol.specs.declared.Message.the-variants.{Prepare, Prepared, Commit, Get, Got}
-use Rattle.protocol.specs.Tables.{Tables, Client, Ended, nothing, read, write, initial, resting}
+use Rattle.protocol.specs.Tables.{Tables, Client, noRead, noWrite, Ended, nothing, read, write}
+use Rattle.protocol.specs.Tables.{initial, resting}
 use Rattle.protocol.specs.Range.{isClient, isItem, isWriting}
 use Rattle.basics.specs.Lists.{In}
 
@@ -20,11 +21,13 @@ MaskedEnded nothing = Unit
 MaskedEnded (read s stamps vs) = Only s stamps × Only s vs
 MaskedEnded (write s stamp vs) = Only s vs
 
+-- a client has one part, and the other is empty
 pub record MaskedClient (c : Client) : Type 0 where
-  pub asked : Only (c .set) (c .asked)
-  pub values : Only (c .set) (c .values)
-  pub writing : isWriting (c .mode) ≡ true → (k : ℕ) → c .asked k ≡ 0
-  pub others : isWriting (c .mode) ≡ false → c .stamp ≡ 0
+  pub asked : Only (c .read .set) (c .read .asked)
+  pub answers : Only (c .read .set) (c .read .values)
+  pub values : Only (c .write .set) (c .write .values)
+  pub writing : isWriting c ≡ true → c .read ≡ noRead
+  pub others : isWriting c ≡ false → c .write ≡ noWrite
   pub last : MaskedEnded (c .last)
 
 -- a got's version has the empty set
