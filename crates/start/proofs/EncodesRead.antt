@@ -7,14 +7,15 @@ use Prim.Native.Nat.{ℕ, _<_}
 use native.Mathlib.Omega.{arith}
 use lib.Dec.{lit<}
 use lib.ListN.{length}
+use borrow.Author.Tests.{ne-eqb}
 use Rattle.basics.proofs.Cases.{not-both}
 use Rattle.basics.specs.Fold.{upTo}
 use Rattle.itemset.specs.Set.{has}
-use Rattle.itemset.proofs.Laws.{has-below}
+use Rattle.itemset.proofs.Laws.{has-below, has-empty}
 use Rattle.protocol.specs.declared.Message.{Message}
 use Rattle.protocol.specs.declared.Message.the-variants.{Get}
 use Rattle.protocol.specs.Tables.{Tables, withClient, withMessages}
-use Rattle.protocol.specs.Range.{capacities, isWriting, load}
+use Rattle.protocol.specs.Range.{capacities, load}
 use Rattle.protocol.specs.Steps.{choice, asks, reader, startedRead}
 use Rattle.protocol.proofs.Put.{put-same}
 use Rattle.protocol.proofs.Refusals.{AcceptedStart}
@@ -62,25 +63,27 @@ module _ (b : List ℕ) (t : Tables) (d s : ℕ) (n : Encodes b t)
       s (lit< tt)) 3 s (lit< tt)
 
   reader-hold : WordsHold readerWords (reader t d s)
-  unfolding isWriting
   reader-hold =
       let held = words-hold (n .client d (a .client .0) (a .client .1)) in
       record {
-        mode = refl;
+        mode = rw (ne-eqb s 0 (a .some)) refl;
         count = ap (λ (f : ℕ → ℕ). f 1) (filled .scalar) ∙ held .count;
-        set = refl;
-        awaited = refl;
-        stamp = λ e. not-both e refl;
-        asked = λ e k i. let l : k < items = has-below s k items (a .set) i in
-            rw i (filled .done .asked k l i ∙ chosen k l);
-        values = λ k i. filled .done .values k (has-below s k items (a .set) i) i;
+        read = λ e. record {
+          set = refl;
+          awaited = refl;
+          asked = λ k i. let l : k < items = has-below s k items (a .set) i in
+              rw i (filled .done .asked k l i ∙ chosen k l);
+          values = λ k i. filled .done .values k (has-below s k items (a .set) i) i;
+        };
+        write = λ e. not-both e refl;
         last = filled-last filled (t .client d .last) (held .last);
       }
 
   narrow-reader : NarrowClient (reader t d s)
   narrow-reader =
       record {
-        set = narrow-below s items (a .set) (room .items);
+        read = narrow-below s items (a .set) (room .items);
+        write = λ k e. not-both e (has-empty k);
         last = room .client d (a .client .0) (a .client .1) .last;
       }
 
@@ -94,12 +97,11 @@ module _ (b : List ℕ) (t : Tables) (d s : ℕ) (n : Encodes b t)
   get-made : (x : List ℕ) (ms : List Message) → Encodes x (withMessages busyTables ms) → (k : ℕ)
       → k < items → has s k ≡ true
       → _≡_ {A = Message} (Get d k (at x asked (itemAt d k))) (Get d k (asks t d k))
-  unfolding isWriting
   get-made x ms h k l i =
       let held : HoldsClient x d (reader t d s) =
       subst (HoldsClient x d) (put-same (t .client) d (reader t d s))
       (h .client d (a .client .0) (a .client .1)) in
-      let stamp : at x asked (itemAt d k) ≡ asks t d k = rw i at (held .asked refl k i) in
+      let stamp : at x asked (itemAt d k) ≡ asks t d k = rw i at (held .read refl .asked k i) in
       ap (Get d k) stamp
 
   pub encodes-read : Encodes (readStarted b d s) (startedRead t d s)

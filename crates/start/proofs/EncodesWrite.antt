@@ -1,20 +1,21 @@
 -- A block that holds tables, after the start of a write, holds the tables after that start: the
 -- client's words are those of the writer, and a prepare joins for each item of the set.
-use mathlib.Core.Bool.{true}
+use mathlib.Core.Bool.{true, false}
 use mathlib.Core.List.{List}
 use mathlib.Core.Path.{_≡_, refl, sym, ap, _∙_, subst}
 use Prim.Native.Nat.{ℕ, suc, _<_}
 use native.Mathlib.Omega.{arith}
-use lib.Dec.{lit<}
+use lib.Dec.{lit<, eqb}
 use lib.ListN.{length}
+use borrow.Author.Tests.{ne-eqb}
 use Rattle.basics.proofs.Cases.{not-both}
 use Rattle.basics.specs.Fold.{upTo}
 use Rattle.itemset.specs.Set.{has}
-use Rattle.itemset.proofs.Laws.{has-below}
+use Rattle.itemset.proofs.Laws.{has-below, has-empty}
 use Rattle.protocol.specs.declared.Message.{Message}
 use Rattle.protocol.specs.declared.Message.the-variants.{Prepare}
 use Rattle.protocol.specs.Tables.{Tables, withClient, withMessages}
-use Rattle.protocol.specs.Range.{capacities, isWriting, load}
+use Rattle.protocol.specs.Range.{capacities, load}
 use Rattle.protocol.specs.Steps.{version, valueOf, nextStamp, writer, startedWrite}
 use Rattle.protocol.proofs.Put.{put-same}
 use Rattle.protocol.proofs.Refusals.{AcceptedStart, AcceptedWrite}
@@ -47,6 +48,9 @@ module _ (b : List ℕ) (t : Tables) (d s : ℕ) (bytes : List ℕ) (n : Encodes
   abbrev number : ℕ
   number = suc (t .client d .count)
 
+  some : eqb s 0 ≡ false
+  some = ne-eqb s 0 (a .some)
+
   room : HasRoom t
   room = room-valid t (a .valid)
 
@@ -75,24 +79,27 @@ module _ (b : List ℕ) (t : Tables) (d s : ℕ) (bytes : List ℕ) (n : Encodes
       4 (nextStamp t d) (lit< tt)
 
   writer-hold : WordsHold writerWords (writer t d s bytes)
-  unfolding isWriting
   writer-hold =
       let held = words-hold (n .client d (a .client .0) (a .client .1)) in
       record {
-        mode = refl;
+        mode = rw some refl;
         count = refl;
-        set = refl;
-        awaited = refl;
-        stamp = λ e. refl;
-        asked = λ e k i. not-both refl e;
-        values = λ k i. filled .done k (has-below s k items (a .set) i) i ∙ value-bytes s bytes k i;
+        read = λ e. not-both (rw some refl) e;
+        write = λ e. record {
+          set = refl;
+          awaited = refl;
+          stamp = refl;
+          values = λ k i.
+              filled .done k (has-below s k items (a .set) i) i ∙ value-bytes s bytes k i;
+        };
         last = filled-last filled (t .client d .last) (held .last);
       }
 
   narrow-writer : NarrowClient (writer t d s bytes)
   narrow-writer =
       record {
-        set = narrow-below s items (a .set) (room .items);
+        read = λ k e. not-both e (has-empty k);
+        write = narrow-below s items (a .set) (room .items);
         last = room .client d (a .client .0) (a .client .1) .last;
       }
 
@@ -113,7 +120,7 @@ module _ (b : List ℕ) (t : Tables) (d s : ℕ) (bytes : List ℕ) (n : Encodes
       let held : HoldsClient x d (writer t d s bytes) =
       subst (HoldsClient x d) (put-same (t .client) d (writer t d s bytes))
       (h .client d (a .client .0) (a .client .1)) in
-      ap (λ (v : ℕ). prepareOf v k) (held .values k i)
+      ap (λ (v : ℕ). prepareOf v k) (held .write (rw some refl) .values k i)
 
   pub encodes-write : Encodes (writeStarted b d s bytes) (startedWrite t d s bytes)
   unfolding load
