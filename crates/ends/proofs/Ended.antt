@@ -10,6 +10,7 @@ use Rattle.basics.specs.Fold.{upTo}
 use Rattle.itemset.specs.Set.{has}
 use Rattle.itemset.proofs.Laws.{has-below}
 use Rattle.protocol.specs.Tables.{Tables, read, write, resting, withClient, withView}
+use Rattle.protocol.specs.Range.{isWriting}
 use Rattle.protocol.specs.Steps.{seen}
 use Rattle.layout.specs.Encodes.{Encodes, HoldsClient}
 use Rattle.layout.proofs.Room.{HasRoom, narrow-below}
@@ -24,14 +25,14 @@ use Rattle.ends.proofs.Rests.{ended-changed, narrow-resting, rests-read
 
 pub encodes-write-kept : {b : List ℕ} {t : Tables} (d stamp : ℕ) → Encodes b t → HasRoom t → 1 ≤ d
     → d ≤ t .sizes .clients
-    → t .client d .set < 2 ^ t .sizes .items
-    → Encodes (writeKept b (t .sizes .items) d (t .client d .set) stamp)
+    → isWriting (t .client d) ≡ true → t .client d .write .set < 2 ^ t .sizes .items
+    → Encodes (writeKept b (t .sizes .items) d (t .client d .write .set) stamp)
     (withView (withClient t d (resting (t .client d .count)
-    (write (t .client d .set) stamp (t .client d .values)))) d
-    (seen (t .view d) (t .client d .set) stamp))
+    (write (t .client d .write .set) stamp (t .client d .write .values)))) d
+    (seen (t .view d) (t .client d .write .set) stamp))
 unfolding writeKept
-encodes-write-kept {b} {t} d stamp n r first last set =
-    let s = t .client d .set in
+encodes-write-kept {b} {t} d stamp n r first last writes set =
+    let s = t .client d .write .set in
     let items = t .sizes .items in
     let b₁ = upTo (seeItem d s stamp) b items in
     let e : Encodes b₁ (withView t d (seen (t .view d) s stamp)) =
@@ -40,10 +41,10 @@ encodes-write-kept {b} {t} d stamp n r first last set =
     let v = values-taken s (changed-none d b₁ first (omega (arith, r .clients)) (e .long)) items
     (r .items) in
     encodes-changed e r last (changed-scalar (ended-changed 2 s (v .changed)) 7 stamp (lit< tt))
-    (narrow-resting (t .client d .count) (write s stamp (t .client d .values))
+    (narrow-resting (t .client d .count) (write s stamp (t .client d .write .values))
     (narrow-below s items set (r .items)))
-    (rests-write _ (t .client d .count) s stamp (t .client d .values) (h .count)
-    (λ k m. v .taken k (has-below s k items set m) m ∙ h .values k m))
+    (rests-write _ (t .client d .count) s stamp (t .client d .write .values) (h .count)
+    (λ k m. v .taken k (has-below s k items set m) m ∙ h .write writes .values k m))
 
 -- ---- a read: its stamps and answers go over
 

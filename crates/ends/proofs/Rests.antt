@@ -8,7 +8,6 @@ use Rattle.basics.proofs.Cases.{not-both}
 use Rattle.itemset.specs.Set.{has}
 use Rattle.itemset.proofs.Laws.{has-empty}
 use Rattle.protocol.specs.Tables.{Ended, read, write, resting}
-use Rattle.protocol.specs.Range.{isWriting}
 use Rattle.layout.proofs.Room.{NarrowEnded, NarrowClient}
 use Rattle.layout.proofs.ClientWords.{Words, putScalar}
 use Rattle.layout.proofs.ClientHolds.{WordsHold, WordsEnded}
@@ -30,22 +29,27 @@ ended-changed kind s c =
 
 pub narrow-resting : (count : ℕ) (last : Ended) → NarrowEnded last
     → NarrowClient (resting count last)
-narrow-resting count last n = record { set = λ k e. not-both e (has-empty k); last = n }
+narrow-resting count last n = record {
+  read = λ k e. not-both e (has-empty k);
+  write = λ k e. not-both e (has-empty k);
+  last = n;
+}
 
 -- words with mode, set and awaited 0
 rests : (w : Words) (count : ℕ) (last : Ended) → w .scalar 0 ≡ 0 → w .scalar 1 ≡ count
     → w .scalar 2 ≡ 0 → w .scalar 3 ≡ 0
     → WordsEnded w last → WordsHold w (resting count last)
-unfolding isWriting
 rests w count last mode counted set awaited ended =
     record {
       mode = mode;
       count = counted;
-      set = set;
-      awaited = awaited;
-      stamp = λ x. not-both x refl;
-      asked = λ x k e. not-both e (has-empty k);
-      values = λ k e. not-both e (has-empty k);
+      read = λ x. record {
+        set = set;
+        awaited = awaited;
+        asked = λ k e. not-both e (has-empty k);
+        values = λ k e. not-both e (has-empty k);
+      };
+      write = λ x. not-both x refl;
       last = ended;
     }
 
