@@ -67,8 +67,7 @@ module _ {b : List ℕ} {t : Tables} (i : ℕ) (n : Encodes b t)
   value-read : testedIn b (at b header versionsAt) (messageAt t i) .value ≡ answerOf t
       (messageAt t i)
   value-read =
-      ap (λ (x : Tested). x .value)
-      (tested-tables (messageAt t i) n (a .valid .inRange) (accepted-message capacities t i a))
+      tested-tables (messageAt t i) n (a .valid .inRange) (accepted-message capacities t i a) .value
 
   pub encodes-deliver : Encodes (deliveredBlock b i) (deliveredAt t i)
   unfolding deliveredBlock

@@ -24,7 +24,7 @@ use Rattle.deliver.specs.declared.Counts.{Counts}
 use Rattle.deliver.specs.Tests.{Bounded}
 use Rattle.ends.specs.Room.{keep}
 use Rattle.deliver.specs.Deliver.{prepareDelivered, preparedDelivered, commitVersion}
-use Rattle.deliver.specs.Deliver.{commitDelivered, getDelivered, answered, gotDelivered}
+use Rattle.deliver.specs.Deliver.{commitDelivered, getDelivered, keptAnswer, gotDelivered}
 use Rattle.deliver.specs.Deliver.{messageDelivered}
 
 past-take-out : (b : List ℕ) (n i : ℕ) → i < n → n ≤ 128 → SamePast b (takeOut b n i)
@@ -66,10 +66,10 @@ past-work b n value (Got d v entry) h r =
     past-trans
     (past-trans (past-entry b views (viewAt d (v .item)) _ (omega arith))
     (past-store _ values (itemAt d (v .item)) (v .value) (omega arith)))
-    (by-cond (SamePast (answered b d v entry))
+    (by-cond (SamePast (keptAnswer b d v entry))
     (eqb (remove (at b scalars (awaitedAt d)) (v .item)) 0) _ _
-    (λ e. past-read-ended d (r .0) (r .1) (answered b d v entry) (n .items) h)
-    (λ e. past-scalar d (r .0) (r .1) (answered b d v entry) 3 _ (lit< tt)))
+    (λ e. past-read-ended d (r .0) (r .1) (keptAnswer b d v entry) (n .items) h)
+    (λ e. past-scalar d (r .0) (r .1) (keptAnswer b d v entry) 3 _ (lit< tt)))
 
 -- of n messages the one at place i
 pub past-deliver : (b : List ℕ) (n i : ℕ) (counts : Counts) (value : ℕ) (m : Message) → i < n

@@ -1,24 +1,27 @@
 -- A prepared reply on the block is a prepared reply in the tables: the client goes on, or with the
 -- last one its write ends and commits join.
-use mathlib.Core.Bool.{cond}
+use mathlib.Core.Bool.{true, false, cond}
 use mathlib.Core.List.{List, [], _++_, append-nil}
-use mathlib.Core.Path.{_≡_, refl, sym, subst}
+use mathlib.Core.Path.{_≡_, refl, sym, _∙_, subst}
 use Prim.Native.Nat.{ℕ, _^_, _≤_, _<_}
 use native.Mathlib.Omega.{arith}
 use lib.Dec.{eqb, lit<}
 use lib.ListN.{length}
 use borrow.Author.Tests.{eqb-true}
-use Rattle.basics.proofs.Cases.{by-test}
+use Rattle.basics.proofs.Cases.{by-test, not-true}
 use Rattle.basics.specs.Fold.{upTo}
-use Rattle.itemset.specs.Set.{remove}
+use Rattle.itemset.specs.Set.{has, remove}
 use Rattle.protocol.specs.declared.Message.{Message}
 use Rattle.protocol.specs.declared.Message.the-variants.{Prepared}
-use Rattle.protocol.specs.Tables.{Tables, Client, write, writerOf, resting, put, withClient}
+use Rattle.protocol.specs.Tables.{Tables, Client, ofWrite, write, writerOf, resting, put, withClient}
 use Rattle.protocol.specs.Tables.{withView, withMessages}
+use Rattle.protocol.specs.Range.{isIdle, isWriting}
 use Rattle.protocol.specs.Steps.{struck, isLast, seen, delivered, touches, commits, joined}
+use Rattle.protocol.proofs.Ranges.Clients.{ClientInRange}
 use Rattle.layout.specs.Layout.{scalars, at, store, awaitedAt}
 use Rattle.layout.specs.Encodes.{Encodes, HoldsClient}
 use Rattle.layout.proofs.Room.{HasRoom, narrow-below}
+use Rattle.layout.proofs.Parts.{awaits-reply, awaits-busy, no-answer-awaited}
 use Rattle.layout.proofs.ClientWords.{wordsOf}
 use Rattle.layout.proofs.ClientHolds.{words-hold}
 use Rattle.layout.proofs.Changed.{changed-none, changed-scalar, encodes-changed}
@@ -36,8 +39,9 @@ module _ {b : List ℕ} (t : Tables) (ms : List Message) (k stamp : ℕ)
     (n : Encodes b (withMessages t ms)) (r : HasRoom (withMessages t ms))
     (some : 1 ≤ t .sizes .partitions) (few : t .sizes .partitions ≤ 8) (first : 1 ≤ writerOf stamp)
     (last : writerOf stamp ≤ t .sizes .clients)
-    (set : t .client (writerOf stamp) .set < 2 ^ t .sizes .items)
-    (own : t .client (writerOf stamp) .stamp ≡ stamp) where
+    (range : ClientInRange (t .sizes) (t .client (writerOf stamp)))
+    (awaits : has (t .client (writerOf stamp) .write .awaited) k ≡ true)
+    (own : t .client (writerOf stamp) .write .stamp ≡ stamp) where
   abbrev d : ℕ
   d = writerOf stamp
 
@@ -47,59 +51,74 @@ module _ {b : List ℕ} (t : Tables) (ms : List Message) (k stamp : ℕ)
   held : HoldsClient b d c
   held = n .client d first last
 
+  writes : isWriting c ≡ true
+  writes = awaits-reply (t .sizes) c range k awaits
+
+  busy : isIdle c ≡ false
+  busy = awaits-busy (t .sizes) c range ofWrite k awaits
+
+  some-set : eqb (c .write .set) 0 ≡ false
+  some-set = not-true (eqb (c .write .set) 0) writes
+
+  none : c .read .awaited ≡ 0
+  none = no-answer-awaited (t .sizes) c range writes
+
+  -- the last item of the write part is the last of all
+  last-word : isLast ofWrite c k ≡ eqb (remove (c .write .awaited) k) 0
+  last-word = rw none refl
+
   -- with the last one
   abbrev over : Tables
-  over = withView (withClient t d (resting (c .count) (write (c .set) (c .stamp) (c .values)))) d
-      (seen (t .view d) (c .set) stamp)
+  over = withView (withClient t d (resting (c .count) (write (c .write .set) (c .write .stamp) (c .write .values)))) d
+      (seen (t .view d) (c .write .set) stamp)
 
-  rested : Encodes (writeKept b (t .sizes .items) d (c .set) stamp) (withMessages over ms)
+  rested : Encodes (writeKept b (t .sizes .items) d (c .write .set) stamp) (withMessages over ms)
   rested =
       subst
       (λ (z : ℕ).
-      Encodes (writeKept b (t .sizes .items) d (c .set) stamp)
-      (withMessages (withView (withClient t d (resting (c .count) (write (c .set) z (c .values)))) d
-      (seen (t .view d) (c .set) stamp)) ms))
-      (sym own) (encodes-write-kept d stamp n r first last set)
+      Encodes (writeKept b (t .sizes .items) d (c .write .set) stamp)
+      (withMessages (withView (withClient t d (resting (c .count) (write (c .write .set) z (c .write .values)))) d
+      (seen (t .view d) (c .write .set) stamp)) ms))
+      (sym own) (encodes-write-kept d stamp n r first last writes (range .write .set))
 
   room-over : HasRoom (withMessages over ms)
   room-over =
       room-client (withMessages t ms) d
-      (resting (c .count) (write (c .set) (c .stamp) (c .values))) r
-      (narrow-resting (c .count) (write (c .set) (c .stamp) (c .values))
-      (narrow-below (c .set) (t .sizes .items) set (r .items)))
+      (resting (c .count) (write (c .write .set) (c .write .stamp) (c .write .values))) r
+      (narrow-resting (c .count) (write (c .write .set) (c .write .stamp) (c .write .values))
+      (narrow-below (c .write .set) (t .sizes .items) (range .write .set) (r .items)))
 
-  ends : length (ms ++ commits t (c .set) stamp) ≤ 128
+  ends : length (ms ++ commits t (c .write .set) stamp) ≤ 128
       → Encodes (writeEnded b (t .sizes .partitions) (t .sizes .items) d stamp)
-      (withMessages over (ms ++ commits t (c .set) stamp))
+      (withMessages over (ms ++ commits t (c .write .set) stamp))
   unfolding writeEnded
   ends room =
       subst
       (λ (s : ℕ).
       Encodes (upTo (sendCommit (touched (t .sizes .partitions) s (t .sizes .items)) stamp)
       (writeKept b (t .sizes .items) d s stamp) (t .sizes .partitions))
-      (withMessages over (ms ++ commits t (c .set) stamp)))
-      (sym (held .set))
+      (withMessages over (ms ++ commits t (c .write .set) stamp)))
+      (sym (held .write writes .set))
       (encodes-commits (withMessages over ms)
-      (touched (t .sizes .partitions) (c .set) (t .sizes .items)) stamp (t .sizes .partitions)
-      (λ p. touches t (c .set) p (t .sizes .items))
-      (λ p l. has-touched t some few (c .set) (t .sizes .items) p) room-over room rested)
+      (touched (t .sizes .partitions) (c .write .set) (t .sizes .items)) stamp (t .sizes .partitions)
+      (λ p. touches t (c .write .set) p (t .sizes .items))
+      (λ p l. has-touched t some few (c .write .set) (t .sizes .items) p) room-over room rested)
 
   -- before the last one
-  goes-on : Encodes (store b scalars (awaitedAt d) (remove (c .awaited) k))
-      (withMessages (withView (withClient t d (struck c k (c .values))) d (t .view d)) (ms ++ []))
-  goes-on =
+  goes-on : isLast ofWrite c k ≡ false → Encodes (store b scalars (awaitedAt d) (remove (c .write .awaited) k))
+      (withMessages (withView (withClient t d (struck c k)) d (t .view d)) (ms ++ []))
+  goes-on more =
       subst
       (λ (x : List Message).
-      Encodes (store b scalars (awaitedAt d) (remove (c .awaited) k))
-      (withMessages (withView (withClient t d (struck c k (c .values))) d (t .view d)) x))
+      Encodes (store b scalars (awaitedAt d) (remove (c .write .awaited) k))
+      (withMessages (withView (withClient t d (struck c k)) d (t .view d)) x))
       (sym (append-nil ms))
       (encodes-same-view (put (t .view) d (t .view d))
       (encodes-changed n r last
       (changed-scalar (changed-none d b first (omega (arith, r .clients)) (n .long)) 3
-      (remove (c .awaited) k) (lit< tt))
-      (narrow-struck c k (c .values) (r .client d first last))
-      (words-struck (wordsOf b d) c k (wordsOf b d .values) (c .values) (words-hold held)
-      (held .values)))
+      (remove (c .write .awaited) k) (lit< tt))
+      (narrow-struck c k (r .client d first last))
+      (words-struck (wordsOf b d) c k (words-hold held) busy writes more))
       (λ e p q j g. by-test (eqb e d) (λ x. rw (x, eqb-true e d x) refl) (λ x. rw x refl)))
 
   pub encodes-prepared : length (ms ++ joined t (Prepared k stamp)) ≤ 128
@@ -113,5 +132,7 @@ module _ {b : List ℕ} (t : Tables) (ms : List Message) (k stamp : ℕ)
       (cond (eqb (remove z k) 0) (writeEnded b (t .sizes .partitions) (t .sizes .items) d stamp)
       (store b scalars (awaitedAt d) (remove z k)))
       (withMessages (delivered t (Prepared k stamp)) (ms ++ joined t (Prepared k stamp))))
-      (sym (held .awaited))
-      (by-test (isLast c k) (λ e. rw e (ends (rw e at room))) (λ e. rw e goes-on))
+      (sym (held .write writes .awaited))
+      (by-test (eqb (remove (c .write .awaited) k) 0)
+      (λ e. rw (e, none, some-set) (ends (rw (e, none) at room)))
+      (λ e. rw (last-word ∙ e, e) (goes-on (last-word ∙ e))))

@@ -10,7 +10,7 @@ use Rattle.protocol.specs.Tables.{writerOf}
 use Rattle.layout.specs.Layout.{scalars, at, store, awaitedAt}
 use Rattle.ends.specs.Ends.{readEnded, writeEnded}
 use Rattle.ends.proofs.Chosen.{when, unless}
-use Rattle.deliver.specs.Deliver.{answered, preparedDelivered, gotDelivered}
+use Rattle.deliver.specs.Deliver.{keptAnswer, preparedDelivered, gotDelivered}
 
 module _ (b y : List ℕ) (partitions items k stamp awaited rest : ℕ)
     (e : awaited ≡ at b scalars (awaitedAt (writerOf stamp)))
@@ -32,7 +32,7 @@ module _ (b y : List ℕ) (partitions items k stamp awaited rest : ℕ)
 
 module _ (b x y : List ℕ) (items d : ℕ) (v : Version) (latest : Entry) (awaited rest : ℕ)
     (e : awaited ≡ at b scalars (awaitedAt d))
-    (r : rest ≡ remove awaited (v .item)) (a : x ≡ answered b d v latest) where
+    (r : rest ≡ remove awaited (v .item)) (a : x ≡ keptAnswer b d v latest) where
   struck-got : rest ≡ remove (at b scalars (awaitedAt d)) (v .item)
   struck-got = r ∙ ap (λ (z : ℕ). remove z (v .item)) e
 
@@ -48,4 +48,4 @@ module _ (b x y : List ℕ) (items d : ℕ) (v : Version) (latest : Entry) (awai
       unless _ _ _ _ (ne-eqb _ _ (λ u. z (struck-got ∙ u)))
       (h
       ∙ (ap (λ (u : List ℕ). store u scalars (awaitedAt d) rest) a
-      ∙ ap (store (answered b d v latest) scalars (awaitedAt d)) struck-got))
+      ∙ ap (store (keptAnswer b d v latest) scalars (awaitedAt d)) struck-got))

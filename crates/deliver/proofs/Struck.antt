@@ -1,10 +1,12 @@
 -- An item is struck from those that a client awaits: one word, and for an answer the value's.
-use mathlib.Core.Bool.{true}
-use mathlib.Core.Path.{_≡_, refl}
+use mathlib.Core.Bool.{true, false}
+use mathlib.Core.Path.{_≡_, refl, _∙_}
 use Prim.Native.Nat.{ℕ}
+use Rattle.basics.proofs.Cases.{not-both}
 use Rattle.itemset.specs.Set.{has, remove}
-use Rattle.protocol.specs.Tables.{Client, put}
-use Rattle.protocol.specs.Steps.{struck}
+use Rattle.protocol.specs.Tables.{Client, ofRead, ofWrite, put}
+use Rattle.protocol.specs.Range.{isIdle, isWriting}
+use Rattle.protocol.specs.Steps.{answered, struck, isLast}
 use Rattle.layout.proofs.Room.{NarrowClient}
 use Rattle.layout.proofs.ClientWords.{Words}
 use Rattle.layout.proofs.ClientHolds.{WordsHold}
@@ -21,21 +23,37 @@ struckWords w rest vs =
       lastValues = w .lastValues;
     }
 
-pub words-struck : (w : Words) (c : Client) (k : ℕ) (vs values : ℕ → ℕ) → WordsHold w c
-    → ((j : ℕ) → has (c .set) j ≡ true → vs j ≡ values j)
-    → WordsHold (struckWords w (remove (c .awaited) k) vs) (struck c k values)
-words-struck w c k vs values h same =
-    record {
-      mode = h .mode;
-      count = h .count;
-      set = h .set;
-      awaited = refl;
-      stamp = h .stamp;
-      asked = h .asked;
-      values = same;
-      last = h .last;
-    }
+module _ (w : Words) (c : Client) (k : ℕ) (h : WordsHold w c) (busy : isIdle c ≡ false) where
+  -- an answer to a read that goes on
+  pub words-answered : (value : ℕ) (vs : ℕ → ℕ) → isWriting c ≡ false → isLast ofRead c k ≡ false
+      → ((j : ℕ) → has (c .read .set) j ≡ true → vs j ≡ put (c .read .values) k value j)
+      → WordsHold (struckWords w (remove (c .read .awaited) k) vs) (answered c k value)
+  words-answered value vs reads more same =
+      let p = h .read reads in
+      record {
+        mode = h .mode ∙ rw (busy, more) refl;
+        count = h .count;
+        read = λ x. record { set = p .set; awaited = refl; asked = p .asked; values = same };
+        write = λ x. not-both x reads;
+        last = h .last;
+      }
 
-pub narrow-struck : (c : Client) (k : ℕ) (values : ℕ → ℕ) → NarrowClient c
-    → NarrowClient (struck c k values)
-narrow-struck c k values n = record { set = n .set; last = n .last }
+  -- a reply to a write that goes on
+  pub words-struck : isWriting c ≡ true → isLast ofWrite c k ≡ false
+      → WordsHold (struckWords w (remove (c .write .awaited) k) (w .values)) (struck c k)
+  words-struck writes more =
+      let p = h .write writes in
+      record {
+        mode = h .mode ∙ rw (busy, more) refl;
+        count = h .count;
+        read = λ x. not-both writes x;
+        write = λ x. record { set = p .set; awaited = refl; stamp = p .stamp; values = p .values };
+        last = h .last;
+      }
+
+-- neither makes a set wider
+pub narrow-answered : (c : Client) (k value : ℕ) → NarrowClient c → NarrowClient (answered c k value)
+narrow-answered c k value n = record { read = n .read; write = n .write; last = n .last }
+
+pub narrow-struck : (c : Client) (k : ℕ) → NarrowClient c → NarrowClient (struck c k)
+narrow-struck c k n = record { read = n .read; write = n .write; last = n .last }

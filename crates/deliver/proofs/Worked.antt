@@ -1,22 +1,28 @@
 -- The work of each message on the block is its work in the tables, with its new messages at the
 -- end.
+use mathlib.Core.Bool.{true, cond}
 use mathlib.Core.List.{List, [], _∷_, _++_, append-nil}
-use mathlib.Core.Path.{_≡_, sym, subst}
+use mathlib.Core.Path.{_≡_, refl, sym, ap, _∙_, subst}
 use Prim.Native.Nat.{ℕ, _≤_, _<_}
 use native.Mathlib.Omega.{arith}
 use lib.ListN.{length, length-append}
+use Rattle.basics.proofs.Cases.{by-test}
+use Rattle.itemset.specs.Set.{has}
 use Rattle.protocol.specs.declared.Version.{Version}
 use Rattle.protocol.specs.declared.Entry.{Entry}
 use Rattle.protocol.specs.declared.Message.{Message}
 use Rattle.protocol.specs.declared.Message.the-variants.{Prepare, Prepared, Commit, Get, Got}
-use Rattle.protocol.specs.Tables.{Tables, withVersions, withMessages}
-use Rattle.protocol.specs.Steps.{version, found, delivered, joined}
+use Rattle.protocol.specs.Tables.{Tables, ofRead, withVersions, withMessages}
+use Rattle.protocol.specs.Steps.{version, found, delivered, joined, isLast, commits}
 use Rattle.protocol.proofs.Ranges.Values.{MessageInRange}
 use Rattle.protocol.proofs.Ranges.Tables.{InRange}
+use Rattle.protocol.proofs.Ranges.Clients.{ClientInRange}
 use Rattle.protocol.proofs.Refusals.{Expected}
+use Rattle.protocol.proofs.Common.{no-commits}
 use Rattle.layout.specs.Decode.{latestIn}
 use Rattle.layout.specs.Encodes.{Encodes}
 use Rattle.layout.proofs.Room.{HasRoom}
+use Rattle.layout.proofs.Parts.{awaits-answer, writes-nothing}
 use Rattle.deliver.specs.declared.Counts.{Counts}
 use Rattle.ends.specs.Room.{send}
 use Rattle.deliver.specs.Deliver.{prepareDelivered, commitDelivered, getDelivered}
@@ -82,6 +88,18 @@ module _ {b : List ℕ} (t : Tables) (ms : List Message) (n : Encodes b (withMes
       (encodes-send (Got d (version k value stamp 0) (t .latest k)) n r
       (omega (arith, length-append ms (Got d (version k value stamp 0) (t .latest k) ∷ [])))))
 
+  -- with no write part no commit joins
+  got-joins : (d : ℕ) (v : Version) → ClientInRange (t .sizes) (t .client d)
+      → has (t .client d .read .awaited) (v .item) ≡ true
+      → cond (isLast ofRead (t .client d) (v .item))
+      (commits t (t .client d .write .set) (t .client d .write .stamp)) [] ≡ []
+  got-joins d v range e =
+      let c = t .client d in
+      let reads = awaits-answer (t .sizes) c range (v .item) e in
+      by-test (isLast ofRead c (v .item))
+      (λ l. rw (l, writes-nothing (t .sizes) c range reads) (no-commits t (c .write .stamp)))
+      (λ l. rw l refl)
+
   pub encodes-work : (m : Message) (value : ℕ) → InRange t → MessageInRange (t .sizes) m
       → Expected t m → value ≡ answerOf t m
       → length (delivered t m .versions) ≤ 512 → length (ms ++ joined t m) ≤ 128
@@ -92,7 +110,7 @@ module _ {b : List ℕ} (t : Tables) (ms : List Message) (n : Encodes b (withMes
   encodes-work (Prepared k stamp) value z i e same versions messages =
       let w = i .stamp .writer in
       encodes-prepared t ms k stamp n r (z .sizes .somePartition) (z .sizes .partitions) (w .0)
-      (w .1) (z .client _ w .set) (e .stamp) messages
+      (w .1) (z .client _ w) (e .awaited) (e .stamp) messages
   encodes-work (Commit p stamp) value z i e same versions messages =
       subst (λ (x : List Message). Encodes
       (commitDelivered b (t .sizes .partitions) (length (t .versions)) p stamp)
@@ -114,6 +132,8 @@ module _ {b : List ℕ} (t : Tables) (ms : List Message) (n : Encodes b (withMes
           )
   encodes-work (Got d v latest) value z i e same versions messages =
       subst (λ (x : List Message). Encodes (gotDelivered b (t .sizes .items) d v latest)
-      (withMessages (delivered t (Got d v latest)) x)) (sym (append-nil ms))
-      (encodes-got d v latest n r (i .client .0) (i .client .1) (i .item) (e .mode)
-      (z .client d (i .client) .set))
+      (withMessages (delivered t (Got d v latest)) x))
+      (sym (ap (λ (x : List Message). ms ++ x) (got-joins d v (z .client d (i .client)) (e .awaited))
+      ∙ append-nil ms))
+      (encodes-got d v latest n r (i .client .0) (i .client .1) (i .item) (z .client d (i .client))
+      (e .awaited))

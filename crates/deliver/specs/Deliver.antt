@@ -55,15 +55,15 @@ getDelivered b value d k stamp = send b (Got d (version k value stamp 0) (latest
 
 -- ---- Got: the version is kept as the answer, the view takes the later; with the last one the read ends
 
-abbrev pub answered : List ℕ → ℕ → Version → Entry → List ℕ
-answered b d v latest =
+abbrev pub keptAnswer : List ℕ → ℕ → Version → Entry → List ℕ
+keptAnswer b d v latest =
     store (storeView b d (v .item) (laterOf (viewIn b d (v .item)) latest)) values
     (itemAt d (v .item)) (v .value)
 
 unfoldable pub gotDelivered : List ℕ → ℕ → ℕ → Version → Entry → List ℕ
 gotDelivered b items d v latest =
     let rest = remove (at b scalars (awaitedAt d)) (v .item) in
-    let kept = answered b d v latest in
+    let kept = keptAnswer b d v latest in
     cond (eqb rest 0) (readEnded kept items d) (store kept scalars (awaitedAt d) rest)
 
 -- ---- the message at place i is taken out, and does its work

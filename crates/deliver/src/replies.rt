@@ -2,7 +2,7 @@
 ghost use mathlib.Core.Path.{_≡_};
 ghost use Prim.Native.Nat.{_≤_, _<_};
 ghost use Rattle.protocol.specs.Tables.{writerOf};
-ghost use Rattle.deliver.specs.Deliver.{preparedDelivered, answered, gotDelivered};
+ghost use Rattle.deliver.specs.Deliver.{preparedDelivered, keptAnswer, gotDelivered};
 use ends::read::read_end;
 use ends::write::write_end;
 use itemset::remove;
@@ -31,7 +31,7 @@ pub fn prepared(b: &mut [u64], partitions: u64, items: u64, item: u64, stamp: u6
 // The version is the answer for its item, and the item's view entry becomes the later of itself and the reply's latest.
 fn answer(b: &mut [u64], d: u64, v: Version, latest: Entry)
     requires { ⌜ (1 ≤ d) × (d ≤ 8) × (v .item < 64) ⌝ }
-    ensures { λ _. ⌜ now (b .exit) ≡ answered (now (b .entry)) d v latest ⌝ }
+    ensures { λ _. ⌜ now (b .exit) ≡ keptAnswer (now (b .entry)) d v latest ⌝ }
 {
     let entry = view(b, d, v.item).later(latest);
     put_view(b, d, v.item, entry);
