@@ -20,12 +20,15 @@ use Rattle.layout.specs.Layout.{at, header, scalars, clientsAt, partitionsAt, i
 use Rattle.layout.specs.Layout.{messagesAt, modeAt, lastKindAt, needed}
 use Rattle.layout.specs.Decode.{sizesIn, latestIn, viewIn, clientIn, versionIn, messageIn, kindIn}
 use Rattle.layout.specs.Decode.{tablesOf, wellFormed, validBlock}
-use Rattle.range.specs.Sized.{sizes, sized}
-use Rattle.range.specs.Clients.{clientTest}
-use Rattle.range.specs.Messages.{messageTest}
+use Rattle.gather.specs.Sized.{sizes, sized}
+use Rattle.gather.proofs.Tested.{every-same, every-both}
+use Rattle.gather.proofs.Sizes.{entry-sized, version-sized, client-sized}
+use Rattle.range_client.specs.Clients.{clientTest}
+use Rattle.range_message.specs.Messages.{messageTest}
+use Rattle.range.specs.Entries.{entryFrom}
 use Rattle.range.specs.Block.{tablesTest}
-use Rattle.range.proofs.Sizes.{entry-sized, version-sized, client-sized}
-use Rattle.range.proofs.Folds.{every-same, every-both, all-table}
+use Rattle.range.proofs.Folds.{all-table}
+use Rattle.range.proofs.EntryTests.{entries-tests}
 use Rattle.range.proofs.WellFormed.{client-test, tells-valid-block}
 use Rattle.range.proofs.CapacityTests.{load-words, occupied-words}
 
@@ -149,19 +152,19 @@ module _ (b : List ℕ) where
 -- ---- From the outcomes of the tests
 
 pub tables-tests : (b : List ℕ) (clients partitions items versions messages : ℕ)
-    {latest view client stored flight : Bool} {full used : ℕ}
-    → latest ≡ every items (λ k. entryInRange (sized clients items) (latestIn b k))
-    → view ≡ every clients (λ i. every items (λ k. entryInRange (sized clients items)
-    (viewIn b (suc i) k)))
+    {entries client stored flight : Bool} {full used : ℕ}
+    → entries ≡ every (suc clients) (λ i. every items (λ k. entryInRange (sized clients items)
+    (entryFrom b i k)))
     → client ≡ every clients (λ i. clientTest b (suc i) clients items)
     → stored ≡ every versions (λ i. versionInRange (sized clients items) (versionIn b i))
     → flight ≡ every messages (λ i. messageTest b i clients partitions items)
     → full ≡ messages + total clients (λ d. arrived (clientIn b d))
     → used ≡ versions + counted isPrepare (table messages (messageIn b))
-    → (latest && view && client && stored && flight && leb full 128 && leb used 512) ≡ tablesTest b
-    clients partitions items versions messages
+    → (entries && client && stored && flight && leb full 128 && leb used 512)
+    ≡ tablesTest b clients partitions items versions messages
 unfolding tablesTest
-tables-tests b clients partitions items versions messages p q r s t u v = rw (p, q, r, s, t, u, v)
+tables-tests b clients partitions items versions messages p q r s t u =
+    rw (p, q, r, s, t, u, entries-tests b clients items)
 
 -- ---- The header's words
 

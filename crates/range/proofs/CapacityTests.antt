@@ -20,7 +20,7 @@ use Rattle.layout.specs.Decode.{sizesIn, clientIn, kindIn, messageOf, versionIn
 use Rattle.layout.specs.Decode.{tablesOf}
 use Rattle.range.proofs.Folds.{total-same}
 use Rattle.range.proofs.WellFormed.{client-test}
-use Rattle.range.proofs.ClientTests.{is-writing}
+use Rattle.range_client.proofs.ClientTests.{is-writing}
 
 -- ---- One client, one message
 

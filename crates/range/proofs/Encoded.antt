@@ -14,7 +14,7 @@ use Rattle.layout.specs.Layout.{versionsAt}
 use Rattle.layout.specs.Layout.{modeAt, lastKindAt, lastSetAt, lastStampAt, setAt, itemAt}
 use Rattle.layout.specs.Decode.{sizesIn, modeOf, endedOf, clientIn, versionIn, messageIn, tablesOf}
 use Rattle.layout.specs.Decode.{wellFormed}
-use Rattle.layout.specs.Encodes.{numberOfMode, word, HoldsVersion, HoldsMessage, HoldsEnded}
+use Rattle.layout.specs.Encodes.{numberOfMode, HoldsVersion, HoldsMessage, HoldsEnded}
 use Rattle.layout.specs.Encodes.{HoldsClient, Encodes}
 use Rattle.layout.proofs.Held.{held-version, held-message}
 use Rattle.range.proofs.WellFormed.{client-test, tells-well-formed}

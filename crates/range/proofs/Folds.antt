@@ -1,14 +1,13 @@
--- Tests and sums over the places of a table, of numbers below a bound and of clients: what they
--- take from each place.
-use mathlib.Core.Bool.{Bool, true, cond, _&&_}
+-- Tests and sums over the places of a table and over clients: what they take from each.
+use mathlib.Core.Bool.{Bool, true, cond}
 use mathlib.Core.List.{List, [], _∷_}
 use mathlib.Core.Path.{_≡_, refl, sym, ap, _∙_}
-use Prim.Native.Nat.{ℕ, zero, suc, _+_, _≤_, _<_, zero-le}
+use Prim.Native.Nat.{ℕ, zero, suc, _+_, _≤_, _<_}
 use native.Mathlib.Numerals.{add-one}
 use native.Mathlib.Omega.{arith}
 use lib.ListN.{length, getD}
 use lib.Seq.{ext-getD}
-use Rattle.basics.proofs.Cases.{test-ext, and-left, and-right, and-both}
+use Rattle.basics.proofs.Cases.{test-ext}
 use Rattle.basics.specs.Lists.{all, counted, every, table}
 use Rattle.basics.proofs.Lists.{in-getD, all-in, in-all, counted-append, every-at, at-every}
 use Rattle.basics.proofs.Lists.{length-table, table-at}
@@ -106,37 +105,3 @@ total-next f i sum here e h = rw (e, h, add-one i)
 -- a sum that is counted to its end
 pub at-end : (whole : ℕ → ℕ) {n i sum : ℕ} → i ≤ n → n ≤ i → sum ≡ whole i → sum ≡ whole n
 at-end whole {n = n} {i = i} l h e = let same : i ≡ n = omega arith in e ∙ ap whole same
-
--- ---- Numbers below a bound
-
--- `ok` is the outcome of the tests of the first k numbers of n: what a loop over them keeps
-pub record SoFar (n : ℕ) (p : ℕ → Bool) (k : ℕ) (ok : Bool) : Type 0 where
-  pub within : k ≤ n
-  pub tested : ok ≡ every k p
-
-module _ {n : ℕ} {p : ℕ → Bool} where
-  pub tested-none : SoFar n p 0 true
-  unfolding every
-  tested-none = record { within = zero-le; tested = refl }
-
-  pub tested-next : {k : ℕ} {ok here : Bool} → SoFar n p k ok → k < n → here ≡ p k
-      → SoFar n p (k + 1) (ok && here)
-  unfolding every
-  tested-next {k = k} s l h = record { within = omega arith; tested = rw (add-one k, s .tested, h) }
-
-  pub tested-all : {k : ℕ} {ok : Bool} → SoFar n p k ok → n ≤ k → ok ≡ every n p
-  tested-all {k = k} s l = let whole : k ≡ n = omega arith in
-      s .tested ∙ ap (λ (m : ℕ). every m p) whole
-
-pub every-same : (n : ℕ) (p q : ℕ → Bool) → ((k : ℕ) → k < n → p k ≡ q k) → every n p ≡ every n q
-unfolding every
-every-same zero p q h = refl
-every-same (suc n) p q h = rw (every-same n p q (λ k l. h k (omega arith)), h n (omega arith))
-
-pub every-both : (n : ℕ) (p q : ℕ → Bool) → (every n p && every n q) ≡ every n (λ k. p k && q k)
-every-both n p q =
-    test-ext _ _
-    (λ e. at-every n _ (λ k l. and-both (p k) (q k) (every-at n p (and-left _ _ e) k l)
-    (every-at n q (and-right (every n p) _ e) k l)))
-    (λ e. and-both _ _ (at-every n p (λ k l. and-left (p k) (q k) (every-at n _ e k l)))
-    (at-every n q (λ k l. and-right (p k) (q k) (every-at n _ e k l))))

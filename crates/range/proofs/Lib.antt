@@ -7,10 +7,6 @@ pub mod Decoded
 pub mod ValidIff
 pub mod MaskedTables
 pub mod MaskedStep
-pub mod Sizes
-pub mod Bits
-pub mod Gathered
-pub mod ClientTests
-pub mod MessageTests
+pub mod EntryTests
 pub mod CapacityTests
 pub mod BlockTests

@@ -6,9 +6,9 @@ use lib.Dec.{leb}
 use Rattle.basics.specs.Lists.{every, counted, table}
 use Rattle.protocol.specs.Range.{entryInRange, versionInRange, arrived, total, isPrepare}
 use Rattle.layout.specs.Decode.{latestIn, viewIn, clientIn, versionIn, messageIn}
-use Rattle.range.specs.Sized.{sized}
-use Rattle.range.specs.Clients.{clientTest}
-use Rattle.range.specs.Messages.{messageTest}
+use Rattle.gather.specs.Sized.{sized}
+use Rattle.range_client.specs.Clients.{clientTest}
+use Rattle.range_message.specs.Messages.{messageTest}
 
 unfoldable pub tablesTest : List ℕ → ℕ → ℕ → ℕ → ℕ → ℕ → Bool
 tablesTest b clients partitions items versions messages =

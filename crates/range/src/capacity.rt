@@ -7,7 +7,7 @@ ghost use lib.ListN.{length};
 ghost use Rattle.basics.specs.Lists.{counted, table};
 ghost use Rattle.protocol.specs.Range.{arrived, total, isPrepare};
 ghost use Rattle.layout.specs.Decode.{clientIn, messageIn};
-use crate::message::message_word;
+use range_message::message_word;
 
 // The prepared replies that have come to client `d`; a mode above 2 is no mode, and refused elsewhere.
 fn arrived_at(b: &[u64], d: u64) -> u64

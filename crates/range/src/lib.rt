@@ -6,14 +6,11 @@ ghost use lib.ListN.{length};
 ghost use lib.Dec.{leb};
 ghost use Rattle.protocol.specs.Range.{sizesInRange, load, occupied};
 ghost use Rattle.layout.specs.Decode.{tablesOf, validBlock};
-ghost use Rattle.range.specs.Sized.{sizes};
+ghost use Rattle.gather.specs.Sized.{sizes};
 ghost use Rattle.range.specs.Block.{tablesTest};
 
 mod capacity;
-mod client;
 mod entry;
-mod field;
-mod message;
 
 // The sizes are some that 2 allows, and there are no more versions and messages than a block holds.
 fn header_in_range(clients: u64, partitions: u64, items: u64, versions: u64, messages: u64) -> bool
@@ -41,11 +38,10 @@ fn tables_in_range(
     requires { ⌜ (clients ≤ 8) × (items ≤ 64) × (versions ≤ 512) × (messages ≤ 128) × (6352 ≤ length (now b)) ⌝ }
     ensures { λ r. ⌜ r ≡ tablesTest (now (b .entry)) clients partitions items versions messages ⌝ }
 {
-    entry::latest_in_range(b, clients, items)
-        & entry::views_in_range(b, clients, items)
-        & client::clients_in_range(b, clients, items)
-        & message::versions_in_range(b, versions, clients, items)
-        & message::messages_in_range(b, messages, clients, partitions, items)
+    entry::views_in_range(b, clients, items)
+        & range_client::clients_in_range(b, clients, items)
+        & range_message::versions_in_range(b, versions, clients, items)
+        & range_message::messages_in_range(b, messages, clients, partitions, items)
         & (capacity::load_of(b, clients, messages) <= 128)
         & (capacity::occupied_of(b, versions, messages) <= 512)
 }
