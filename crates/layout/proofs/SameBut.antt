@@ -6,6 +6,7 @@ use mathlib.Core.Path.{_≡_, refl, _∙_}
 use Prim.Native.Nat.{ℕ, _+_, _≤_, _<_}
 use native.Mathlib.Omega.{arith}
 use lib.ListN.{length}
+use Rattle.layout.specs.Layout.{clientWords}
 use Rattle.layout.specs.Layout.{Section, header, scalars, latest, views, asked, values}
 use Rattle.layout.specs.Layout.{lastStamps, lastValues, versions, messages, base, size, store}
 use Rattle.layout.specs.Layout.{scalarAt, itemAt}
@@ -71,8 +72,8 @@ same-but-store d b s i v o =
       others = λ e l h n. has-words-beside s i v (o .others e l h n) (has-words e b);
     }
 
--- its own eight words
-pub same-but-scalar : (d : ℕ) (b : List ℕ) (f v : ℕ) → 1 ≤ d → d ≤ 8 → f < 8
+-- its own words
+pub same-but-scalar : (d : ℕ) (b : List ℕ) (f v : ℕ) → 1 ≤ d → d ≤ 8 → f < clientWords
     → SameBut d b (store b scalars (scalarAt d f) v)
 same-but-scalar d b f v l h g = same-but-store d b scalars (scalarAt d f) v (omega arith)
 

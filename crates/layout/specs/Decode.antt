@@ -16,6 +16,7 @@ use Rattle.protocol.specs.Tables.{nothing, read, write, initial, resting}
 use Rattle.protocol.specs.Steps.{version}
 use Rattle.protocol.specs.Range.{capacities, valid, sizesInRange, isClient, isItem, isWriting}
 use Rattle.protocol.specs.Range.{everyClient}
+use Rattle.layout.specs.Layout.{mostVersions, mostMessages}
 use Rattle.layout.specs.Layout.{header, scalars, latest, views, asked, values, lastStamps}
 use Rattle.layout.specs.Layout.{lastValues, versions, messages, needed, at, clientsAt}
 use Rattle.layout.specs.Layout.{partitionsAt, itemsAt, versionsAt, messagesAt, modeAt}
@@ -105,15 +106,15 @@ tablesOf b =
       latest = λ k. cond (isItem z k) (latestIn b k) initial;
       view = λ d k. cond (isClient z d && isItem z k) (viewIn b d k) initial;
       client = λ d. cond (isClient z d) (clientIn b d) (resting 0 nothing);
-      versions = table (min (at b header versionsAt) 512) (versionIn b);
-      messages = table (min (at b header messagesAt) 128) (messageIn b);
+      versions = table (min (at b header versionsAt) mostVersions) (versionIn b);
+      messages = table (min (at b header messagesAt) mostMessages) (messageIn b);
     }
 
 -- modes, kinds and counts are the numbers of some
 unfoldable pub wellFormed : List ℕ → Bool
 wellFormed b =
-    leb needed (length b) && sizesInRange (sizesIn b) && leb (at b header versionsAt) 512
-    && leb (at b header messagesAt) 128
+    leb needed (length b) && sizesInRange (sizesIn b) && leb (at b header versionsAt) mostVersions
+    && leb (at b header messagesAt) mostMessages
     && everyClient (sizesIn b) (λ d. ltb (at b scalars (modeAt d)) 3
     && ltb (at b scalars (lastKindAt d)) 3)
     && every (at b header messagesAt) (λ i. leb 1 (kindIn b i) && leb (kindIn b i) 5)
