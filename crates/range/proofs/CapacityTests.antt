@@ -14,6 +14,7 @@ use Rattle.itemset.specs.Set.{count}
 use Rattle.protocol.specs.declared.Entry.{Entry}
 use Rattle.protocol.specs.Tables.{nothing, resting}
 use Rattle.protocol.specs.Range.{isClient, isPrepare, arrived, total, load, occupied}
+use Rattle.layout.specs.Layout.{mostVersions, mostMessages}
 use Rattle.layout.specs.Layout.{at, header, scalars, versionsAt, messagesAt, modeAt, setAt}
 use Rattle.layout.specs.Layout.{awaitedAt}
 use Rattle.layout.specs.Decode.{sizesIn, clientIn, kindIn, messageOf, versionIn, messageIn}
@@ -66,7 +67,7 @@ prepare-other b i n = rw (prepare-kind b i, ne-eqb (kindIn b i) 1 n)
 
 -- ---- The whole
 
-pub load-words : (b : List ℕ) → at b header messagesAt ≤ 128
+pub load-words : (b : List ℕ) → at b header messagesAt ≤ mostMessages
     → at b header messagesAt + total (sizesIn b .clients) (λ d. arrived (clientIn b d)) ≡ load
     (tablesOf b)
 unfolding tablesOf load
@@ -74,17 +75,18 @@ load-words b l =
     let come = total-same (sizesIn b .clients) (λ d. arrived (clientIn b d))
     (λ d. arrived (cond (isClient (sizesIn b) d) (clientIn b d) (resting 0 nothing)))
     (λ d p q. rw (client-test (sizesIn b) d (p, q))) in
-    omega (arith, come, length-table (min (at b header messagesAt) 128) (messageIn b))
+    omega (arith, come, length-table (min (at b header messagesAt) mostMessages) (messageIn b))
 
-pub occupied-words : (b : List ℕ) → at b header versionsAt ≤ 512 → at b header messagesAt ≤ 128
+pub occupied-words : (b : List ℕ) → at b header versionsAt ≤ mostVersions
+    → at b header messagesAt ≤ mostMessages
     → at b header versionsAt + counted isPrepare
     (table (at b header messagesAt) (messageIn b)) ≡ occupied (tablesOf b)
 unfolding tablesOf occupied
 occupied-words b l h =
-    let few : at b header messagesAt ≡ min (at b header messagesAt) 128 = omega arith in
+    let few : at b header messagesAt ≡ min (at b header messagesAt) mostMessages = omega arith in
     omega (
       arith,
-      length-table (min (at b header versionsAt) 512) (versionIn b),
+      length-table (min (at b header versionsAt) mostVersions) (versionIn b),
       ap
           (λ (n : ℕ). counted isPrepare (table n (messageIn b))) few,
     )

@@ -17,6 +17,7 @@ use Rattle.protocol.specs.Tables.{read, write, initial, resting}
 use Rattle.protocol.specs.Range.{capacities, isClient, isItem, isWriting, load, occupied, valid}
 use Rattle.protocol.specs.Steps.{version}
 use Rattle.protocol.proofs.Ranges.Tables.{Valid, valid-facts}
+use Rattle.layout.specs.Layout.{mostVersions, mostMessages}
 use Rattle.layout.specs.Layout.{Section, header, scalars, latest, views, asked, values, lastStamps}
 use Rattle.layout.specs.Layout.{lastValues, at, messagesAt, versionsAt}
 use Rattle.layout.specs.Layout.{modeAt, lastKindAt, lastSetAt, lastStampAt, setAt, stampAt, itemAt}
@@ -136,13 +137,14 @@ module _ (b : List ℕ) (t : Tables) (e : Encodes b t) (m : Masked t) where
       rw y (client-of b d (t .client d) (e .client d (bounds .0) (bounds .1)) (m .client d)))
       (λ f. rw f (sym (m .absent d f))))
 
-  pub tables-of : length (t .versions) ≤ 512 → length (t .messages) ≤ 128 → tablesOf b ≡ t
+  pub tables-of : length (t .versions) ≤ mostVersions → length (t .messages) ≤ mostMessages
+      → tablesOf b ≡ t
   unfolding tablesOf
   tables-of vs ms =
-      let versions : table (min (at b header versionsAt) 512) (versionIn b) ≡ t .versions =
+      let versions : table (min (at b header versionsAt) mostVersions) (versionIn b) ≡ t .versions =
       table-of _ (versionIn b) (t .versions) (version 0 0 0 0) (omega (arith, e .versionCount))
       (λ i l. version-held b i _ (e .versions i l (version 0 0 0 0))) in
-      let messages : table (min (at b header messagesAt) 128) (messageIn b) ≡ t .messages =
+      let messages : table (min (at b header messagesAt) mostMessages) (messageIn b) ≡ t .messages =
       table-of _ (messageIn b) (t .messages) (Commit 0 0) (omega (arith, e .messageCount))
       (λ i l. message-held b i _ (e .messages i l (Commit 0 0))
       (m .messages _ (in-getD (t .messages) i (Commit 0 0) l))) in
@@ -158,11 +160,11 @@ module _ (b : List ℕ) (t : Tables) (e : Encodes b t) (m : Masked t) where
 
 -- ---- Within the capacities
 
-pub few-versions : (t : Tables) → Valid capacities t → length (t .versions) ≤ 512
+pub few-versions : (t : Tables) → Valid capacities t → length (t .versions) ≤ mostVersions
 unfolding occupied
 few-versions t v = omega (arith, v .occupied)
 
-pub few-messages : (t : Tables) → Valid capacities t → length (t .messages) ≤ 128
+pub few-messages : (t : Tables) → Valid capacities t → length (t .messages) ≤ mostMessages
 unfolding load
 few-messages t v = omega (arith, v .load)
 

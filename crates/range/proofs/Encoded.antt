@@ -9,6 +9,7 @@ use borrow.Author.Tests.{lt-ltb}
 use Rattle.basics.specs.Lists.{table}
 use Rattle.basics.proofs.Lists.{length-table, table-at}
 use Rattle.itemset.specs.Set.{has}
+use Rattle.layout.specs.Layout.{mostVersions, mostMessages}
 use Rattle.layout.specs.Layout.{header, scalars, values, lastStamps, lastValues, at, messagesAt}
 use Rattle.layout.specs.Layout.{versionsAt}
 use Rattle.layout.specs.Layout.{modeAt, lastKindAt, lastSetAt, lastStampAt, setAt, itemAt}
@@ -82,8 +83,8 @@ pub encodes-tables : (b : List ℕ) → wellFormed b ≡ true → Encodes b (tab
 unfolding tablesOf
 encodes-tables b e =
     let w = tells-well-formed b .0 e in
-    let vs : min (at b header versionsAt) 512 ≡ at b header versionsAt = omega arith in
-    let ms : min (at b header messagesAt) 128 ≡ at b header messagesAt = omega arith in
+    let vs : min (at b header versionsAt) mostVersions ≡ at b header versionsAt = omega arith in
+    let ms : min (at b header messagesAt) mostMessages ≡ at b header messagesAt = omega arith in
     record {
       long = w .long;
       clients = refl;

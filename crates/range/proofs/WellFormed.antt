@@ -13,6 +13,7 @@ use Rattle.protocol.specs.Range.{capacities, isClient}
 use Rattle.protocol.proofs.Tells.{tells, tells-and}
 use Rattle.protocol.proofs.Ranges.Values.{SizesInRange, IsClient, tells-sizes}
 use Rattle.protocol.proofs.Ranges.Tables.{is-client, each-client, Valid, tells-valid}
+use Rattle.layout.specs.Layout.{mostVersions, mostMessages}
 use Rattle.layout.specs.Layout.{header, scalars, needed, at, versionsAt, messagesAt, modeAt}
 use Rattle.layout.specs.Layout.{lastKindAt}
 use Rattle.layout.specs.Decode.{sizesIn, kindIn, tablesOf, wellFormed, validBlock}
@@ -25,8 +26,8 @@ client-test z d c = and-both (leb 1 d) (leb d (z .clients)) (le-leb 1 d (c .0))
 pub record WellFormed (b : List ℕ) : Type 0 where
   pub long : needed ≤ length b
   pub sizes : SizesInRange (sizesIn b)
-  pub versionCount : at b header versionsAt ≤ 512
-  pub messageCount : at b header messagesAt ≤ 128
+  pub versionCount : at b header versionsAt ≤ mostVersions
+  pub messageCount : at b header messagesAt ≤ mostMessages
   pub mode : (d : ℕ) → IsClient (sizesIn b) d → at b scalars (modeAt d) < 3
   pub lastKind : (d : ℕ) → IsClient (sizesIn b) d → at b scalars (lastKindAt d) < 3
   pub someKind : (i : ℕ) → i < at b header messagesAt → 1 ≤ kindIn b i

@@ -6,6 +6,7 @@ ghost use lib.ListN.{length};
 ghost use lib.Dec.{leb};
 ghost use Rattle.basics.specs.Lists.{every};
 ghost use Rattle.protocol.specs.Range.{versionInRange, messageInRange};
+ghost use Rattle.layout.specs.Layout.{mostClients, mostItems, mostVersions, mostMessages, versionWords, messageWords, needed};
 ghost use Rattle.layout.specs.Layout.{at, versions, messages, versionAt, messageAt};
 ghost use Rattle.layout.specs.Decode.{messageOf, versionIn};
 ghost use Rattle.gather.specs.Sized.{sizes, sized};
@@ -16,21 +17,25 @@ use gather::rest;
 use gather::stamp_in_range;
 use gather::version_in_range;
 use gather::versions_pass;
+use layout::MESSAGE_WORDS;
+use layout::MESSAGES;
+use layout::VERSION_WORDS;
+use layout::VERSIONS;
 use protocol::Entry;
 use protocol::Version;
 
 // Word `f` of stored version `i`.
 fn version_word(b: &[u64], i: u64, f: u64) -> u64
-    requires { ⌜ (i < 512) × (f < 4) × (6352 ≤ length (now b)) ⌝ }
+    requires { ⌜ (i < mostVersions) × (f < versionWords) × (needed ≤ length (now b)) ⌝ }
     ensures { λ r. ⌜ r ≡ at (now (b .entry)) versions (versionAt i f) ⌝ }
 {
-    let place = (3280 + (4 * i + f)) as usize;
+    let place = (VERSIONS + (VERSION_WORDS * i + f)) as usize;
     b[place]
 }
 
 // The first `n` stored versions, tested once.
 pub fn versions_in_range(b: &[u64], n: u64, clients: u64, items: u64) -> bool
-    requires { ⌜ (n ≤ 512) × (clients ≤ 8) × (items ≤ 64) × (6352 ≤ length (now b)) ⌝ }
+    requires { ⌜ (n ≤ mostVersions) × (clients ≤ mostClients) × (items ≤ mostItems) × (needed ≤ length (now b)) ⌝ }
     ensures { λ r. ⌜ r ≡ every n (λ i. versionInRange (sized clients items) (versionIn (now (b .entry)) i)) ⌝ }
 {
     let rest = rest(clients);
@@ -57,10 +62,10 @@ pub fn versions_in_range(b: &[u64], n: u64, clients: u64, items: u64) -> bool
 
 // Word `f` of message `i`.
 pub fn message_word(b: &[u64], i: u64, f: u64) -> u64
-    requires { ⌜ (i < 128) × (f < 8) × (6352 ≤ length (now b)) ⌝ }
+    requires { ⌜ (i < mostMessages) × (f < messageWords) × (needed ≤ length (now b)) ⌝ }
     ensures { λ r. ⌜ r ≡ at (now (b .entry)) messages (messageAt i f) ⌝ }
 {
-    let place = (5328 + (8 * i + f)) as usize;
+    let place = (MESSAGES + (MESSAGE_WORDS * i + f)) as usize;
     b[place]
 }
 
@@ -77,7 +82,7 @@ fn words_in_range(
     partitions: u64,
     items: u64,
 ) -> bool
-    requires { ⌜ clients ≤ 8 ⌝ }
+    requires { ⌜ clients ≤ mostClients ⌝ }
     ensures { λ r. ⌜ r ≡ (leb 1 kind && leb kind 5 && messageInRange (sizes clients partitions items) (messageOf kind who item value stamp set latest)) ⌝ }
 {
     if kind == 1 {
@@ -110,7 +115,7 @@ fn words_in_range(
 }
 
 fn message_in_range(b: &[u64], i: u64, clients: u64, partitions: u64, items: u64) -> bool
-    requires { ⌜ (i < 128) × (clients ≤ 8) × (6352 ≤ length (now b)) ⌝ }
+    requires { ⌜ (i < mostMessages) × (clients ≤ mostClients) × (needed ≤ length (now b)) ⌝ }
     ensures { λ r. ⌜ r ≡ messageTest (now (b .entry)) i clients partitions items ⌝ }
 {
     words_in_range(
@@ -132,7 +137,7 @@ fn message_in_range(b: &[u64], i: u64, clients: u64, partitions: u64, items: u64
 
 // The first `n` messages.
 pub fn messages_in_range(b: &[u64], n: u64, clients: u64, partitions: u64, items: u64) -> bool
-    requires { ⌜ (n ≤ 128) × (clients ≤ 8) × (6352 ≤ length (now b)) ⌝ }
+    requires { ⌜ (n ≤ mostMessages) × (clients ≤ mostClients) × (needed ≤ length (now b)) ⌝ }
     ensures { λ r. ⌜ r ≡ every n (λ i. messageTest (now (b .entry)) i clients partitions items) ⌝ }
 {
     let mut ok = true;

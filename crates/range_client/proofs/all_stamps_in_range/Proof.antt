@@ -16,12 +16,12 @@ use Rattle.range_client.proofs.all_stamps_in_range.Statement.{statement
 use Rattle.range_client.proofs.all_stamps_in_range.Tie as tie
 
 abbrev Inv-loop : tie.InvT-loop
-Inv-loop b base d clients items room stamps₀ mixes₀ rooms₀ k₀ stamps mixes rooms k =
-    SoFar items (λ k. stampInRange (sized clients items) (getD b (base + itemAt d k) 0)) k
+Inv-loop b start d clients items room stamps₀ mixes₀ rooms₀ k₀ stamps mixes rooms k =
+    SoFar items (λ k. stampInRange (sized clients items) (getD b (start + itemAt d k) 0)) k
     (stampsTest clients stamps mixes rooms)
 
 abbrev μ-loop : tie.MeasureT-loop
-μ-loop b base d clients items room stamps₀ mixes₀ rooms₀ k₀ stamps mixes rooms k = items - k
+μ-loop b start d clients items room stamps₀ mixes₀ rooms₀ k₀ stamps mixes rooms k = items - k
 
 room-requires : tie.Need-room-requires Inv-loop μ-loop
 room-requires c κs = search needs
@@ -51,7 +51,7 @@ loop-again c =
     gather-next (stamps (a .clients)) ((l .stamps, l .mixes), l .rooms)
     ((c .before .before .item-word .result, c .before .mixed .result), c .roomed .result) (l .inv)
     (c .before .before .before .loop-test .taken)
-    (stamp-read (a .clients) (a .items) (getD (a .b .now) (a .base + itemAt (a .d) (l .k)) 0)
+    (stamp-read (a .clients) (a .items) (getD (a .b .now) (a .start + itemAt (a .d) (l .k)) 0)
     (omega arith) (c .before .before .item-word .ensures)
     (c .before .mixed .ensures) (c .roomed .ensures))
 

@@ -12,11 +12,11 @@ use Rattle.range_client.proofs.all_values_in_range.Statement.{statement
 use Rattle.range_client.proofs.all_values_in_range.Tie as tie
 
 abbrev Inv-loop : tie.InvT-loop
-Inv-loop b base d items values₀ k₀ values k =
-    SoFar items (λ k. ltb (getD b (base + itemAt d k) 0) (2 ^ 32)) k (ltb values (2 ^ 32))
+Inv-loop b start d items values₀ k₀ values k =
+    SoFar items (λ k. ltb (getD b (start + itemAt d k) 0) (2 ^ 32)) k (ltb values (2 ^ 32))
 
 abbrev μ-loop : tie.MeasureT-loop
-μ-loop b base d items values₀ k₀ values k = items - k
+μ-loop b start d items values₀ k₀ values k = items - k
 
 loop-holds : tie.Need-loop-holds Inv-loop μ-loop
 loop-holds c = gather-none (below 32)

@@ -14,12 +14,12 @@ use Rattle.range_client.proofs.some_stamps_in_range.Statement.{statemen
 use Rattle.range_client.proofs.some_stamps_in_range.Tie as tie
 
 abbrev Inv-loop : tie.InvT-loop
-Inv-loop b base d set clients items ok₀ k₀ ok k =
+Inv-loop b start d set clients items ok₀ k₀ ok k =
     SoFar items (λ k. not (has set k) || stampInRange (sized clients items)
-    (getD b (base + itemAt d k) 0)) k ok
+    (getD b (start + itemAt d k) 0)) k ok
 
 abbrev μ-loop : tie.MeasureT-loop
-μ-loop b base d set clients items ok₀ k₀ ok k = items - k
+μ-loop b start d set clients items ok₀ k₀ ok k = items - k
 
 loop-holds : tie.Need-loop-holds Inv-loop μ-loop
 loop-holds c = tested-none

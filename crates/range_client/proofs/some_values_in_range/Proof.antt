@@ -12,12 +12,12 @@ use Rattle.range_client.proofs.some_values_in_range.Statement.{statemen
 use Rattle.range_client.proofs.some_values_in_range.Tie as tie
 
 abbrev Inv-loop : tie.InvT-loop
-Inv-loop b base d set items ok₀ k₀ ok k =
-    SoFar items (λ k. not (has set k) || ltb (getD b (base + itemAt d k) 0)
+Inv-loop b start d set items ok₀ k₀ ok k =
+    SoFar items (λ k. not (has set k) || ltb (getD b (start + itemAt d k) 0)
     (2 ^ 32)) k ok
 
 abbrev μ-loop : tie.MeasureT-loop
-μ-loop b base d set items ok₀ k₀ ok k = items - k
+μ-loop b start d set items ok₀ k₀ ok k = items - k
 
 loop-holds : tie.Need-loop-holds Inv-loop μ-loop
 loop-holds c = tested-none

@@ -53,7 +53,10 @@ loop-again c =
     let a = c .before .before .before .before .before .before .before .before .args in
     gather-next (entries (a .clients) (a .items))
     (((l .stamps, l .mixes), l .rooms), l .sets) (
-      ((c .before .before .before .entry-word .result, c .before .mixed .result), c .roomed .result),
+      (
+        (c .before .before .before .entry-word .result, c .before .mixed .result),
+        c .roomed .result,
+      ),
       c .before .before .entry-word2 .result,
     )
     (l .inv) (c .before .before .before .before .loop-test .taken)
