@@ -28,10 +28,10 @@ use Rattle.range_client.specs.Clients.{clientTest}
 use Rattle.range_message.specs.Messages.{messageTest}
 use Rattle.range.specs.Entries.{entryFrom}
 use Rattle.range.specs.Block.{tablesTest}
-use Rattle.range.proofs.Folds.{all-table}
+use Rattle.encoding.proofs.Folds.{all-table}
 use Rattle.range.proofs.EntryTests.{entries-tests}
-use Rattle.range.proofs.WellFormed.{client-test, tells-valid-block}
-use Rattle.range.proofs.CapacityTests.{load-words, occupied-words}
+use Rattle.encoding.proofs.WellFormed.{client-test, tells-valid-block}
+use Rattle.encoding.proofs.Capacity.{load-words, occupied-words}
 
 -- the same tests in another order, where those of the header pass
 regroup : (long size vs ms latest view modes client versions kinds messages load occupied : Bool)

@@ -7,7 +7,7 @@ use native.Mathlib.Omega.{arith}
 use Rattle.protocol.specs.Range.{arrived, total}
 use Rattle.layout.specs.Layout.{mostItems}
 use Rattle.layout.specs.Decode.{clientIn}
-use Rattle.range.proofs.Folds.{total-none, total-next, at-end}
+use Rattle.range.proofs.Sums.{total-none, total-next, at-end}
 use Rattle.range.proofs.capacity.arrived_all.Statement.{statement}
 use Rattle.range.proofs.capacity.arrived_all.Tie as tie
 

@@ -29,13 +29,14 @@ use Rattle.layout.specs.Decode.{sizesIn, kindIn, modeOf, within, endedOf, messa
 use Rattle.layout.specs.Decode.{versionIn, messageIn, tablesOf, wellFormed, validBlock}
 use Rattle.layout.specs.Encodes.{numberOfMode, HoldsEntry, HoldsMessage, HoldsEnded, HoldsClient}
 use Rattle.layout.specs.Encodes.{Encodes}
-use Rattle.range.proofs.Folds.{each-table, counted-list, total-same}
-use Rattle.range.proofs.WellFormed.{client-test, WellFormed, tells-well-formed, ValidBlock}
-use Rattle.range.proofs.WellFormed.{tells-valid-block}
-use Rattle.range.proofs.CapacityTests.{load-words, occupied-words}
-use Rattle.range.proofs.Encoded.{encodes-tables}
+use Rattle.encoding.proofs.Folds.{each-table, counted-list, total-same}
+use Rattle.encoding.proofs.WellFormed.{client-test, WellFormed, tells-well-formed}
+use Rattle.encoding.proofs.WellFormed.{ValidBlock}
+use Rattle.encoding.proofs.WellFormed.{tells-valid-block}
+use Rattle.encoding.proofs.Capacity.{load-words, occupied-words}
+use Rattle.encoding.proofs.Encoded.{encodes-tables}
 use Rattle.layout.proofs.Held.{version-held}
-use Rattle.range.proofs.Decoded.{mode-number, entry-of, few-versions, few-messages}
+use Rattle.encoding.proofs.Decoded.{mode-number, entry-of, few-versions, few-messages}
 
 -- ---- The numbers are those of some mode, ended transaction or kind
 

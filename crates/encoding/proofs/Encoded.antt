@@ -18,7 +18,7 @@ use Rattle.layout.specs.Decode.{wellFormed}
 use Rattle.layout.specs.Encodes.{numberOfMode, HoldsVersion, HoldsMessage, HoldsEnded}
 use Rattle.layout.specs.Encodes.{HoldsClient, Encodes}
 use Rattle.layout.proofs.Held.{held-version, held-message}
-use Rattle.range.proofs.WellFormed.{client-test, tells-well-formed}
+use Rattle.encoding.proofs.WellFormed.{client-test, tells-well-formed}
 
 -- ---- Numbers of modes, ended transactions and kinds
 

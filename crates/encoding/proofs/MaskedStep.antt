@@ -32,8 +32,8 @@ use Rattle.protocol.proofs.Ranges.Tables.{InRange}
 use Rattle.protocol.proofs.Refusals.{AcceptedDeliver, Expected, accepted-read, accepted-write}
 use Rattle.protocol.proofs.Refusals.{accepted-deliver, accepted-message}
 use Rattle.layout.specs.Masked.{Only, MaskedClient, MaskedMessage, Masked}
-use Rattle.range.proofs.WellFormed.{client-test}
-use Rattle.range.proofs.MaskedTables.{masked-resting}
+use Rattle.encoding.proofs.WellFormed.{client-test}
+use Rattle.encoding.proofs.MaskedTables.{masked-resting}
 
 -- ---- Changes
 

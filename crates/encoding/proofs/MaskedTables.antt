@@ -10,7 +10,7 @@ use Rattle.layout.specs.Layout.{at, scalars, modeAt}
 use Rattle.layout.specs.Decode.{sizesIn, within, modeOf, endedOf, clientIn, messageIn, tablesOf}
 use Rattle.layout.specs.Masked.{Only, MaskedEnded, MaskedClient, MaskedMessage, Masked}
 use Rattle.layout.proofs.Held.{masked-message}
-use Rattle.range.proofs.Folds.{each-table}
+use Rattle.encoding.proofs.Folds.{each-table}
 
 only-within : (s : ℕ) (f : ℕ → ℕ) → Only s (within s f)
 only-within s f k e = rw e

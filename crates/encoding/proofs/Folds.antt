@@ -1,9 +1,8 @@
 -- Tests and sums over the places of a table and over clients: what they take from each.
 use mathlib.Core.Bool.{Bool, true, cond}
 use mathlib.Core.List.{List, [], _∷_}
-use mathlib.Core.Path.{_≡_, refl, sym, ap, _∙_}
+use mathlib.Core.Path.{_≡_, refl, ap, _∙_}
 use Prim.Native.Nat.{ℕ, zero, suc, _+_, _≤_, _<_}
-use native.Mathlib.Numerals.{add-one}
 use native.Mathlib.Omega.{arith}
 use lib.ListN.{length, getD}
 use lib.Seq.{ext-getD}
@@ -46,15 +45,6 @@ pub counted-table : {A : Type 0} (p : A → Bool) (n : ℕ) (f : ℕ → A)
 unfolding table counted
 counted-table p n f = counted-append p (table n f) (f n ∷ []) ∙ omega arith
 
-pub counted-none : {A : Type 0} (p : A → Bool) (f : ℕ → A) → counted p (table 0 f) ≡ 0
-unfolding table counted
-counted-none p f = refl
-
-pub counted-next : {A : Type 0} (p : A → Bool) (f : ℕ → A) (i sum here : ℕ)
-    → sum ≡ counted p (table i f) → here ≡ cond (p (f i)) 1 0
-    → sum + here ≡ counted p (table (i + 1) f)
-counted-next p f i sum here e h = rw (e, h, add-one i) (sym (counted-table p i f))
-
 -- places that pass the same tests
 pub counted-same : {A : Type 0} (p : A → Bool) (n : ℕ) (f g : ℕ → A)
     → ((i : ℕ) → i < n → p (f i) ≡ p (g i))
@@ -92,16 +82,3 @@ total-same (suc n) f g h = omega (
   h (suc n)
       (omega arith) (omega arith),
 )
-
-pub total-none : (f : ℕ → ℕ) → total 0 f ≡ 0
-unfolding total
-total-none f = refl
-
-pub total-next : (f : ℕ → ℕ) (i sum here : ℕ) → sum ≡ total i f → here ≡ f (i + 1)
-    → sum + here ≡ total (i + 1) f
-unfolding total
-total-next f i sum here e h = rw (e, h, add-one i)
-
--- a sum that is counted to its end
-pub at-end : (whole : ℕ → ℕ) {n i sum : ℕ} → i ≤ n → n ≤ i → sum ≡ whole i → sum ≡ whole n
-at-end whole {n = n} {i = i} l h e = let same : i ≡ n = omega arith in e ∙ ap whole same

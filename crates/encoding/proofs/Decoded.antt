@@ -27,7 +27,7 @@ use Rattle.layout.specs.Decode.{versionIn, messageIn, tablesOf}
 use Rattle.layout.specs.Encodes.{numberOfMode, HoldsEntry, HoldsEnded, HoldsClient, Encodes}
 use Rattle.layout.specs.Masked.{Only, MaskedEnded, MaskedClient, Masked}
 use Rattle.layout.proofs.Held.{version-held, message-held}
-use Rattle.range.proofs.Folds.{table-of}
+use Rattle.encoding.proofs.Folds.{table-of}
 
 -- ---- Clients
 
