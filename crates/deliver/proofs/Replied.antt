@@ -18,7 +18,7 @@ use Rattle.protocol.specs.Tables.{withView, withMessages}
 use Rattle.protocol.specs.Range.{isIdle, isWriting}
 use Rattle.protocol.specs.Steps.{struck, isLast, seen, delivered, touches, commits, joined}
 use Rattle.protocol.proofs.Ranges.Clients.{ClientInRange}
-use Rattle.layout.specs.Layout.{scalars, at, store, awaitedAt}
+use Rattle.layout.specs.Layout.{mostMessages, scalars, at, store, awaitedAt}
 use Rattle.layout.specs.Encodes.{Encodes, HoldsClient}
 use Rattle.layout.proofs.Room.{HasRoom, narrow-below}
 use Rattle.layout.proofs.Parts.{awaits-reply, awaits-busy, no-answer-awaited}
@@ -88,7 +88,7 @@ module _ {b : List ℕ} (t : Tables) (ms : List Message) (k stamp : ℕ)
       (narrow-resting (c .count) (write (c .write .set) (c .write .stamp) (c .write .values))
       (narrow-below (c .write .set) (t .sizes .items) (range .write .set) (r .items)))
 
-  ends : length (ms ++ commits t (c .write .set) stamp) ≤ 128
+  ends : length (ms ++ commits t (c .write .set) stamp) ≤ mostMessages
       → Encodes (writeEnded b (t .sizes .partitions) (t .sizes .items) d stamp)
       (withMessages over (ms ++ commits t (c .write .set) stamp))
   unfolding writeEnded
@@ -121,7 +121,7 @@ module _ {b : List ℕ} (t : Tables) (ms : List Message) (k stamp : ℕ)
       (words-struck (wordsOf b d) c k (words-hold held) busy writes more))
       (λ e p q j g. by-test (eqb e d) (λ x. rw (x, eqb-true e d x) refl) (λ x. rw x refl)))
 
-  pub encodes-prepared : length (ms ++ joined t (Prepared k stamp)) ≤ 128
+  pub encodes-prepared : length (ms ++ joined t (Prepared k stamp)) ≤ mostMessages
       → Encodes (preparedDelivered b (t .sizes .partitions) (t .sizes .items) k stamp)
       (withMessages (delivered t (Prepared k stamp)) (ms ++ joined t (Prepared k stamp)))
   unfolding preparedDelivered delivered joined

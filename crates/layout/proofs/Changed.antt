@@ -5,8 +5,8 @@ use Prim.Native.Nat.{ℕ, _≤_, _<_}
 use native.Mathlib.Omega.{arith}
 use lib.ListN.{length}
 use Rattle.protocol.specs.Tables.{Tables, Client, withClient}
-use Rattle.layout.specs.Layout.{scalars, asked, values, lastStamps, lastValues, store, needed}
-use Rattle.layout.specs.Layout.{scalarAt, itemAt}
+use Rattle.layout.specs.Layout.{clientWords, scalars, asked, values, lastStamps, lastValues}
+use Rattle.layout.specs.Layout.{store, needed, scalarAt, itemAt}
 use Rattle.layout.specs.Encodes.{Encodes}
 use Rattle.layout.proofs.Room.{HasRoom, NarrowClient}
 use Rattle.layout.proofs.ClientWords.{Words, wordsOf, HasWords, has-words, putScalar}
@@ -46,7 +46,7 @@ changed-more c same words =
     }
 
 module _ {d : ℕ} {b b′ : List ℕ} {w : Words} (c : Changed d b b′ w) where
-  pub changed-scalar : (f v : ℕ) → f < 8
+  pub changed-scalar : (f v : ℕ) → f < clientWords
       → Changed d b (store b′ scalars (scalarAt d f) v) (putScalar w f v)
   changed-scalar f v l =
       changed-more c (same-but-scalar d b′ f v (c .first) (c .last) l)

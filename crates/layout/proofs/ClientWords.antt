@@ -9,8 +9,8 @@ use lib.Dec.{eqb}
 use borrow.Author.Tests.{eqb-true, eqb-false}
 use Rattle.protocol.specs.Tables.{put}
 use Rattle.protocol.proofs.Put.{by-cond}
-use Rattle.layout.specs.Layout.{Section, scalars, asked, values, lastStamps, lastValues, base}
-use Rattle.layout.specs.Layout.{at, store, needed, scalarAt, itemAt}
+use Rattle.layout.specs.Layout.{clientWords, Section, scalars, asked, values, lastStamps}
+use Rattle.layout.specs.Layout.{lastValues, base, at, store, needed, scalarAt, itemAt}
 use Rattle.layout.proofs.At.{at-store, at-store-other}
 
 -- ---- a row of words: word n of the row stands at place n of the section
@@ -39,7 +39,7 @@ module _ (s : Section) (wide : ℕ) (place : ℕ → ℕ) where
 
 -- ---- the words of a client
 
--- its eight words, by their numbers in `scalarAt`, and four words for each item
+-- its own words, by their numbers in `scalarAt`, and four words for each item
 pub record Words : Type 0 where
   pub scalar : ℕ → ℕ
   pub asked : ℕ → ℕ
@@ -59,7 +59,7 @@ wordsOf b d =
 
 -- the words of client d in b are w
 pub record HasWords (d : ℕ) (b : List ℕ) (w : Words) : Type 0 where
-  pub scalar : Row scalars 8 (scalarAt d) b (w .scalar)
+  pub scalar : Row scalars clientWords (scalarAt d) b (w .scalar)
   pub asked : Row asked 64 (itemAt d) b (w .asked)
   pub values : Row values 64 (itemAt d) b (w .values)
   pub lastStamps : Row lastStamps 64 (itemAt d) b (w .lastStamps)
@@ -81,7 +81,7 @@ pub has-words-trans : {d : ℕ} {b c : List ℕ} {w : Words} → HasWords d b w
     → HasWords d c (wordsOf b d) → HasWords d c w
 has-words-trans {d} {b} {c} {w} p q =
     record {
-      scalar = row-trans scalars 8 (scalarAt d) b c (w .scalar) (p .scalar) (q .scalar);
+      scalar = row-trans scalars clientWords (scalarAt d) b c (w .scalar) (p .scalar) (q .scalar);
       asked = row-trans asked 64 (itemAt d) b c (w .asked) (p .asked) (q .asked);
       values = row-trans values 64 (itemAt d) b c (w .values) (p .values) (q .values);
       lastStamps = row-trans lastStamps 64 (itemAt d) b c (w .lastStamps) (p .lastStamps)
@@ -94,7 +94,7 @@ has-words-trans {d} {b} {c} {w} p q =
 
 -- the place p of the block is none of client d's words
 pub record Beside (d p : ℕ) : Type 0 where
-  pub scalar : (f : ℕ) → f < 8 → base scalars + scalarAt d f ≢ p
+  pub scalar : (f : ℕ) → f < clientWords → base scalars + scalarAt d f ≢ p
   pub asked : (k : ℕ) → k < 64 → base asked + itemAt d k ≢ p
   pub values : (k : ℕ) → k < 64 → base values + itemAt d k ≢ p
   pub lastStamps : (k : ℕ) → k < 64 → base lastStamps + itemAt d k ≢ p
@@ -104,7 +104,8 @@ pub has-words-beside : {d : ℕ} {b : List ℕ} {w : Words} (s : Section) (i v :
     → Beside d (base s + i) → HasWords d b w → HasWords d (store b s i v) w
 has-words-beside {d} {b} {w} s i v n h =
     record {
-      scalar = row-other scalars 8 (scalarAt d) b (w .scalar) s i v (n .scalar) (h .scalar);
+      scalar = row-other scalars clientWords (scalarAt d) b (w .scalar) s i v (n .scalar)
+          (h .scalar);
       asked = row-other asked 64 (itemAt d) b (w .asked) s i v (n .asked) (h .asked);
       values = row-other values 64 (itemAt d) b (w .values) s i v (n .values) (h .values);
       lastStamps = row-other lastStamps 64 (itemAt d) b (w .lastStamps) s i v (n .lastStamps)
@@ -172,11 +173,12 @@ putLastValue w k v =
 
 module _ {d : ℕ} {b : List ℕ} {w : Words} (first : 1 ≤ d) (last : d ≤ 8) (long : needed ≤ length b)
     (h : HasWords d b w) where
-  pub has-words-scalar : (f v : ℕ) → f < 8
+  pub has-words-scalar : (f v : ℕ) → f < clientWords
       → HasWords d (store b scalars (scalarAt d f) v) (putScalar w f v)
   has-words-scalar f v g =
       record {
-        scalar = row-put scalars 8 (scalarAt d) b (w .scalar) f v (omega arith) (λ n a. omega arith)
+        scalar = row-put scalars clientWords (scalarAt d) b (w .scalar) f v (omega arith)
+            (λ n a. omega arith)
             (h .scalar);
         asked = row-other asked 64 (itemAt d) b (w .asked) scalars (scalarAt d f) v (omega arith)
             (h .asked);
@@ -192,7 +194,8 @@ module _ {d : ℕ} {b : List ℕ} {w : Words} (first : 1 ≤ d) (last : d ≤ 8)
       → HasWords d (store b asked (itemAt d k) v) (putAsked w k v)
   has-words-asked k v g =
       record {
-        scalar = row-other scalars 8 (scalarAt d) b (w .scalar) asked (itemAt d k) v (omega arith)
+        scalar = row-other scalars clientWords (scalarAt d) b (w .scalar) asked (itemAt d k) v
+            (omega arith)
             (h .scalar);
         asked = row-put asked 64 (itemAt d) b (w .asked) k v (omega arith) (λ n a. omega arith)
             (h .asked);
@@ -208,7 +211,8 @@ module _ {d : ℕ} {b : List ℕ} {w : Words} (first : 1 ≤ d) (last : d ≤ 8)
       → HasWords d (store b values (itemAt d k) v) (putValue w k v)
   has-words-value k v g =
       record {
-        scalar = row-other scalars 8 (scalarAt d) b (w .scalar) values (itemAt d k) v (omega arith)
+        scalar = row-other scalars clientWords (scalarAt d) b (w .scalar) values (itemAt d k) v
+            (omega arith)
             (h .scalar);
         asked = row-other asked 64 (itemAt d) b (w .asked) values (itemAt d k) v (omega arith)
             (h .asked);
@@ -224,7 +228,7 @@ module _ {d : ℕ} {b : List ℕ} {w : Words} (first : 1 ≤ d) (last : d ≤ 8)
       → HasWords d (store b lastStamps (itemAt d k) v) (putLastStamp w k v)
   has-words-last-stamp k v g =
       record {
-        scalar = row-other scalars 8 (scalarAt d) b (w .scalar) lastStamps (itemAt d k) v
+        scalar = row-other scalars clientWords (scalarAt d) b (w .scalar) lastStamps (itemAt d k) v
             (omega arith) (h .scalar);
         asked = row-other asked 64 (itemAt d) b (w .asked) lastStamps (itemAt d k) v (omega arith)
             (h .asked);
@@ -240,7 +244,7 @@ module _ {d : ℕ} {b : List ℕ} {w : Words} (first : 1 ≤ d) (last : d ≤ 8)
       → HasWords d (store b lastValues (itemAt d k) v) (putLastValue w k v)
   has-words-last-value k v g =
       record {
-        scalar = row-other scalars 8 (scalarAt d) b (w .scalar) lastValues (itemAt d k) v
+        scalar = row-other scalars clientWords (scalarAt d) b (w .scalar) lastValues (itemAt d k) v
             (omega arith) (h .scalar);
         asked = row-other asked 64 (itemAt d) b (w .asked) lastValues (itemAt d k) v (omega arith)
             (h .asked);

@@ -8,9 +8,9 @@ use lib.ListN.{length, length-set}
 use Rattle.basics.proofs.Cases.{not-both}
 use Rattle.itemset.proofs.Laws.{has-empty}
 use Rattle.protocol.specs.Tables.{Sizes, fresh, initial, resting, nothing}
-use Rattle.layout.specs.Layout.{Section, header, scalars, latest, views, base, needed, at}
-use Rattle.layout.specs.Layout.{store, clientsAt, partitionsAt, itemsAt, versionsAt}
-use Rattle.layout.specs.Layout.{messagesAt, scalarAt, latestAt, viewAt}
+use Rattle.layout.specs.Layout.{clientWords, Section, header, scalars, latest, views, base}
+use Rattle.layout.specs.Layout.{needed, at, store, clientsAt, partitionsAt, itemsAt}
+use Rattle.layout.specs.Layout.{versionsAt, messagesAt, scalarAt, latestAt, viewAt}
 use Rattle.layout.specs.Store.{storeSizes, blank, freshBlock}
 use Rattle.layout.specs.Encodes.{Encodes, HoldsEntry, HoldsClient}
 use Rattle.layout.proofs.Blank.{length-blank, blank-zero}
@@ -72,7 +72,7 @@ module _ (b : List ℕ) (z : Sizes) (long : needed ≤ length b) where
 
   fresh-client : (d : ℕ) → 1 ≤ d → d ≤ 8 → HoldsClient (freshOf b z) d (resting 0 nothing)
   fresh-client d l h =
-      let zero : (f : ℕ) → f < 8 → at (freshOf b z) scalars (scalarAt d f) ≡ 0 =
+      let zero : (f : ℕ) → f < clientWords → at (freshOf b z) scalars (scalarAt d f) ≡ 0 =
       λ f g. fresh-zero scalars (scalarAt d f) (omega arith) (omega arith) in
       record {
         mode = zero 0 (lit< tt);

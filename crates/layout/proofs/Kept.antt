@@ -9,8 +9,8 @@ use Rattle.protocol.specs.declared.Version.{Version}
 use Rattle.protocol.specs.declared.Entry.{Entry}
 use Rattle.protocol.specs.declared.Message.{Message}
 use Rattle.protocol.specs.declared.Message.the-variants.{Prepare, Prepared, Commit, Get, Got}
-use Rattle.layout.specs.Layout.{Section, versions, messages, base, size, at, store, versionAt}
-use Rattle.layout.specs.Layout.{messageAt}
+use Rattle.layout.specs.Layout.{mostVersions, mostMessages, messageWords, Section, versions}
+use Rattle.layout.specs.Layout.{messages, base, size, at, store, versionAt, messageAt}
 use Rattle.layout.specs.Encodes.{HoldsEntry, HoldsVersion, HoldsMessage}
 use Rattle.layout.proofs.At.{at-store-other}
 
@@ -50,7 +50,7 @@ moved-version w h =
     }
 
 pub moved-message : (b b′ : List ℕ) (i j : ℕ) (m : Message)
-    → ((f : ℕ) → f < 8 → at b′ messages (messageAt j f) ≡ at b messages (messageAt i f))
+    → ((f : ℕ) → f < messageWords → at b′ messages (messageAt j f) ≡ at b messages (messageAt i f))
     → HoldsMessage b i m → HoldsMessage b′ j m
 moved-message b b′ i j (Prepare v) w h = (
   w 0 (lit< tt) ∙ h .0,
@@ -77,10 +77,10 @@ moved-message b b′ i j (Got d v e) w h = (
   w 7 (lit< tt) ∙ h .6,
 )
 
-pub kept-version : {b b′ : List ℕ} {i : ℕ} {v : Version} → Kept versions b b′ → i < 512
+pub kept-version : {b b′ : List ℕ} {i : ℕ} {v : Version} → Kept versions b b′ → i < mostVersions
     → HoldsVersion b i v → HoldsVersion b′ i v
 kept-version {i = i} k l = moved-version (λ f g. k (versionAt i f) (omega arith))
 
-pub kept-message : (b b′ : List ℕ) (i : ℕ) (m : Message) → Kept messages b b′ → i < 128
+pub kept-message : (b b′ : List ℕ) (i : ℕ) (m : Message) → Kept messages b b′ → i < mostMessages
     → HoldsMessage b i m → HoldsMessage b′ i m
 kept-message b b′ i m k l = moved-message b b′ i i m (λ f g. k (messageAt i f) (omega arith))

@@ -17,10 +17,11 @@ use Rattle.protocol.specs.Range.{capacities, load, occupied}
 use Rattle.protocol.proofs.Ranges.Tables.{Valid}
 use Rattle.protocol.proofs.Ranges.Clients.{EndedInRange, ClientInRange}
 use Rattle.protocol.proofs.Put.{put-all}
+use Rattle.layout.specs.Layout.{mostClients, mostItems, mostVersions, mostMessages}
 
 -- the items of a set are among the 64 that a block has words for
 abbrev pub Narrow : ℕ → Type 0
-Narrow s = (k : ℕ) → has s k ≡ true → k < 64
+Narrow s = (k : ℕ) → has s k ≡ true → k < mostItems
 
 abbrev pub NarrowEnded : Ended → Type 0
 NarrowEnded nothing = Unit
@@ -33,25 +34,26 @@ pub record NarrowClient (c : Client) : Type 0 where
   pub last : NarrowEnded (c .last)
 
 pub record Room (z : Sizes) (each : ℕ → Client) (versionCount messageCount : ℕ) : Type 0 where
-  pub clients : z .clients ≤ 8
-  pub items : z .items ≤ 64
-  pub versions : versionCount ≤ 512
-  pub messages : messageCount ≤ 128
+  pub clients : z .clients ≤ mostClients
+  pub items : z .items ≤ mostItems
+  pub versions : versionCount ≤ mostVersions
+  pub messages : messageCount ≤ mostMessages
   pub client : (d : ℕ) → 1 ≤ d → d ≤ z .clients → NarrowClient (each d)
 
 -- a change of latest or view leaves this fact as it is
 abbrev pub HasRoom : Tables → Type 0
 HasRoom t = Room (t .sizes) (t .client) (length (t .versions)) (length (t .messages))
 
-pub narrow-below : (s n : ℕ) → s < 2 ^ n → n ≤ 64 → Narrow s
+pub narrow-below : (s n : ℕ) → s < 2 ^ n → n ≤ mostItems → Narrow s
 narrow-below s n l h k e = lt-of-lt-of-le (has-below s k n l e) h
 
-narrow-ended : (z : Sizes) → z .items ≤ 64 → (e : Ended) → EndedInRange z e → NarrowEnded e
+narrow-ended : (z : Sizes) → z .items ≤ mostItems → (e : Ended) → EndedInRange z e → NarrowEnded e
 narrow-ended z h nothing r = tt
 narrow-ended z h (read s stamps vs) r = narrow-below s (z .items) (r .set) h
 narrow-ended z h (write s stamp vs) r = narrow-below s (z .items) (r .set) h
 
-pub narrow-client : (z : Sizes) → z .items ≤ 64 → (c : Client) → ClientInRange z c → NarrowClient c
+pub narrow-client : (z : Sizes) → z .items ≤ mostItems → (c : Client) → ClientInRange z c
+    → NarrowClient c
 narrow-client z h c r = record {
   read = narrow-below (c .read .set) (z .items) (r .read .set) h;
   write = narrow-below (c .write .set) (z .items) (r .write .set) h;
@@ -83,7 +85,7 @@ room-client t d c r n =
     }
 
 -- lists that fit
-pub room-versions : (t : Tables) (vs : List Version) → HasRoom t → length vs ≤ 512
+pub room-versions : (t : Tables) (vs : List Version) → HasRoom t → length vs ≤ mostVersions
     → HasRoom (withVersions t vs)
 room-versions t vs r l = record {
   clients = r .clients;
@@ -94,7 +96,7 @@ room-versions t vs r l = record {
   client = r .client;
 }
 
-pub room-messages : (t : Tables) (ms : List Message) → HasRoom t → length ms ≤ 128
+pub room-messages : (t : Tables) (ms : List Message) → HasRoom t → length ms ≤ mostMessages
     → HasRoom (withMessages t ms)
 room-messages t ms r l = record {
   clients = r .clients;

@@ -15,11 +15,12 @@ use Rattle.protocol.specs.Tables.{Sizes, Tables, Client, noRead, noWrite, Ended
 use Rattle.protocol.specs.Tables.{write, initial, resting}
 use Rattle.protocol.specs.Steps.{version}
 use Rattle.protocol.specs.Range.{capacities, valid, sizesInRange, isClient, isItem, everyClient}
-use Rattle.layout.specs.Layout.{header, scalars, latest, views, asked, values, lastStamps}
-use Rattle.layout.specs.Layout.{lastValues, versions, messages, needed, at, clientsAt}
-use Rattle.layout.specs.Layout.{partitionsAt, itemsAt, versionsAt, messagesAt, modeAt}
-use Rattle.layout.specs.Layout.{countAt, setAt, awaitedAt, stampAt, lastKindAt, lastSetAt}
-use Rattle.layout.specs.Layout.{lastStampAt, latestAt, viewAt, itemAt, versionAt, messageAt}
+use Rattle.layout.specs.Layout.{mostVersions, mostMessages, header, scalars, latest, views}
+use Rattle.layout.specs.Layout.{asked, values, lastStamps, lastValues, versions, messages}
+use Rattle.layout.specs.Layout.{needed, at, clientsAt, partitionsAt, itemsAt, versionsAt}
+use Rattle.layout.specs.Layout.{messagesAt, modeAt, countAt, setAt, awaitedAt, stampAt}
+use Rattle.layout.specs.Layout.{lastKindAt, lastSetAt, lastStampAt, latestAt, viewAt, itemAt}
+use Rattle.layout.specs.Layout.{versionAt, messageAt}
 
 -- ---- numbers of kinds and ended transactions
 
@@ -108,8 +109,8 @@ tablesOf b =
       latest = λ k. cond (isItem z k) (latestIn b k) initial;
       view = λ d k. cond (isClient z d && isItem z k) (viewIn b d k) initial;
       client = λ d. cond (isClient z d) (clientIn b d) (resting 0 nothing);
-      versions = table (min (at b header versionsAt) 512) (versionIn b);
-      messages = table (min (at b header messagesAt) 128) (messageIn b);
+      versions = table (min (at b header versionsAt) mostVersions) (versionIn b);
+      messages = table (min (at b header messagesAt) mostMessages) (messageIn b);
     }
 
 -- a mode is 0 idle, 1 reading or 2 writing, and idle exactly when no item is awaited
@@ -121,8 +122,8 @@ modeFits b d =
 -- modes, kinds and counts are the numbers of some
 unfoldable pub wellFormed : List ℕ → Bool
 wellFormed b =
-    leb needed (length b) && sizesInRange (sizesIn b) && leb (at b header versionsAt) 512
-    && leb (at b header messagesAt) 128
+    leb needed (length b) && sizesInRange (sizesIn b) && leb (at b header versionsAt) mostVersions
+    && leb (at b header messagesAt) mostMessages
     && everyClient (sizesIn b) (λ d. modeFits b d && ltb (at b scalars (lastKindAt d)) 3)
     && every (at b header messagesAt) (λ i. leb 1 (kindIn b i) && leb (kindIn b i) 5)
 

@@ -2,38 +2,100 @@
 use mathlib.Core.List.{List}
 use Prim.Native.Nat.{ℕ, _+_, _-_, _*_}
 use lib.ListN.{getD, set}
+use Rattle.protocol.specs.Range.{capacities}
+
+-- ---- limits
+
+-- the most clients, items, stored versions and messages in flight that there are words for
+abbrev pub mostClients : ℕ
+mostClients = 8
+
+abbrev pub mostItems : ℕ
+mostItems = 64
+
+abbrev pub mostVersions : ℕ
+mostVersions = capacities .versions
+
+abbrev pub mostMessages : ℕ
+mostMessages = capacities .load
+
+-- the words of the header, of a client's scalars, of an entry, a version and a message
+abbrev pub headerWords : ℕ
+headerWords = 16
+
+abbrev pub clientWords : ℕ
+clientWords = 16
+
+abbrev pub entryWords : ℕ
+entryWords = 2
+
+abbrev pub versionWords : ℕ
+versionWords = 4
+
+abbrev pub messageWords : ℕ
+messageWords = 8
+
+-- ---- sections
 
 pub data Section : Type 0 where
   header scalars latest views asked values lastStamps lastValues versions messages : Section
 
--- where a section starts, and how many words it has
+-- how many words a section has
+abbrev pub size : Section → ℕ
+size header = headerWords
+size scalars = clientWords * mostClients
+size latest = entryWords * mostItems
+size views = entryWords * mostItems * mostClients
+size asked = mostItems * mostClients
+size values = mostItems * mostClients
+size lastStamps = mostItems * mostClients
+size lastValues = mostItems * mostClients
+size versions = versionWords * mostVersions
+size messages = messageWords * mostMessages
+
+-- where each section after the header starts: where the one before it ends
+abbrev scalarsBase : ℕ
+scalarsBase = size header
+
+abbrev latestBase : ℕ
+latestBase = scalarsBase + size scalars
+
+abbrev viewsBase : ℕ
+viewsBase = latestBase + size latest
+
+abbrev askedBase : ℕ
+askedBase = viewsBase + size views
+
+abbrev valuesBase : ℕ
+valuesBase = askedBase + size asked
+
+abbrev lastStampsBase : ℕ
+lastStampsBase = valuesBase + size values
+
+abbrev lastValuesBase : ℕ
+lastValuesBase = lastStampsBase + size lastStamps
+
+abbrev versionsBase : ℕ
+versionsBase = lastValuesBase + size lastValues
+
+abbrev messagesBase : ℕ
+messagesBase = versionsBase + size versions
+
 abbrev pub base : Section → ℕ
 base header = 0
-base scalars = 16
-base latest = 80
-base views = 208
-base asked = 1232
-base values = 1744
-base lastStamps = 2256
-base lastValues = 2768
-base versions = 3280
-base messages = 5328
-
-abbrev pub size : Section → ℕ
-size header = 16
-size scalars = 64
-size latest = 128
-size views = 1024
-size asked = 512
-size values = 512
-size lastStamps = 512
-size lastValues = 512
-size versions = 2048
-size messages = 1024
+base scalars = scalarsBase
+base latest = latestBase
+base views = viewsBase
+base asked = askedBase
+base values = valuesBase
+base lastStamps = lastStampsBase
+base lastValues = lastValuesBase
+base versions = versionsBase
+base messages = messagesBase
 
 -- the length that a block needs
 abbrev pub needed : ℕ
-needed = 6352
+needed = base messages + size messages
 
 -- a word of a section, 0 past the block's end; and the block with another word there, the same
 -- block past its end
@@ -61,9 +123,9 @@ versionsAt = 3
 abbrev pub messagesAt : ℕ
 messagesAt = 4
 
--- scalars: eight words for each client, from client 1 on
+-- scalars: sixteen words for each client, from client 1 on, of which eight are fields
 abbrev pub scalarAt : ℕ → ℕ → ℕ
-scalarAt d f = 8 * (d - 1) + f
+scalarAt d f = clientWords * (d - 1) + f
 
 abbrev pub modeAt : ℕ → ℕ
 modeAt d = scalarAt d 0
@@ -91,19 +153,19 @@ lastStampAt d = scalarAt d 7
 
 -- latest and views: stamp and set of an entry
 abbrev pub latestAt : ℕ → ℕ
-latestAt k = 2 * k
+latestAt k = entryWords * k
 
 abbrev pub viewAt : ℕ → ℕ → ℕ
-viewAt d k = 128 * (d - 1) + 2 * k
+viewAt d k = entryWords * mostItems * (d - 1) + entryWords * k
 
 -- asked, values, lastStamps, lastValues: a word for each client and item
 abbrev pub itemAt : ℕ → ℕ → ℕ
-itemAt d k = 64 * (d - 1) + k
+itemAt d k = mostItems * (d - 1) + k
 
 -- versions: item, value, stamp, set; messages: kind, client or partition, item, value, stamp, set,
 -- latest's stamp, latest's set
 abbrev pub versionAt : ℕ → ℕ → ℕ
-versionAt i f = 4 * i + f
+versionAt i f = versionWords * i + f
 
 abbrev pub messageAt : ℕ → ℕ → ℕ
-messageAt i f = 8 * i + f
+messageAt i f = messageWords * i + f

@@ -1,24 +1,31 @@
-// The fields of a client (document 01: desk) but its view: eight words of its own, and four words for each item.
+// The fields of a client (document 01: desk) but its view: eight of its own, and four words for each item.
 ghost use mathlib.Core.Path.{_≡_};
 ghost use Prim.Native.Nat.{_≤_, _<_};
 ghost use Rattle.layout.specs.Layout.{at, store, scalars, asked, values, lastStamps, lastValues};
-ghost use Rattle.layout.specs.Layout.{scalarAt, modeAt, countAt, setAt, awaitedAt, stampAt, lastKindAt, lastSetAt, lastStampAt, itemAt};
+ghost use Rattle.layout.specs.Layout.{clientWords, scalarAt, modeAt, countAt, setAt, awaitedAt, stampAt, lastKindAt, lastSetAt, lastStampAt, itemAt};
+use crate::ASKED;
+use crate::CLIENT_WORDS;
+use crate::LAST_STAMPS;
+use crate::LAST_VALUES;
+use crate::MOST_ITEMS;
+use crate::SCALARS;
+use crate::VALUES;
 use crate::put_word;
 use crate::word;
 
-// Word `f` of the eight of client `d`.
+// Word `f` of the scalars of client `d`.
 fn scalar(b: &[u64], d: u64, f: u64) -> u64
-    requires { ⌜ (1 ≤ d) × (d ≤ 8) × (f < 8) ⌝ }
+    requires { ⌜ (1 ≤ d) × (d ≤ 8) × (f < clientWords) ⌝ }
     ensures { λ r. ⌜ r ≡ at (now (b .entry)) scalars (scalarAt d f) ⌝ }
 {
-    word(b, (16 + (8 * (d - 1) + f)) as usize)
+    word(b, (SCALARS + (CLIENT_WORDS * (d - 1) + f)) as usize)
 }
 
 fn put_scalar(b: &mut [u64], d: u64, f: u64, v: u64)
-    requires { ⌜ (1 ≤ d) × (d ≤ 8) × (f < 8) ⌝ }
+    requires { ⌜ (1 ≤ d) × (d ≤ 8) × (f < clientWords) ⌝ }
     ensures { λ _. ⌜ now (b .exit) ≡ store (now (b .entry)) scalars (scalarAt d f) v ⌝ }
 {
-    put_word(b, (16 + (8 * (d - 1) + f)) as usize, v);
+    put_word(b, (SCALARS + (CLIENT_WORDS * (d - 1) + f)) as usize, v);
 }
 
 // 0 idle, 1 reading, 2 writing.
@@ -146,14 +153,14 @@ pub fn asked(b: &[u64], d: u64, k: u64) -> u64
     requires { ⌜ (1 ≤ d) × (d ≤ 8) × (k < 64) ⌝ }
     ensures { λ r. ⌜ r ≡ at (now (b .entry)) asked (itemAt d k) ⌝ }
 {
-    word(b, (1232 + (64 * (d - 1) + k)) as usize)
+    word(b, (ASKED + (MOST_ITEMS * (d - 1) + k)) as usize)
 }
 
 pub fn put_asked(b: &mut [u64], d: u64, k: u64, v: u64)
     requires { ⌜ (1 ≤ d) × (d ≤ 8) × (k < 64) ⌝ }
     ensures { λ _. ⌜ now (b .exit) ≡ store (now (b .entry)) asked (itemAt d k) v ⌝ }
 {
-    put_word(b, (1232 + (64 * (d - 1) + k)) as usize, v);
+    put_word(b, (ASKED + (MOST_ITEMS * (d - 1) + k)) as usize, v);
 }
 
 // The value of item `k`: a read's answer so far, or a write's.
@@ -161,14 +168,14 @@ pub fn value(b: &[u64], d: u64, k: u64) -> u64
     requires { ⌜ (1 ≤ d) × (d ≤ 8) × (k < 64) ⌝ }
     ensures { λ r. ⌜ r ≡ at (now (b .entry)) values (itemAt d k) ⌝ }
 {
-    word(b, (1744 + (64 * (d - 1) + k)) as usize)
+    word(b, (VALUES + (MOST_ITEMS * (d - 1) + k)) as usize)
 }
 
 pub fn put_value(b: &mut [u64], d: u64, k: u64, v: u64)
     requires { ⌜ (1 ≤ d) × (d ≤ 8) × (k < 64) ⌝ }
     ensures { λ _. ⌜ now (b .exit) ≡ store (now (b .entry)) values (itemAt d k) v ⌝ }
 {
-    put_word(b, (1744 + (64 * (d - 1) + k)) as usize, v);
+    put_word(b, (VALUES + (MOST_ITEMS * (d - 1) + k)) as usize, v);
 }
 
 // The stamp of item `k` in the last ended transaction, a read.
@@ -176,14 +183,14 @@ pub fn last_read_stamp(b: &[u64], d: u64, k: u64) -> u64
     requires { ⌜ (1 ≤ d) × (d ≤ 8) × (k < 64) ⌝ }
     ensures { λ r. ⌜ r ≡ at (now (b .entry)) lastStamps (itemAt d k) ⌝ }
 {
-    word(b, (2256 + (64 * (d - 1) + k)) as usize)
+    word(b, (LAST_STAMPS + (MOST_ITEMS * (d - 1) + k)) as usize)
 }
 
 pub fn put_last_read_stamp(b: &mut [u64], d: u64, k: u64, v: u64)
     requires { ⌜ (1 ≤ d) × (d ≤ 8) × (k < 64) ⌝ }
     ensures { λ _. ⌜ now (b .exit) ≡ store (now (b .entry)) lastStamps (itemAt d k) v ⌝ }
 {
-    put_word(b, (2256 + (64 * (d - 1) + k)) as usize, v);
+    put_word(b, (LAST_STAMPS + (MOST_ITEMS * (d - 1) + k)) as usize, v);
 }
 
 // The value of item `k` in the last ended transaction.
@@ -191,12 +198,12 @@ pub fn last_value(b: &[u64], d: u64, k: u64) -> u64
     requires { ⌜ (1 ≤ d) × (d ≤ 8) × (k < 64) ⌝ }
     ensures { λ r. ⌜ r ≡ at (now (b .entry)) lastValues (itemAt d k) ⌝ }
 {
-    word(b, (2768 + (64 * (d - 1) + k)) as usize)
+    word(b, (LAST_VALUES + (MOST_ITEMS * (d - 1) + k)) as usize)
 }
 
 pub fn put_last_value(b: &mut [u64], d: u64, k: u64, v: u64)
     requires { ⌜ (1 ≤ d) × (d ≤ 8) × (k < 64) ⌝ }
     ensures { λ _. ⌜ now (b .exit) ≡ store (now (b .entry)) lastValues (itemAt d k) v ⌝ }
 {
-    put_word(b, (2768 + (64 * (d - 1) + k)) as usize, v);
+    put_word(b, (LAST_VALUES + (MOST_ITEMS * (d - 1) + k)) as usize, v);
 }

@@ -4,6 +4,10 @@ ghost use Prim.Native.Nat.{_+_, _≤_, _<_};
 ghost use lib.ListN.{getD, set};
 ghost use Rattle.layout.specs.Decode.{latestIn, viewIn};
 ghost use Rattle.layout.specs.Store.{storeLatest, storeView};
+use crate::ENTRY_WORDS;
+use crate::LATEST;
+use crate::MOST_ITEMS;
+use crate::VIEWS;
 use crate::put_word;
 use crate::word;
 use protocol::Entry;
@@ -32,14 +36,14 @@ pub fn latest(b: &[u64], k: u64) -> Entry
     requires { ⌜ k < 64 ⌝ }
     ensures { λ r. ⌜ r ≡ latestIn (now (b .entry)) k ⌝ }
 {
-    entry_at(b, 80, 2 * k)
+    entry_at(b, LATEST, ENTRY_WORDS * k)
 }
 
 pub fn put_latest(b: &mut [u64], k: u64, e: Entry)
     requires { ⌜ k < 64 ⌝ }
     ensures { λ _. ⌜ now (b .exit) ≡ storeLatest (now (b .entry)) k e ⌝ }
 {
-    put_entry_at(b, 80, 2 * k, e);
+    put_entry_at(b, LATEST, ENTRY_WORDS * k, e);
 }
 
 // The entry of item `k` in the view of client `d`.
@@ -47,12 +51,21 @@ pub fn view(b: &[u64], d: u64, k: u64) -> Entry
     requires { ⌜ (1 ≤ d) × (d ≤ 8) × (k < 64) ⌝ }
     ensures { λ r. ⌜ r ≡ viewIn (now (b .entry)) d k ⌝ }
 {
-    entry_at(b, 208, 128 * (d - 1) + 2 * k)
+    entry_at(
+        b,
+        VIEWS,
+        ENTRY_WORDS * MOST_ITEMS * (d - 1) + ENTRY_WORDS * k,
+    )
 }
 
 pub fn put_view(b: &mut [u64], d: u64, k: u64, e: Entry)
     requires { ⌜ (1 ≤ d) × (d ≤ 8) × (k < 64) ⌝ }
     ensures { λ _. ⌜ now (b .exit) ≡ storeView (now (b .entry)) d k e ⌝ }
 {
-    put_entry_at(b, 208, 128 * (d - 1) + 2 * k, e);
+    put_entry_at(
+        b,
+        VIEWS,
+        ENTRY_WORDS * MOST_ITEMS * (d - 1) + ENTRY_WORDS * k,
+        e,
+    );
 }

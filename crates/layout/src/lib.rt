@@ -9,6 +9,48 @@ ghost use Rattle.layout.specs.Store.{storeSizes, blank, freshBlock};
 pub mod client;
 pub mod entry;
 
+// The most clients, items, stored versions and messages in flight that there are words for.
+pub const MOST_CLIENTS: u64 = 8;
+
+pub const MOST_ITEMS: u64 = 64;
+
+pub const MOST_VERSIONS: u64 = 512;
+
+pub const MOST_MESSAGES: u64 = 128;
+
+// The words of the header, of a client's scalars, of an entry, a version and a message.
+pub const HEADER_WORDS: u64 = 16;
+
+pub const CLIENT_WORDS: u64 = 16;
+
+pub const ENTRY_WORDS: u64 = 2;
+
+pub const VERSION_WORDS: u64 = 4;
+
+pub const MESSAGE_WORDS: u64 = 8;
+
+// Where each section starts, after the header: where the one before it ends.
+pub const SCALARS: u64 = HEADER_WORDS;
+
+pub const LATEST: u64 = SCALARS + CLIENT_WORDS * MOST_CLIENTS;
+
+pub const VIEWS: u64 = LATEST + ENTRY_WORDS * MOST_ITEMS;
+
+pub const ASKED: u64 = VIEWS + ENTRY_WORDS * MOST_ITEMS * MOST_CLIENTS;
+
+pub const VALUES: u64 = ASKED + MOST_ITEMS * MOST_CLIENTS;
+
+pub const LAST_STAMPS: u64 = VALUES + MOST_ITEMS * MOST_CLIENTS;
+
+pub const LAST_VALUES: u64 = LAST_STAMPS + MOST_ITEMS * MOST_CLIENTS;
+
+pub const VERSIONS: u64 = LAST_VALUES + MOST_ITEMS * MOST_CLIENTS;
+
+pub const MESSAGES: u64 = VERSIONS + VERSION_WORDS * MOST_VERSIONS;
+
+// The length that a block needs.
+pub const NEEDED: usize = (MESSAGES + MESSAGE_WORDS * MOST_MESSAGES) as usize;
+
 // The word at `place`.
 pub fn word(b: &[u64], place: usize) -> u64
     ensures { λ r. ⌜ r ≡ getD (now (b .entry)) place 0 ⌝ }
@@ -98,6 +140,6 @@ pub fn make_fresh(b: &mut [u64], clients: u64, partitions: u64, items: u64)
     requires { ⌜ needed ≤ length (now b) ⌝ }
     ensures { λ _. ⌜ now (b .exit) ≡ freshBlock (now (b .entry)) clients partitions items ⌝ }
 {
-    clear(b, 6352);
+    clear(b, NEEDED);
     put_sizes(b, clients, partitions, items);
 }

@@ -16,18 +16,22 @@ use Rattle.protocol.specs.Range.{isClient, isItem, everyClient, isPrepare, arri
 use Rattle.protocol.specs.Range.{occupied}
 use Rattle.protocol.proofs.Tells.{tells-and, tells-le}
 use Rattle.protocol.proofs.Ranges.Values.{tells-sizes}
+use Rattle.layout.specs.Layout.{mostClients, mostItems, mostVersions, mostMessages}
 use Rattle.layout.specs.Layout.{at, header, scalars, clientsAt, partitionsAt, itemsAt, versionsAt}
 use Rattle.layout.specs.Layout.{messagesAt, modeAt, lastKindAt, needed}
 use Rattle.layout.specs.Decode.{sizesIn, latestIn, viewIn, clientIn, versionIn, messageIn, kindIn}
 use Rattle.layout.specs.Decode.{tablesOf, wellFormed, validBlock}
-use Rattle.range.specs.Sized.{sizes, sized}
-use Rattle.range.specs.Clients.{clientTest}
-use Rattle.range.specs.Messages.{messageTest}
+use Rattle.gather.specs.Sized.{sizes, sized}
+use Rattle.gather.proofs.Tested.{every-same, every-both}
+use Rattle.gather.proofs.Sizes.{entry-sized, version-sized, client-sized}
+use Rattle.range_client.specs.Clients.{clientTest}
+use Rattle.range_message.specs.Messages.{messageTest}
+use Rattle.range.specs.Entries.{entryFrom}
 use Rattle.range.specs.Block.{tablesTest}
-use Rattle.range.proofs.Sizes.{entry-sized, version-sized, client-sized}
-use Rattle.range.proofs.Folds.{every-same, every-both, all-table}
-use Rattle.range.proofs.WellFormed.{client-test, tells-valid-block}
-use Rattle.range.proofs.CapacityTests.{load-words, occupied-words}
+use Rattle.encoding.proofs.Folds.{all-table}
+use Rattle.range.proofs.EntryTests.{entries-tests}
+use Rattle.encoding.proofs.WellFormed.{client-test, tells-valid-block}
+use Rattle.encoding.proofs.Capacity.{load-words, occupied-words}
 
 -- the same tests in another order, where those of the header pass
 regroup : (long size vs ms latest view modes client versions kinds messages load occupied : Bool)
@@ -76,25 +80,26 @@ module _ (b : List ℕ) where
       ))
       ∙ sym (every-both (z .clients) _ _)
 
-  versions-same : vs ≤ 512 → every vs
+  versions-same : vs ≤ mostVersions → every vs
       (λ i. versionInRange (sized (z .clients) (z .items)) (versionIn b i))
-      ≡ all (versionInRange z) (table (min vs 512) (versionIn b))
+      ≡ all (versionInRange z) (table (min vs mostVersions) (versionIn b))
   versions-same l =
-      let few : min vs 512 ≡ vs = omega arith in
+      let few : min vs mostVersions ≡ vs = omega arith in
       every-same vs _ _ (λ i m. version-sized (z .clients) (z .partitions) (z .items)
       (versionIn b i))
       ∙ sym (all-table (versionInRange z) vs (versionIn b)) ∙ rw few
 
-  messages-same : ms ≤ 128 → every ms (λ i. messageTest b i (z .clients) (z .partitions) (z .items))
+  messages-same : ms ≤ mostMessages
+      → every ms (λ i. messageTest b i (z .clients) (z .partitions) (z .items))
       ≡ (every ms (λ i. leb 1 (kindIn b i) && leb (kindIn b i) 5)
-      && all (messageInRange z) (table (min ms 128) (messageIn b)))
+      && all (messageInRange z) (table (min ms mostMessages) (messageIn b)))
   messages-same l =
-      let few : min ms 128 ≡ ms = omega arith in
+      let few : min ms mostMessages ≡ ms = omega arith in
       sym (every-both ms (λ i. leb 1 (kindIn b i) && leb (kindIn b i) 5)
       (λ i. messageInRange z (messageIn b i)))
       ∙ rw (few, all-table (messageInRange z) ms (messageIn b))
 
-  valid-tests : needed ≤ length b → sizesInRange z ≡ true → vs ≤ 512 → ms ≤ 128
+  valid-tests : needed ≤ length b → sizesInRange z ≡ true → vs ≤ mostVersions → ms ≤ mostMessages
       → tablesTest b (z .clients) (z .partitions) (z .items) vs ms ≡ validBlock b
   unfolding tablesTest validBlock wellFormed valid inRange tablesOf
   valid-tests h s l m =
@@ -108,7 +113,7 @@ module _ (b : List ℕ) where
         load-words b m,
         occupied-words b l m,
       )
-      (regroup (leb needed (length b)) (sizesInRange z) (leb vs 512) (leb ms 128)
+      (regroup (leb needed (length b)) (sizesInRange z) (leb vs mostVersions) (leb ms mostMessages)
       (every (z .items) (λ k. entryInRange z (t .latest k)))
       (everyClient z (λ d. every (z .items) (λ k. entryInRange z (t .view d k))))
       (everyClient z (λ d. ltb (at b scalars (modeAt d)) 3 && ltb (at b scalars (lastKindAt d)) 3))
@@ -116,16 +121,17 @@ module _ (b : List ℕ) where
       (all (versionInRange z) (t .versions))
       (every ms (λ i. leb 1 (kindIn b i) && leb (kindIn b i) 5))
       (all (messageInRange z) (t .messages))
-      (leb (load t) 128)
-      (leb (occupied t) 512)
-      (le-leb needed (length b) h) s (le-leb vs 512 l) (le-leb ms 128 m))
+      (leb (load t) mostMessages)
+      (leb (occupied t) mostVersions)
+      (le-leb needed (length b) h) s (le-leb vs mostVersions l) (le-leb ms mostMessages m))
 
   -- a block that is short, or has other sizes or counts, is not valid
   pub valid-short : length b < needed → false ≡ validBlock b
   unfolding validBlock wellFormed
   valid-short h = rw (lt-leb needed (length b) h)
 
-  valid-header : (sizesInRange z && leb vs 512 && leb ms 128) ≡ false → false ≡ validBlock b
+  valid-header : (sizesInRange z && leb vs mostVersions && leb ms mostMessages) ≡ false
+      → false ≡ validBlock b
   valid-header e =
       by-test (validBlock b)
       (λ v.
@@ -136,12 +142,14 @@ module _ (b : List ℕ) where
 
   -- ---- The load and the versions in use of a valid block
 
-  pub load-valid : (clients messages : ℕ) → clients ≡ z .clients → messages ≡ ms → messages ≤ 128
+  pub load-valid : (clients messages : ℕ) → clients ≡ z .clients → messages ≡ ms
+      → messages ≤ mostMessages
       → messages + total clients (λ d. arrived (clientIn b d)) ≡ load (tablesOf b)
   load-valid clients messages p q l = rw (p, q) (load-words b (omega arith))
 
-  pub occupied-valid : (versions messages : ℕ) → versions ≡ vs → messages ≡ ms → versions ≤ 512
-      → messages ≤ 128
+  pub occupied-valid : (versions messages : ℕ) → versions ≡ vs → messages ≡ ms
+      → versions ≤ mostVersions
+      → messages ≤ mostMessages
       → versions + counted isPrepare (table messages (messageIn b)) ≡ occupied (tablesOf b)
   occupied-valid versions messages p q l h =
       rw (p, q) (occupied-words b (omega arith) (omega arith))
@@ -149,29 +157,31 @@ module _ (b : List ℕ) where
 -- ---- From the outcomes of the tests
 
 pub tables-tests : (b : List ℕ) (clients partitions items versions messages : ℕ)
-    {latest view client stored flight : Bool} {full used : ℕ}
-    → latest ≡ every items (λ k. entryInRange (sized clients items) (latestIn b k))
-    → view ≡ every clients (λ i. every items (λ k. entryInRange (sized clients items)
-    (viewIn b (suc i) k)))
+    {entries client stored flight : Bool} {full used : ℕ}
+    → entries ≡ every (suc clients) (λ i. every items (λ k. entryInRange (sized clients items)
+    (entryFrom b i k)))
     → client ≡ every clients (λ i. clientTest b (suc i) clients items)
     → stored ≡ every versions (λ i. versionInRange (sized clients items) (versionIn b i))
     → flight ≡ every messages (λ i. messageTest b i clients partitions items)
     → full ≡ messages + total clients (λ d. arrived (clientIn b d))
     → used ≡ versions + counted isPrepare (table messages (messageIn b))
-    → (latest && view && client && stored && flight && leb full 128 && leb used 512) ≡ tablesTest b
-    clients partitions items versions messages
+    → (entries && client && stored && flight && leb full mostMessages && leb used mostVersions)
+    ≡ tablesTest b clients partitions items versions messages
 unfolding tablesTest
-tables-tests b clients partitions items versions messages p q r s t u v = rw (p, q, r, s, t, u, v)
+tables-tests b clients partitions items versions messages p q r s t u =
+    rw (p, q, r, s, t, u, entries-tests b clients items)
 
 -- ---- The header's words
 
 abbrev headerTest : ℕ → ℕ → ℕ → ℕ → ℕ → Bool
 headerTest clients partitions items versions messages =
-    sizesInRange (sizes clients partitions items) && leb versions 512 && leb messages 128
+    sizesInRange (sizes clients partitions items) && leb versions mostVersions
+    && leb messages mostMessages
 
 pub header-bounds : (clients partitions items versions messages : ℕ) {known : Bool}
     → known ≡ headerTest clients partitions items versions messages
-    → known ≡ true → (clients ≤ 8) × (items ≤ 64) × (versions ≤ 512) × (messages ≤ 128)
+    → known ≡ true → (clients ≤ mostClients) × (items ≤ mostItems) × (versions ≤ mostVersions)
+    × (messages ≤ mostMessages)
 header-bounds clients partitions items versions messages k e =
     let f = simp (tells-and, tells-le, tells-sizes) at (sym k ∙ e) in
     (f .0 .0 .clients, f .0 .0 .items, f .0 .1, f .1)

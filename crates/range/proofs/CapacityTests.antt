@@ -1,28 +1,20 @@
--- The load and the versions in use, counted on the words, are those of the tables that the words
--- are.
+-- The prepared replies that have come to a client and whether a message is a prepare, read off the
+-- words.
 use mathlib.Core.Bool.{cond}
 use mathlib.Core.List.{List}
 use mathlib.Core.Logic.{_≢_}
-use mathlib.Core.Path.{_≡_, refl, sym, ap}
-use Prim.Native.Nat.{ℕ, zero, suc, _+_, _-_, _≤_, _<_, min}
+use mathlib.Core.Path.{_≡_, refl, sym}
+use Prim.Native.Nat.{ℕ, zero, suc, _-_, _≤_, _<_}
 use native.Mathlib.Omega.{arith}
 use lib.Dec.{eqb}
 use borrow.Author.Tests.{le-leb, lt-leb, ne-eqb}
-use Rattle.basics.specs.Lists.{counted, table}
-use Rattle.basics.proofs.Lists.{length-table}
 use Rattle.itemset.specs.Set.{count}
 use Rattle.protocol.specs.declared.Entry.{Entry}
-use Rattle.protocol.specs.Tables.{nothing, resting}
-use Rattle.protocol.specs.Range.{isClient, isPrepare, arrived, total, load, occupied}
-use Rattle.layout.specs.Layout.{at, header, scalars, versionsAt, messagesAt, modeAt, setAt}
+use Rattle.protocol.specs.Range.{isPrepare, arrived}
+use Rattle.layout.specs.Layout.{at, scalars, modeAt, setAt}
 use Rattle.layout.specs.Layout.{awaitedAt}
-use Rattle.layout.specs.Decode.{sizesIn, clientIn, kindIn, messageOf, versionIn, messageIn}
-use Rattle.layout.specs.Decode.{tablesOf}
-use Rattle.range.proofs.Folds.{total-same}
-use Rattle.range.proofs.WellFormed.{client-test}
-use Rattle.range.proofs.ClientTests.{is-writing}
-
--- ---- One client, one message
+use Rattle.layout.specs.Decode.{clientIn, kindIn, messageOf, messageIn}
+use Rattle.range_client.proofs.ClientTests.{is-writing}
 
 module _ (b : List ℕ) (d : ℕ) where
   pub arrived-other : at b scalars (modeAt d) < 2 → 0 ≡ arrived (clientIn b d)
@@ -63,28 +55,3 @@ prepare-one b i e = rw (prepare-kind b i, e)
 pub prepare-other : (b : List ℕ) (i : ℕ) → kindIn b i ≢ 1
     → _≡_ {A = ℕ} 0 (cond (isPrepare (messageIn b i)) 1 0)
 prepare-other b i n = rw (prepare-kind b i, ne-eqb (kindIn b i) 1 n)
-
--- ---- The whole
-
-pub load-words : (b : List ℕ) → at b header messagesAt ≤ 128
-    → at b header messagesAt + total (sizesIn b .clients) (λ d. arrived (clientIn b d)) ≡ load
-    (tablesOf b)
-unfolding tablesOf load
-load-words b l =
-    let come = total-same (sizesIn b .clients) (λ d. arrived (clientIn b d))
-    (λ d. arrived (cond (isClient (sizesIn b) d) (clientIn b d) (resting 0 nothing)))
-    (λ d p q. rw (client-test (sizesIn b) d (p, q))) in
-    omega (arith, come, length-table (min (at b header messagesAt) 128) (messageIn b))
-
-pub occupied-words : (b : List ℕ) → at b header versionsAt ≤ 512 → at b header messagesAt ≤ 128
-    → at b header versionsAt + counted isPrepare
-    (table (at b header messagesAt) (messageIn b)) ≡ occupied (tablesOf b)
-unfolding tablesOf occupied
-occupied-words b l h =
-    let few : at b header messagesAt ≡ min (at b header messagesAt) 128 = omega arith in
-    omega (
-      arith,
-      length-table (min (at b header versionsAt) 512) (versionIn b),
-      ap
-          (λ (n : ℕ). counted isPrepare (table n (messageIn b))) few,
-    )

@@ -1,16 +1,5 @@
--- Which tables a block holds, when it is valid, that calls keep tables masked; and the laws of the
--- tests on words.
-pub mod Folds
-pub mod WellFormed
-pub mod Encoded
-pub mod Decoded
-pub mod ValidIff
-pub mod MaskedTables
-pub mod MaskedStep
-pub mod Sizes
-pub mod Bits
-pub mod Gathered
-pub mod ClientTests
-pub mod MessageTests
+-- The laws of the tests of a block's words.
+pub mod EntryTests
+pub mod Sums
 pub mod CapacityTests
 pub mod BlockTests

@@ -4,11 +4,12 @@ use mathlib.Core.List.{List}
 use Prim.Native.Nat.{ℕ, suc, _+_}
 use lib.Dec.{leb}
 use Rattle.basics.specs.Lists.{every, counted, table}
-use Rattle.protocol.specs.Range.{entryInRange, versionInRange, arrived, total, isPrepare}
+use Rattle.protocol.specs.Range.{capacities, entryInRange, versionInRange, arrived, total}
+use Rattle.protocol.specs.Range.{isPrepare}
 use Rattle.layout.specs.Decode.{latestIn, viewIn, clientIn, versionIn, messageIn}
-use Rattle.range.specs.Sized.{sized}
-use Rattle.range.specs.Clients.{clientTest}
-use Rattle.range.specs.Messages.{messageTest}
+use Rattle.gather.specs.Sized.{sized}
+use Rattle.range_client.specs.Clients.{clientTest}
+use Rattle.range_message.specs.Messages.{messageTest}
 
 unfoldable pub tablesTest : List ℕ → ℕ → ℕ → ℕ → ℕ → ℕ → Bool
 tablesTest b clients partitions items versions messages =
@@ -18,5 +19,5 @@ tablesTest b clients partitions items versions messages =
     && every clients (λ i. clientTest b (suc i) clients items)
     && every versions (λ i. versionInRange (sized clients items) (versionIn b i))
     && every messages (λ i. messageTest b i clients partitions items)
-    && leb (messages + total clients (λ d. arrived (clientIn b d))) 128
-    && leb (versions + counted isPrepare (table messages (messageIn b))) 512
+    && leb (messages + total clients (λ d. arrived (clientIn b d))) (capacities .load)
+    && leb (versions + counted isPrepare (table messages (messageIn b))) (capacities .versions)

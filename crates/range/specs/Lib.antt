@@ -1,6 +1,4 @@
 -- What the contracts of `range` cite besides the layout and the protocol.
 pub mod Sized
 pub mod Entries
-pub mod Clients
-pub mod Messages
 pub mod Block

@@ -6,14 +6,15 @@ ghost use Prim.Native.Nat.{_+_, _*_, _≤_, _<_};
 ghost use lib.ListN.{length};
 ghost use Rattle.basics.specs.Lists.{counted, table};
 ghost use Rattle.protocol.specs.Range.{arrived, total, isPrepare};
+ghost use Rattle.layout.specs.Layout.{mostClients, mostItems, mostVersions, mostMessages, needed};
 ghost use Rattle.layout.specs.Decode.{clientIn, messageIn};
-use crate::message::message_word;
+use range_message::message_word;
 
 // The prepared replies that have come to client `d`; a mode above 2 is no mode, and refused elsewhere.
 fn arrived_at(b: &[u64], d: u64) -> u64
-    requires { ⌜ (1 ≤ d) × (d ≤ 8) ⌝ }
+    requires { ⌜ (1 ≤ d) × (d ≤ mostClients) ⌝ }
     ensures { λ r. ⌜ r ≡ arrived (clientIn (now (b .entry)) d) ⌝ }
-    ensures { λ r. ⌜ r ≤ 64 ⌝ }
+    ensures { λ r. ⌜ r ≤ mostItems ⌝ }
 {
     if layout::client::mode(b, d) < 2 {
         return 0;
@@ -27,9 +28,9 @@ fn arrived_at(b: &[u64], d: u64) -> u64
 }
 
 fn arrived_all(b: &[u64], clients: u64) -> u64
-    requires { ⌜ clients ≤ 8 ⌝ }
+    requires { ⌜ clients ≤ mostClients ⌝ }
     ensures { λ r. ⌜ r ≡ total clients (λ d. arrived (clientIn (now (b .entry)) d)) ⌝ }
-    ensures { λ r. ⌜ r ≤ 64 * clients ⌝ }
+    ensures { λ r. ⌜ r ≤ mostItems * clients ⌝ }
 {
     let mut sum = 0;
     let mut i = 0;
@@ -42,7 +43,7 @@ fn arrived_all(b: &[u64], clients: u64) -> u64
 
 // The load of a block with so many clients and messages.
 pub fn load_of(b: &[u64], clients: u64, messages: u64) -> u64
-    requires { ⌜ (clients ≤ 8) × (messages ≤ 128) ⌝ }
+    requires { ⌜ (clients ≤ mostClients) × (messages ≤ mostMessages) ⌝ }
     ensures { λ r. ⌜ r ≡ messages + total clients (λ d. arrived (clientIn (now (b .entry)) d)) ⌝ }
 {
     messages + arrived_all(b, clients)
@@ -50,7 +51,7 @@ pub fn load_of(b: &[u64], clients: u64, messages: u64) -> u64
 
 // 1 where message `i` is a prepare.
 fn prepare_at(b: &[u64], i: u64) -> u64
-    requires { ⌜ (i < 128) × (6352 ≤ length (now b)) ⌝ }
+    requires { ⌜ (i < mostMessages) × (needed ≤ length (now b)) ⌝ }
     ensures { λ r. ⌜ r ≡ cond (isPrepare (messageIn (now (b .entry)) i)) 1 0 ⌝ }
     ensures { λ r. ⌜ r ≤ 1 ⌝ }
 {
@@ -58,7 +59,7 @@ fn prepare_at(b: &[u64], i: u64) -> u64
 }
 
 fn prepares(b: &[u64], messages: u64) -> u64
-    requires { ⌜ (messages ≤ 128) × (6352 ≤ length (now b)) ⌝ }
+    requires { ⌜ (messages ≤ mostMessages) × (needed ≤ length (now b)) ⌝ }
     ensures { λ r. ⌜ r ≡ counted isPrepare (table messages (messageIn (now (b .entry)))) ⌝ }
     ensures { λ r. ⌜ r ≤ messages ⌝ }
 {
@@ -73,7 +74,7 @@ fn prepares(b: &[u64], messages: u64) -> u64
 
 // The versions in use of a block with so many stored versions and messages.
 pub fn occupied_of(b: &[u64], versions: u64, messages: u64) -> u64
-    requires { ⌜ (versions ≤ 512) × (messages ≤ 128) × (6352 ≤ length (now b)) ⌝ }
+    requires { ⌜ (versions ≤ mostVersions) × (messages ≤ mostMessages) × (needed ≤ length (now b)) ⌝ }
     ensures { λ r. ⌜ r ≡ versions + counted isPrepare (table messages (messageIn (now (b .entry)))) ⌝ }
 {
     versions + prepares(b, messages)

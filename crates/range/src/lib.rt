@@ -5,28 +5,32 @@ ghost use Prim.Native.Nat.{_≤_};
 ghost use lib.ListN.{length};
 ghost use lib.Dec.{leb};
 ghost use Rattle.protocol.specs.Range.{sizesInRange, load, occupied};
+ghost use Rattle.layout.specs.Layout.{mostClients, mostItems, mostVersions, mostMessages, needed};
 ghost use Rattle.layout.specs.Decode.{tablesOf, validBlock};
-ghost use Rattle.range.specs.Sized.{sizes};
+ghost use Rattle.gather.specs.Sized.{sizes};
 ghost use Rattle.range.specs.Block.{tablesTest};
 
 mod capacity;
-mod client;
 mod entry;
-mod field;
-mod message;
+
+use layout::MOST_CLIENTS;
+use layout::MOST_ITEMS;
+use layout::MOST_MESSAGES;
+use layout::MOST_VERSIONS;
+use layout::NEEDED;
 
 // The sizes are some that 2 allows, and there are no more versions and messages than a block holds.
 fn header_in_range(clients: u64, partitions: u64, items: u64, versions: u64, messages: u64) -> bool
-    ensures { λ r. ⌜ r ≡ (sizesInRange (sizes clients partitions items) && leb versions 512 && leb messages 128) ⌝ }
+    ensures { λ r. ⌜ r ≡ (sizesInRange (sizes clients partitions items) && leb versions mostVersions && leb messages mostMessages) ⌝ }
 {
     (1 <= clients)
-        & (clients <= 8)
+        & (clients <= MOST_CLIENTS)
         & (1 <= partitions)
         & (partitions <= 8)
         & (1 <= items)
-        & (items <= 64)
-        & (versions <= 512)
-        & (messages <= 128)
+        & (items <= MOST_ITEMS)
+        & (versions <= MOST_VERSIONS)
+        & (messages <= MOST_MESSAGES)
 }
 
 // All that the sizes and counts lead to.
@@ -38,20 +42,19 @@ fn tables_in_range(
     versions: u64,
     messages: u64,
 ) -> bool
-    requires { ⌜ (clients ≤ 8) × (items ≤ 64) × (versions ≤ 512) × (messages ≤ 128) × (6352 ≤ length (now b)) ⌝ }
+    requires { ⌜ (clients ≤ mostClients) × (items ≤ mostItems) × (versions ≤ mostVersions) × (messages ≤ mostMessages) × (needed ≤ length (now b)) ⌝ }
     ensures { λ r. ⌜ r ≡ tablesTest (now (b .entry)) clients partitions items versions messages ⌝ }
 {
-    entry::latest_in_range(b, clients, items)
-        & entry::views_in_range(b, clients, items)
-        & client::clients_in_range(b, clients, items)
-        & message::versions_in_range(b, versions, clients, items)
-        & message::messages_in_range(b, messages, clients, partitions, items)
-        & (capacity::load_of(b, clients, messages) <= 128)
-        & (capacity::occupied_of(b, versions, messages) <= 512)
+    entry::views_in_range(b, clients, items)
+        & range_client::clients_in_range(b, clients, items)
+        & range_message::versions_in_range(b, versions, clients, items)
+        & range_message::messages_in_range(b, messages, clients, partitions, items)
+        & (capacity::load_of(b, clients, messages) <= MOST_MESSAGES)
+        & (capacity::occupied_of(b, versions, messages) <= MOST_VERSIONS)
 }
 
 fn long_block(b: &[u64]) -> bool
-    requires { ⌜ 6352 ≤ length (now b) ⌝ }
+    requires { ⌜ needed ≤ length (now b) ⌝ }
     ensures { λ r. ⌜ r ≡ validBlock (now (b .entry)) ⌝ }
 {
     let clients = layout::clients(b);
@@ -70,7 +73,11 @@ fn long_block(b: &[u64]) -> bool
 pub fn valid_block(b: &[u64]) -> bool
     ensures { λ r. ⌜ r ≡ validBlock (now (b .entry)) ⌝ }
 {
-    if b.len() < 6352 { false } else { long_block(b) }
+    if b.len() < NEEDED {
+        false
+    } else {
+        long_block(b)
+    }
 }
 
 // The same for C: 1 or 0.

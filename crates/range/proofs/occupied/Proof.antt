@@ -3,7 +3,7 @@
 use mathlib.Core.Path.{_∙_}
 use native.Mathlib.Omega.{arith}
 use borrow.Author.Needs.{needs}
-use Rattle.range.proofs.WellFormed.{WellFormed, tells-valid-block}
+use Rattle.encoding.proofs.WellFormed.{WellFormed, tells-valid-block}
 use Rattle.range.proofs.BlockTests.{occupied-valid}
 use Rattle.range.proofs.occupied.Statement.{statement}
 use Rattle.range.proofs.occupied.Tie as tie

@@ -4,9 +4,6 @@ use Rattle.range.proofs.BlockTests.{tables-tests}
 use Rattle.range.proofs.tables_in_range.Statement.{statement}
 use Rattle.range.proofs.tables_in_range.Tie as tie
 
-latest-in-range-requires : tie.Need-latest-in-range-requires
-latest-in-range-requires c κs = search needs
-
 views-in-range-requires : tie.Need-views-in-range-requires
 views-in-range-requires c κs = search needs
 
@@ -28,7 +25,6 @@ occupied-of-requires c κs = search needs
 returns : tie.Need-returns
 returns c =
     tables-tests _ _ _ _ _ _
-    (c .before .before .before .before .before .before .latest-in-range .ensures)
     (c .before .before .before .before .before .views-in-range .ensures)
     (c .before .before .before .before .clients-in-range .ensures)
     (c .before .before .before .versions-in-range .ensures)
@@ -40,7 +36,6 @@ pub tables-in-range-spec : {M : Type 1} → statement M
 tables-in-range-spec =
     tie.close
     (tie.spec
-    latest-in-range-requires
     views-in-range-requires
     clients-in-range-requires
     versions-in-range-requires

@@ -5,14 +5,15 @@ use mathlib.Core.Path.{_≡_, sym}
 use Prim.Native.Nat.{_-_, _*_, _≤_}
 use native.Mathlib.Omega.{arith}
 use Rattle.protocol.specs.Range.{arrived, total}
+use Rattle.layout.specs.Layout.{mostItems}
 use Rattle.layout.specs.Decode.{clientIn}
-use Rattle.range.proofs.Folds.{total-none, total-next, at-end}
+use Rattle.range.proofs.Sums.{total-none, total-next, at-end}
 use Rattle.range.proofs.capacity.arrived_all.Statement.{statement}
 use Rattle.range.proofs.capacity.arrived_all.Tie as tie
 
 abbrev Inv-loop : tie.InvT-loop
 Inv-loop b clients sum₀ i₀ sum i =
-    (i ≤ clients) × (sum ≡ total i (λ d. arrived (clientIn b d))) × (sum ≤ 64 * i)
+    (i ≤ clients) × (sum ≡ total i (λ d. arrived (clientIn b d))) × (sum ≤ mostItems * i)
 
 abbrev μ-loop : tie.MeasureT-loop
 μ-loop b clients sum₀ i₀ sum i = clients - i

@@ -6,6 +6,7 @@ use Prim.Native.Nat.{_-_}
 use native.Mathlib.Omega.{arith}
 use Rattle.itemset.proofs.Counts.{count-le}
 use Rattle.protocol.specs.Range.{arrived}
+use Rattle.layout.specs.Layout.{mostItems}
 use Rattle.layout.specs.Decode.{clientIn}
 use Rattle.range.proofs.CapacityTests.{arrived-other, arrived-write}
 use Rattle.range.proofs.capacity.arrived_at.Statement.{statement}
@@ -52,7 +53,7 @@ returns-3 c = (
   omega (
     arith,
     count-le
-        (c .before .before .before .before .set-of .result) 64 (search needs),
+        (c .before .before .before .before .set-of .result) mostItems (search needs),
   ),
 )
 

@@ -6,7 +6,7 @@ use native.Mathlib.Omega.{arith}
 use Rattle.basics.specs.Lists.{counted, table}
 use Rattle.protocol.specs.Range.{isPrepare}
 use Rattle.layout.specs.Decode.{messageIn}
-use Rattle.range.proofs.Folds.{counted-none, counted-next, at-end}
+use Rattle.range.proofs.Sums.{counted-none, counted-next, at-end}
 use Rattle.range.proofs.capacity.prepares.Statement.{statement}
 use Rattle.range.proofs.capacity.prepares.Tie as tie
 

@@ -1,59 +1,45 @@
--- `range::entry::entries_in_range` meets its contract: entry after entry, and the sizes of all at
+-- `range::entry::entries_in_range` meets its contract: entry after entry, and one test of all at
 -- the end.
 use borrow.Author.Needs.{needs}
-use mathlib.Core.Bool.{Bool, _&&_}
-use mathlib.Core.Path.{ap, _∙_}
-use Prim.Native.Nat.{_-_, _/_, _^_}
-use lib.Dec.{ltb}
-use Rattle.itemset.specs.Set.{allBelow}
+use mathlib.Core.Path.{_∙_}
+use native.Mathlib.Omega.{arith}
+use Prim.Native.Nat.{_-_}
 use Rattle.protocol.specs.Range.{entryInRange}
-use Rattle.range.specs.Sized.{sized}
+use Rattle.gather.specs.Sized.{sized}
+use Rattle.gather.specs.Words.{entriesTest}
+use Rattle.gather.proofs.Tested.{SoFar, tested-all}
+use Rattle.gather.proofs.Gathers.{entries, gather-none, gather-next}
+use Rattle.gather.proofs.Stamps.{entry-read}
 use Rattle.range.specs.Entries.{entryFrom}
-use Rattle.range.proofs.Folds.{SoFar, tested-all}
-use Rattle.range.proofs.Gathered.{gather-none, gather-next, entry-words}
 use Rattle.range.proofs.entry.entries_in_range.Statement.{statement}
 use Rattle.range.proofs.entry.entries_in_range.Tie as tie
 
 abbrev Inv-loop : tie.InvT-loop
-Inv-loop b base i clients items ok₀ numbers₀ sets₀ k₀ ok numbers sets k =
-    SoFar items (λ k. entryInRange (sized clients items) (entryFrom b base i k)) k
-    (ok && ltb numbers (2 ^ 32) && allBelow sets items)
+Inv-loop b i clients items room stamps₀ mixes₀ rooms₀ sets₀ k₀ stamps mixes rooms sets k =
+    SoFar items (λ k. entryInRange (sized clients items) (entryFrom b i k)) k
+    (entriesTest clients items stamps mixes rooms sets)
 
 abbrev μ-loop : tie.MeasureT-loop
-μ-loop b base i clients items ok₀ numbers₀ sets₀ k₀ ok numbers sets k = items - k
+μ-loop b i clients items room stamps₀ mixes₀ rooms₀ sets₀ k₀ stamps mixes rooms sets k = items - k
+
+room-requires : tie.Need-room-requires Inv-loop μ-loop
+room-requires c κs = search needs
 
 loop-holds : tie.Need-loop-holds Inv-loop μ-loop
-loop-holds c = gather-none (c .before .args .items)
+loop-holds c = gather-none (entries (c .before .before .args .clients)
+    (c .before .before .args .items))
 
-mul-word : tie.Need-mul-word Inv-loop μ-loop
-mul-word c = search needs
+entry-word-requires : tie.Need-entry-word-requires Inv-loop μ-loop
+entry-word-requires c κs = search needs
 
-add-word : tie.Need-add-word Inv-loop μ-loop
-add-word c = search needs
+entry-word-requires-2 : tie.Need-entry-word-requires-2 Inv-loop μ-loop
+entry-word-requires-2 c κs = search needs
 
-add-word-2 : tie.Need-add-word-2 Inv-loop μ-loop
-add-word-2 c = search needs
+mixed-requires : tie.Need-mixed-requires Inv-loop μ-loop
+mixed-requires c κs = search needs
 
-word-requires : tie.Need-word-requires Inv-loop μ-loop
-word-requires c κs = search needs
-
-mul-word-2 : tie.Need-mul-word-2 Inv-loop μ-loop
-mul-word-2 c = search needs
-
-add-word-3 : tie.Need-add-word-3 Inv-loop μ-loop
-add-word-3 c = search needs
-
-add-word-4 : tie.Need-add-word-4 Inv-loop μ-loop
-add-word-4 c = search needs
-
-add-word-5 : tie.Need-add-word-5 Inv-loop μ-loop
-add-word-5 c = search needs
-
-word-requires-2 : tie.Need-word-requires-2 Inv-loop μ-loop
-word-requires-2 c κs = search needs
-
-parts-in-range-requires : tie.Need-parts-in-range-requires Inv-loop μ-loop
-parts-in-range-requires c κs = search needs
+roomed-requires : tie.Need-roomed-requires Inv-loop μ-loop
+roomed-requires c κs = search needs
 
 add-k : tie.Need-add-k Inv-loop μ-loop
 add-k c = search needs
@@ -63,22 +49,27 @@ loop-less c = search needs
 
 loop-again : tie.Need-loop-again Inv-loop μ-loop
 loop-again c =
-    let l = c .before .before .before .before .loop in
-    let a = c .before .before .before .before .before .before .args in
-    gather-next (a .items) (l .ok) (c .parts-in-range .result) (l .numbers)
-    (c .before .before .word .result / 16) (l .sets) (c .before .word2 .result) (l .inv)
-    (c .before .before .before .loop-test .taken)
-    (entry-words (a .clients) (a .items) (entryFrom (a .b .now) (a .base) (a .i) (l .k))
-    (c .parts-in-range .ensures) (c .before .before .word .ensures)
-    (c .before .word2 .ensures))
+    let l = c .before .before .before .before .before .loop in
+    let a = c .before .before .before .before .before .before .before .before .args in
+    gather-next (entries (a .clients) (a .items))
+    (((l .stamps, l .mixes), l .rooms), l .sets) (
+      (
+        (c .before .before .before .entry-word .result, c .before .mixed .result),
+        c .roomed .result,
+      ),
+      c .before .before .entry-word2 .result,
+    )
+    (l .inv) (c .before .before .before .before .loop-test .taken)
+    (entry-read (a .clients) (a .items) (entryFrom (a .b .now) (a .i) (l .k)) (omega arith)
+    (c .before .before .before .entry-word .ensures) (c .before .mixed .ensures)
+    (c .roomed .ensures) (c .before .before .entry-word2 .ensures))
 
-all-below-requires : tie.Need-all-below-requires Inv-loop μ-loop
-all-below-requires c κs = search needs
+entries-pass-requires : tie.Need-entries-pass-requires Inv-loop μ-loop
+entries-pass-requires c κs = search needs
 
 returns : tie.Need-returns Inv-loop μ-loop
 returns c =
-    ap (λ (t : Bool). c .before .before .loop .ok && ltb (c .before .before .loop .numbers) (2 ^ 32)
-    && t) (c .all-below .ensures)
+    c .entries-pass .ensures
     ∙ tested-all (c .before .before .loop .inv) (c .before .loop-test .left)
 
 pub entries-in-range-spec : {M : Type 1} → statement M
@@ -87,19 +78,14 @@ entries-in-range-spec =
     (tie.spec
     Inv-loop
     μ-loop
+    room-requires
     loop-holds
-    mul-word
-    add-word
-    add-word-2
-    word-requires
-    mul-word-2
-    add-word-3
-    add-word-4
-    add-word-5
-    word-requires-2
-    parts-in-range-requires
+    entry-word-requires
+    entry-word-requires-2
+    mixed-requires
+    roomed-requires
     add-k
     loop-less
     loop-again
-    all-below-requires
+    entries-pass-requires
     returns)

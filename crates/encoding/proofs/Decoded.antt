@@ -1,0 +1,175 @@
+-- A block that holds tables decodes to them, where they are initial outside their sizes and sets.
+use mathlib.Core.Bool.{true, cond, _&&_}
+use mathlib.Core.List.{List}
+use mathlib.Core.Path.{_≡_, refl, sym, ap, _∙_, fun-ext}
+use Prim.Native.Nat.{ℕ, _+_, _≤_, min}
+use native.Mathlib.Omega.{arith}
+use lib.ListN.{length}
+use borrow.Author.Tests.{ltb-true}
+use Rattle.basics.proofs.Cases.{by-test, between}
+use Rattle.basics.specs.Lists.{table}
+use Rattle.basics.proofs.Lists.{in-getD}
+use Rattle.itemset.specs.Set.{has}
+use Rattle.protocol.specs.declared.Entry.{Entry}
+use Rattle.protocol.specs.declared.Message.the-variants.{Commit}
+use Rattle.protocol.specs.Tables.{Tables, Client, Mode, idle, reading, writing, Ended, nothing}
+use Rattle.protocol.specs.Tables.{read, write, initial, resting}
+use Rattle.protocol.specs.Range.{capacities, isClient, isItem, isWriting, load, occupied, valid}
+use Rattle.protocol.specs.Steps.{version}
+use Rattle.protocol.proofs.Ranges.Tables.{Valid, valid-facts}
+use Rattle.layout.specs.Layout.{mostVersions, mostMessages}
+use Rattle.layout.specs.Layout.{Section, header, scalars, latest, views, asked, values, lastStamps}
+use Rattle.layout.specs.Layout.{lastValues, at, messagesAt, versionsAt}
+use Rattle.layout.specs.Layout.{modeAt, lastKindAt, lastSetAt, lastStampAt, setAt, stampAt, itemAt}
+use Rattle.layout.specs.Layout.{latestAt, viewAt}
+use Rattle.layout.specs.Decode.{sizesIn, latestIn, viewIn, modeOf, within, endedOf, clientIn}
+use Rattle.layout.specs.Decode.{versionIn, messageIn, tablesOf}
+use Rattle.layout.specs.Encodes.{numberOfMode, HoldsEntry, HoldsEnded, HoldsClient, Encodes}
+use Rattle.layout.specs.Masked.{Only, MaskedEnded, MaskedClient, Masked}
+use Rattle.layout.proofs.Held.{version-held, message-held}
+use Rattle.encoding.proofs.Folds.{table-of}
+
+-- ---- Clients
+
+pub mode-number : (m : Mode) → modeOf (numberOfMode m) ≡ m
+unfolding modeOf
+mode-number idle = refl
+mode-number reading = refl
+mode-number writing = refl
+
+-- the words of a set's items are what f has there, and f is 0 elsewhere
+only-words : (s : ℕ) (words f : ℕ → ℕ) → ((k : ℕ) → has s k ≡ true → words k ≡ f k) → Only s f
+    → (k : ℕ) → within s words k ≡ f k
+only-words s words f h o k = by-test (has s k) (λ e. rw e (h k e)) (λ e. rw e (sym (o k e)))
+
+ended-of : (b : List ℕ) (d : ℕ) (x : Ended) → HoldsEnded b d x → MaskedEnded x
+    → endedOf (at b scalars (lastKindAt d)) (at b scalars (lastSetAt d))
+    (at b scalars (lastStampAt d)) (λ j. at b lastStamps (itemAt d j))
+    (λ j. at b lastValues (itemAt d j)) ≡ x
+unfolding endedOf
+ended-of b d nothing h m = rw h
+ended-of b d (read s stamps vs) h m =
+    let σ = fun-ext (only-words s (λ j. at b lastStamps (itemAt d j)) stamps (h .2) (m .0)) in
+    let ν = fun-ext (only-words s (λ j. at b lastValues (itemAt d j)) vs (h .3) (m .1)) in
+    rw (h .0, h .1) (λ i. read s (σ i) (ν i))
+ended-of b d (write s stamp vs) h m =
+    let ν = fun-ext (only-words s (λ j. at b lastValues (itemAt d j)) vs (h .3) m) in
+    rw (h .0, h .1) (λ i. write s (h .2 i) (ν i))
+
+client-of : (b : List ℕ) (d : ℕ) (c : Client) → HoldsClient b d c → MaskedClient c
+    → clientIn b d ≡ c
+unfolding clientIn
+client-of b d c h m =
+    let mode : modeOf (at b scalars (modeAt d)) ≡ c .mode =
+    ap modeOf (h .mode) ∙ mode-number (c .mode) in
+    let stamp : cond (isWriting (modeOf (at b scalars (modeAt d))))
+    (at b scalars (stampAt d)) 0 ≡ c .stamp =
+    rw mode (by-test (isWriting (c .mode)) (λ w. rw w (h .stamp w))
+    (λ w. rw w (sym (m .others w)))) in
+    let asked : (k : ℕ)
+    → cond (isWriting (modeOf (at b scalars (modeAt d)))) 0
+    (within (at b scalars (setAt d)) (λ j. at b asked (itemAt d j)) k) ≡ c .asked k =
+    λ k.
+    rw (mode, h .set) (by-test (isWriting (c .mode))
+    (λ w. rw w (sym (m .writing w k)))
+    (λ w. rw w (only-words (c .set) (λ j. at b asked (itemAt d j)) (c .asked) (h .asked w)
+    (m .asked) k))) in
+    let values : (k : ℕ) → within (at b scalars (setAt d))
+    (λ j. at b values (itemAt d j)) k ≡ c .values k =
+    λ k. rw (h .set) (only-words (c .set) (λ j. at b values (itemAt d j)) (c .values) (h .values) (m .values) k) in
+    let last = ended-of b d (c .last) (h .last) (m .last) in
+    λ i.
+    record {
+      mode = mode i;
+      count = h .count i;
+      set = h .set i;
+      awaited = h .awaited i;
+      asked = λ k. asked k i;
+      stamp = stamp i;
+      values = λ k. values k i;
+      last = last i;
+    }
+
+-- ---- Entries
+
+pub entry-of : (b : List ℕ) (s : Section) (at₀ : ℕ) (e : Entry) → HoldsEntry b s at₀ e
+    → record { stamp = at b s at₀; set = at b s (at₀ + 1) } ≡ e
+entry-of b s at₀ e h = λ i. record { stamp = h .stamp i; set = h .set i }
+
+-- ---- The whole
+
+module _ (b : List ℕ) (t : Tables) (e : Encodes b t) (m : Masked t) where
+  sizes-of : sizesIn b ≡ t .sizes
+  sizes-of = λ i. record {
+    clients = e .clients i;
+    partitions = e .partitions i;
+    items =
+        e .items i;
+  }
+
+  latest-of : (k : ℕ) → cond (isItem (sizesIn b) k) (latestIn b k) initial ≡ t .latest k
+  latest-of k =
+      rw (e .items)
+      (by-test (isItem (t .sizes) k)
+      (λ y. rw y (entry-of b latest (latestAt k) (t .latest k)
+      (e .latest k (ltb-true k (t .sizes .items) y))))
+      (λ f. rw f (sym (m .latest k f))))
+
+  view-of : (d k : ℕ) → cond (isClient (sizesIn b) d && isItem (sizesIn b) k)
+      (viewIn b d k) initial ≡ t .view d k
+  view-of d k =
+      rw (e .clients, e .items)
+      (by-test (isClient (t .sizes) d) (λ y. rw y (by-test (isItem (t .sizes) k)
+      (λ z.
+      let bounds = between 1 (t .sizes .clients) d y in
+      rw z (entry-of b views (viewAt d k) (t .view d k)
+      (e .view d (bounds .0) (bounds .1) k (ltb-true k (t .sizes .items) z))))
+      (λ f. rw f (sym (m .itemView d k f)))))
+      (λ f. rw f (sym (m .clientView d k f))))
+
+  clients-of : (d : ℕ) → cond (isClient (sizesIn b) d) (clientIn b d)
+      (resting 0 nothing) ≡ t .client d
+  clients-of d =
+      rw (e .clients)
+      (by-test (isClient (t .sizes) d)
+      (λ y.
+      let bounds = between 1 (t .sizes .clients) d y in
+      rw y (client-of b d (t .client d) (e .client d (bounds .0) (bounds .1)) (m .client d)))
+      (λ f. rw f (sym (m .absent d f))))
+
+  pub tables-of : length (t .versions) ≤ mostVersions → length (t .messages) ≤ mostMessages
+      → tablesOf b ≡ t
+  unfolding tablesOf
+  tables-of vs ms =
+      let versions : table (min (at b header versionsAt) mostVersions) (versionIn b) ≡ t .versions =
+      table-of _ (versionIn b) (t .versions) (version 0 0 0 0) (omega (arith, e .versionCount))
+      (λ i l. version-held b i _ (e .versions i l (version 0 0 0 0))) in
+      let messages : table (min (at b header messagesAt) mostMessages) (messageIn b) ≡ t .messages =
+      table-of _ (messageIn b) (t .messages) (Commit 0 0) (omega (arith, e .messageCount))
+      (λ i l. message-held b i _ (e .messages i l (Commit 0 0))
+      (m .messages _ (in-getD (t .messages) i (Commit 0 0) l))) in
+      λ i.
+      record {
+        sizes = sizes-of i;
+        latest = λ k. latest-of k i;
+        view = λ d k. view-of d k i;
+        client = λ d. clients-of d i;
+        versions = versions i;
+        messages = messages i;
+      }
+
+-- ---- Within the capacities
+
+pub few-versions : (t : Tables) → Valid capacities t → length (t .versions) ≤ mostVersions
+unfolding occupied
+few-versions t v = omega (arith, v .occupied)
+
+pub few-messages : (t : Tables) → Valid capacities t → length (t .messages) ≤ mostMessages
+unfolding load
+few-messages t v = omega (arith, v .load)
+
+pub tables-of-valid : (b : List ℕ) (t : Tables) → Encodes b t → Masked t → valid capacities t ≡ true
+    → tablesOf b ≡ t
+tables-of-valid b t e m v =
+    let f = valid-facts capacities t v in
+    tables-of b t e m (few-versions t f) (few-messages t f)

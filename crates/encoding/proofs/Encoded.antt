@@ -1,0 +1,101 @@
+-- A well-formed block holds the tables that it decodes to.
+use mathlib.Core.Bool.{true, cond}
+use mathlib.Core.List.{List}
+use mathlib.Core.Path.{_≡_, refl, sym, _∙_}
+use Prim.Native.Nat.{ℕ, zero, suc, _<_, min}
+use native.Mathlib.Omega.{arith}
+use lib.ListN.{length, getD}
+use borrow.Author.Tests.{lt-ltb}
+use Rattle.basics.specs.Lists.{table}
+use Rattle.basics.proofs.Lists.{length-table, table-at}
+use Rattle.itemset.specs.Set.{has}
+use Rattle.layout.specs.Layout.{mostVersions, mostMessages}
+use Rattle.layout.specs.Layout.{header, scalars, values, lastStamps, lastValues, at, messagesAt}
+use Rattle.layout.specs.Layout.{versionsAt}
+use Rattle.layout.specs.Layout.{modeAt, lastKindAt, lastSetAt, lastStampAt, setAt, itemAt}
+use Rattle.layout.specs.Decode.{sizesIn, modeOf, endedOf, clientIn, versionIn, messageIn, tablesOf}
+use Rattle.layout.specs.Decode.{wellFormed}
+use Rattle.layout.specs.Encodes.{numberOfMode, HoldsVersion, HoldsMessage, HoldsEnded}
+use Rattle.layout.specs.Encodes.{HoldsClient, Encodes}
+use Rattle.layout.proofs.Held.{held-version, held-message}
+use Rattle.encoding.proofs.WellFormed.{client-test, tells-well-formed}
+
+-- ---- Numbers of modes, ended transactions and kinds
+
+number-mode : (n : ℕ) → n < 3 → n ≡ numberOfMode (modeOf n)
+unfolding modeOf
+number-mode zero l = refl
+number-mode (suc zero) l = refl
+number-mode (suc (suc n)) l = omega arith
+
+-- an item of the set keeps its word
+within-has : (s k v : ℕ) → has s k ≡ true → v ≡ cond (has s k) v 0
+within-has s k v e = rw e
+
+holds-ended : (b : List ℕ) (d n : ℕ) → at b scalars (lastKindAt d) ≡ n → n < 3
+    → HoldsEnded b d (endedOf n (at b scalars (lastSetAt d)) (at b scalars (lastStampAt d))
+    (λ j. at b lastStamps (itemAt d j))
+    (λ j. at b lastValues (itemAt d j)))
+unfolding endedOf
+holds-ended b d zero e l = e
+holds-ended b d (suc zero) e l =
+    let s = at b scalars (lastSetAt d) in (
+      e,
+      refl,
+      λ k. within-has s k (at b lastStamps (itemAt d k)),
+      λ k. within-has s k (at b lastValues (itemAt d k)),
+    )
+holds-ended b d (suc (suc n)) e l = (
+  omega arith,
+  refl,
+  refl,
+  λ k. within-has (at b scalars (lastSetAt d)) k (at b lastValues (itemAt d k)),
+)
+
+-- ---- Fields
+
+holds-client : (b : List ℕ) (d : ℕ) → at b scalars (modeAt d) < 3 → at b scalars (lastKindAt d) < 3
+    → HoldsClient b d (clientIn b d)
+unfolding clientIn
+holds-client b d m l =
+    let s = at b scalars (setAt d) in
+    record {
+      mode = number-mode (at b scalars (modeAt d)) m;
+      count = refl;
+      set = refl;
+      awaited = refl;
+      stamp = λ w. rw w;
+      asked = λ w k h. rw (w, h);
+      values = λ k. within-has s k (at b values (itemAt d k));
+      last = holds-ended b d (at b scalars (lastKindAt d)) refl l;
+    }
+
+-- what holds of each place's element holds at each place of the table
+table-holds : {A : Type 0} (P : ℕ → A → Type 0) (n : ℕ) (f : ℕ → A) → ((i : ℕ) → i < n → P i (f i))
+    → (i : ℕ) → i < length (table n f) → (none : A) → P i (getD (table n f) i none)
+table-holds P n f h i l none =
+    let below : i < n = omega (arith, length-table n f) in
+    rw (table-at n f i none below) (h i below)
+
+-- ---- The whole
+
+pub encodes-tables : (b : List ℕ) → wellFormed b ≡ true → Encodes b (tablesOf b)
+unfolding tablesOf
+encodes-tables b e =
+    let w = tells-well-formed b .0 e in
+    let vs : min (at b header versionsAt) mostVersions ≡ at b header versionsAt = omega arith in
+    let ms : min (at b header messagesAt) mostMessages ≡ at b header messagesAt = omega arith in
+    record {
+      long = w .long;
+      clients = refl;
+      partitions = refl;
+      items = refl;
+      versionCount = sym (length-table _ _ ∙ vs);
+      messageCount = sym (length-table _ _ ∙ ms);
+      latest = λ k l. rw (lt-ltb k (sizesIn b .items) l) (record { stamp = refl; set = refl });
+      view = λ d l h k m. rw (client-test (sizesIn b) d (l, h), lt-ltb k (sizesIn b .items) m) (record { stamp = refl; set = refl });
+      client = λ d l h. rw (client-test (sizesIn b) d (l, h)) (holds-client b d (w .mode d (l, h)) (w .lastKind d (l, h)));
+      versions = table-holds (HoldsVersion b) _ (versionIn b) (λ i l. held-version b i);
+      messages = table-holds (HoldsMessage b) _ (messageIn b)
+          (λ i l. held-message b i (w .someKind i (omega arith)) (w .kind i (omega arith)));
+    }

@@ -1,0 +1,259 @@
+-- A block is valid exactly when it holds some tables that are in range and within the capacities.
+use mathlib.Core.Bool.{true}
+use mathlib.Core.List.{List}
+use mathlib.Core.Logic.{_↔_}
+use mathlib.Core.Path.{_≡_, sym, ap, _∙_, subst, subst₂}
+use Prim.Native.Nat.{ℕ, _+_, _≤_, _<_}
+use native.Mathlib.Omega.{arith}
+use lib.ListN.{length, getD}
+use borrow.Author.Tests.{lt-ltb}
+use Rattle.basics.proofs.Cases.{by-test}
+use Rattle.basics.proofs.Lists.{in-getD}
+use Rattle.protocol.specs.declared.Entry.{Entry}
+use Rattle.protocol.specs.declared.Message.{Message}
+use Rattle.protocol.specs.declared.Message.the-variants.{Prepare, Prepared, Commit, Get, Got}
+use Rattle.protocol.specs.Tables.{Sizes, Tables, Client, Mode, idle, reading, writing, Ended}
+use Rattle.protocol.specs.Tables.{nothing, read, write}
+use Rattle.protocol.specs.Steps.{version}
+use Rattle.protocol.specs.Range.{capacities, isWriting, isPrepare, arrived, load, occupied, valid}
+use Rattle.protocol.proofs.Ranges.Values.{SizesInRange, IsClient, EntryInRange, VersionInRange}
+use Rattle.protocol.proofs.Ranges.Values.{MessageInRange}
+use Rattle.protocol.proofs.Ranges.Clients.{EndedInRange, ClientInRange}
+use Rattle.protocol.proofs.Kept.Values.{range-initial}
+use Rattle.protocol.proofs.Ranges.Tables.{InRange, Valid, valid-facts, facts-valid}
+use Rattle.layout.specs.Layout.{Section, header, scalars, latest, views, asked, values, lastStamps}
+use Rattle.layout.specs.Layout.{lastValues, at}
+use Rattle.layout.specs.Layout.{messagesAt, modeAt, lastKindAt, lastSetAt, lastStampAt, itemAt}
+use Rattle.layout.specs.Layout.{latestAt, viewAt}
+use Rattle.layout.specs.Decode.{sizesIn, kindIn, modeOf, within, endedOf, messageOf, clientIn}
+use Rattle.layout.specs.Decode.{versionIn, messageIn, tablesOf, wellFormed, validBlock}
+use Rattle.layout.specs.Encodes.{numberOfMode, HoldsEntry, HoldsMessage, HoldsEnded, HoldsClient}
+use Rattle.layout.specs.Encodes.{Encodes}
+use Rattle.encoding.proofs.Folds.{each-table, counted-list, total-same}
+use Rattle.encoding.proofs.WellFormed.{client-test, WellFormed, tells-well-formed}
+use Rattle.encoding.proofs.WellFormed.{ValidBlock}
+use Rattle.encoding.proofs.WellFormed.{tells-valid-block}
+use Rattle.encoding.proofs.Capacity.{load-words, occupied-words}
+use Rattle.encoding.proofs.Encoded.{encodes-tables}
+use Rattle.layout.proofs.Held.{version-held}
+use Rattle.encoding.proofs.Decoded.{mode-number, entry-of, few-versions, few-messages}
+
+-- ---- The numbers are those of some mode, ended transaction or kind
+
+mode-below : (m : Mode) → numberOfMode m < 3
+mode-below idle = omega arith
+mode-below reading = omega arith
+mode-below writing = omega arith
+
+ended-below : (b : List ℕ) (d : ℕ) (x : Ended) → HoldsEnded b d x → at b scalars (lastKindAt d) < 3
+ended-below b d nothing h = omega arith
+ended-below b d (read s stamps vs) h = omega (arith, h .0)
+ended-below b d (write s stamp vs) h = omega (arith, h .0)
+
+kind-within : (b : List ℕ) (i : ℕ) (m : Message) → HoldsMessage b i m → (1 ≤ kindIn b i)
+    × (kindIn b i ≤ 5)
+kind-within b i (Prepare v) h = omega (arith, h .0)
+kind-within b i (Prepared k stamp) h = omega (arith, h .0)
+kind-within b i (Commit p stamp) h = omega (arith, h .0)
+kind-within b i (Get d k stamp) h = omega (arith, h .0)
+kind-within b i (Got d v e) h = omega (arith, h .0)
+
+-- ---- Fields that a block holds are in range where those of the tables are
+
+module _ (b : List ℕ) (z : Sizes) where
+  ended-range : (d : ℕ) (x : Ended) → HoldsEnded b d x → EndedInRange z x
+      → EndedInRange z (endedOf (at b scalars (lastKindAt d)) (at b scalars (lastSetAt d))
+      (at b scalars (lastStampAt d)) (λ j. at b lastStamps (itemAt d j))
+      (λ j. at b lastValues (itemAt d j)))
+  unfolding endedOf
+  ended-range d nothing h r = rw h tt
+  ended-range d (read s stamps vs) h r =
+      rw (h .0, h .1)
+      (record {
+        set = r .set;
+        stamps = λ k e. rw (e, h .2 k e) (r .stamps k e);
+        values =
+            λ k e. rw (e, h .3 k e) (r .values k e);
+      })
+  ended-range d (write s stamp vs) h r =
+      rw (h .0, h .1, h .2) (record {
+        set = r .set;
+        stamp = r .stamp;
+        values =
+            λ k e. rw (e, h .3 k e) (r .values k e);
+      })
+
+  client-range : (d : ℕ) (c : Client) → HoldsClient b d c → ClientInRange z c
+      → ClientInRange z (clientIn b d)
+  unfolding clientIn
+  client-range d c h r =
+      let mode : modeOf (at b scalars (modeAt d)) ≡ c .mode =
+      ap modeOf (h .mode) ∙ mode-number (c .mode) in
+      record {
+        count = rw (h .count) (r .count);
+        set = rw (h .set) (r .set);
+        awaited = rw (h .awaited) (r .awaited);
+        within = rw (h .set, h .awaited) (r .within);
+        idle = rw (mode, h .awaited) (r .idle);
+        stamp = rw mode (by-test (isWriting (c .mode)) (λ w. rw (w, h .stamp w) (r .stamp))
+            (λ w. rw w (range-initial z)));
+        asked = rw (mode, h .set) (λ k e. by-test (isWriting (c .mode))
+            (λ w. rw w (range-initial z)) (λ w. rw (w, e, h .asked w k e) (r .asked k e)));
+        values = rw (h .set) (λ k e. rw (e, h .values k e) (r .values k e));
+        last = ended-range d (c .last) (h .last) (r .last);
+      }
+
+  message-range : (i : ℕ) (m : Message) → HoldsMessage b i m → MessageInRange z m
+      → MessageInRange z (messageIn b i)
+  unfolding messageIn messageOf
+  message-range i (Prepare v) h r = rw (h .0, h .1, h .2, h .3, h .4) r
+  message-range i (Prepared k stamp) h r = rw (h .0, h .1, h .2) r
+  message-range i (Commit p stamp) h r = rw (h .0, h .1, h .2) r
+  message-range i (Get d k stamp) h r = rw (h .0, h .1, h .2, h .3) r
+  message-range i (Got d v e) h r =
+      rw (h .0, h .1, h .2, h .3, h .4, h .5, h .6)
+      (record {
+        client = r .client;
+        item = r .item;
+        value = r .value;
+        stamp = r .stamp;
+        latest =
+            r .latest;
+      })
+
+-- ---- and the load and the versions in use are the same
+
+arrived-same : (b : List ℕ) (d : ℕ) (c : Client) → HoldsClient b d c
+    → arrived (clientIn b d) ≡ arrived c
+unfolding clientIn arrived
+arrived-same b d c h =
+    let mode : modeOf (at b scalars (modeAt d)) ≡ c .mode =
+    ap modeOf (h .mode) ∙ mode-number (c .mode) in
+    rw (mode, h .set, h .awaited)
+
+prepare-same : (b : List ℕ) (i : ℕ) (m : Message) → HoldsMessage b i m
+    → isPrepare (messageIn b i) ≡ isPrepare m
+unfolding messageIn messageOf isPrepare
+prepare-same b i (Prepare v) h = rw (h .0)
+prepare-same b i (Prepared k stamp) h = rw (h .0)
+prepare-same b i (Commit p stamp) h = rw (h .0)
+prepare-same b i (Get d k stamp) h = rw (h .0)
+prepare-same b i (Got d v e) h = rw (h .0)
+
+-- ---- The whole
+
+module _ (b : List ℕ) (t : Tables) (e : Encodes b t) (v : Valid capacities t) where
+  sizes-same : t .sizes ≡ sizesIn b
+  sizes-same = λ i. record {
+    clients = sym (e .clients) i;
+    partitions =
+        sym (e .partitions) i;
+    items = sym (e .items) i;
+  }
+
+  holds-client : (d : ℕ) → IsClient (sizesIn b) d → HoldsClient b d (t .client d)
+  holds-client d c = e .client d (c .0) (omega (arith, e .clients))
+
+  abbrev message : ℕ → Message
+  message i = getD (t .messages) i (Commit 0 0)
+
+  holds-message : (i : ℕ) → i < length (t .messages) → HoldsMessage b i (message i)
+  holds-message i l = e .messages i l (Commit 0 0)
+
+  well-formed : WellFormed b
+  well-formed =
+      let kind : (i : ℕ) → i < at b header messagesAt → (1 ≤ kindIn b i) × (kindIn b i ≤ 5) =
+      λ i l. kind-within b i (message i) (holds-message i (omega (arith, e .messageCount))) in
+      record {
+        long = e .long;
+        sizes = subst SizesInRange sizes-same (v .inRange .sizes);
+        versionCount = omega (arith, e .versionCount, few-versions t v);
+        messageCount = omega (arith, e .messageCount, few-messages t v);
+        mode = λ d c. omega (arith, holds-client d c .mode, mode-below (t .client d .mode));
+        lastKind = λ d c. ended-below b d (t .client d .last) (holds-client d c .last);
+        someKind = λ i l. kind i l .0;
+        kind = λ i l. kind i l .1;
+      }
+
+  entry-range : (s : Section) (i : ℕ) (x : Entry) → HoldsEntry b s i x → EntryInRange (t .sizes) x
+      → EntryInRange (sizesIn b) (record { stamp = at b s i; set = at b s (i + 1) })
+  entry-range s i x h r = subst₂ EntryInRange sizes-same (sym (entry-of b s i x h)) r
+
+  tables-range : InRange (tablesOf b)
+  unfolding tablesOf
+  tables-range =
+      let r = v .inRange in
+      record {
+        sizes = subst SizesInRange sizes-same (r .sizes);
+        latest = λ k l.
+            let m : k < t .sizes .items = omega (arith, e .items) in
+            rw (lt-ltb k (sizesIn b .items) l)
+            (entry-range latest (latestAt k) (t .latest k) (e .latest k m) (r .latest k m));
+        view = λ d c k l.
+            let m : k < t .sizes .items = omega (arith, e .items) in
+            let o : d ≤ t .sizes .clients = omega (arith, e .clients) in
+            rw (client-test (sizesIn b) d c, lt-ltb k (sizesIn b .items) l)
+            (entry-range views (viewAt d k) (t .view d k) (e .view d (c .0) o k m)
+            (r .view d (c .0, o) k m));
+        client = λ d c.
+            let o : d ≤ t .sizes .clients = omega (arith, e .clients) in
+            rw (client-test (sizesIn b) d c)
+            (client-range b (sizesIn b) d (t .client d) (holds-client d c)
+            (subst (λ z. ClientInRange z (t .client d)) sizes-same (r .client d (c .0, o))));
+        versions = each-table (VersionInRange (sizesIn b)) _ (versionIn b) (λ i l.
+            let none = version 0 0 0 0 in
+            let m : i < length (t .versions) = omega (arith, e .versionCount) in
+            subst₂ VersionInRange sizes-same (sym (version-held b i _ (e .versions i m none)))
+            (r .versions _ (in-getD (t .versions) i none m)));
+        messages = each-table (MessageInRange (sizesIn b)) _ (messageIn b) (λ i l.
+            let m : i < length (t .messages) = omega (arith, e .messageCount) in
+            message-range b (sizesIn b) i (message i) (holds-message i m)
+            (subst (λ z. MessageInRange z (message i)) sizes-same
+            (r .messages _ (in-getD (t .messages) i (Commit 0 0) m))));
+      }
+
+  tables-load : load (tablesOf b) ≡ load t
+  unfolding load
+  tables-load =
+      let come =
+      total-same (t .sizes .clients) (λ d. arrived (clientIn b d)) (λ d. arrived (t .client d))
+      (λ d l m.
+      arrived-same b d (t .client d) (e .client d l m)) in
+      sym (load-words b (well-formed .messageCount))
+      ∙ rw (e .clients) (omega (arith, come, e .messageCount))
+
+  tables-occupied : occupied (tablesOf b) ≡ occupied t
+  unfolding occupied
+  tables-occupied =
+      let prepares =
+      counted-list isPrepare (at b header messagesAt) (messageIn b) (t .messages) (Commit 0 0)
+      (e .messageCount) (λ i l.
+      prepare-same b i (message i) (holds-message i l)) in
+      sym (occupied-words b (well-formed .versionCount) (well-formed .messageCount))
+      ∙ omega (arith, prepares, e .versionCount)
+
+  tables-valid : ValidBlock b
+  tables-valid =
+      record {
+        wellFormed = well-formed;
+        valid = record {
+          inRange = tables-range;
+          load =
+              omega (arith, tables-load, v .load);
+          occupied =
+              omega (arith, tables-occupied, v .occupied);
+        };
+      }
+
+pub valid-iff : (b : List ℕ) → (validBlock b ≡ true)
+    ↔ ((t : Tables) × Encodes b t × (valid capacities t ≡ true))
+valid-iff b = (
+  λ e.
+      let f = tells-valid-block b .0 e in (
+        tablesOf b,
+        encodes-tables b (tells-well-formed b .1 (f .wellFormed)),
+        facts-valid capacities
+            (tablesOf b) (f .valid),
+      ),
+  λ p. tells-valid-block b .1 (tables-valid b (p .0) (p .1) (valid-facts capacities (p .0) (p .2))),
+)

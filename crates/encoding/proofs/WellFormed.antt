@@ -1,0 +1,64 @@
+-- What `wellFormed` and `validBlock` tell of a block, as records of plain facts, both ways.
+use mathlib.Core.Bool.{true}
+use mathlib.Core.List.{List}
+use mathlib.Core.Logic.{_↔_}
+use mathlib.Core.Path.{_≡_}
+use Prim.Native.Nat.{ℕ, _≤_, _<_}
+use lib.Dec.{leb}
+use lib.ListN.{length}
+use borrow.Author.Tests.{le-leb}
+use Rattle.basics.proofs.Cases.{and-both}
+use Rattle.protocol.specs.Tables.{Sizes}
+use Rattle.protocol.specs.Range.{capacities, isClient}
+use Rattle.protocol.proofs.Tells.{tells, tells-and}
+use Rattle.protocol.proofs.Ranges.Values.{SizesInRange, IsClient, tells-sizes}
+use Rattle.protocol.proofs.Ranges.Tables.{is-client, each-client, Valid, tells-valid}
+use Rattle.layout.specs.Layout.{mostVersions, mostMessages}
+use Rattle.layout.specs.Layout.{header, scalars, needed, at, versionsAt, messagesAt, modeAt}
+use Rattle.layout.specs.Layout.{lastKindAt}
+use Rattle.layout.specs.Decode.{sizesIn, kindIn, tablesOf, wellFormed, validBlock}
+
+-- a client that exists passes its test
+pub client-test : (z : Sizes) (d : ℕ) → IsClient z d → isClient z d ≡ true
+client-test z d c = and-both (leb 1 d) (leb d (z .clients)) (le-leb 1 d (c .0))
+    (le-leb d (z .clients) (c .1))
+
+pub record WellFormed (b : List ℕ) : Type 0 where
+  pub long : needed ≤ length b
+  pub sizes : SizesInRange (sizesIn b)
+  pub versionCount : at b header versionsAt ≤ mostVersions
+  pub messageCount : at b header messagesAt ≤ mostMessages
+  pub mode : (d : ℕ) → IsClient (sizesIn b) d → at b scalars (modeAt d) < 3
+  pub lastKind : (d : ℕ) → IsClient (sizesIn b) d → at b scalars (lastKindAt d) < 3
+  pub someKind : (i : ℕ) → i < at b header messagesAt → 1 ≤ kindIn b i
+  pub kind : (i : ℕ) → i < at b header messagesAt → kindIn b i ≤ 5
+
+pub tells-well-formed : (b : List ℕ) → (wellFormed b ≡ true) ↔ WellFormed b
+unfolding wellFormed
+tells-well-formed b = (
+  λ e.
+      let f = simp (tells, tells-sizes) at e in
+      let client = each-client (sizesIn b)
+      (λ d. (at b scalars (modeAt d) < 3) × (at b scalars (lastKindAt d) < 3)) (f .0 .1) in
+      let mode : (d : ℕ) → IsClient (sizesIn b) d → at b scalars (modeAt d) < 3 =
+      λ d c. client d c .0 in
+      let lastKind : (d : ℕ) → IsClient (sizesIn b) d → at b scalars (lastKindAt d) < 3 =
+      λ d c. client d c .1 in
+      let someKind : (i : ℕ) → i < at b header messagesAt → 1 ≤ kindIn b i = λ i l. f .1 i l .0 in
+      let kind : (i : ℕ) → i < at b header messagesAt → kindIn b i ≤ 5 = λ i l. f .1 i l .1 in
+      search,
+  λ r. simp (tells, tells-sizes) (search (r .mode, r .lastKind, r .someKind, r .kind, is-client)),
+)
+
+-- not refused by 1
+pub record ValidBlock (b : List ℕ) : Type 0 where
+  pub wellFormed : WellFormed b
+  pub valid : Valid capacities (tablesOf b)
+
+pub tells-valid-block : (b : List ℕ) → (validBlock b ≡ true) ↔ ValidBlock b
+unfolding validBlock
+tells-valid-block b = (
+  λ e. let f = simp (tells-and, tells-well-formed, tells-valid) at e in
+      search,
+  λ r. simp (tells-and, tells-well-formed, tells-valid) search,
+)

@@ -1,0 +1,37 @@
+-- The tests look only at those sizes that they speak of.
+use mathlib.Core.Path.{_≡_, refl}
+use Prim.Native.Nat.{ℕ}
+use Rattle.protocol.specs.declared.Entry.{Entry}
+use Rattle.protocol.specs.declared.Version.{Version}
+use Rattle.protocol.specs.Tables.{Client, Ended, nothing, read, write}
+use Rattle.protocol.specs.Range.{stampInRange, entryInRange, versionInRange, endedInRange}
+use Rattle.protocol.specs.Range.{clientInRange}
+use Rattle.gather.specs.Sized.{sizes, sized}
+
+pub stamp-sized : (clients partitions items stamp : ℕ)
+    → stampInRange (sized clients 0) stamp ≡ stampInRange (sizes clients partitions items) stamp
+unfolding stampInRange
+stamp-sized clients partitions items stamp = refl
+
+module _ (clients partitions items : ℕ) where
+  pub entry-sized : (e : Entry) → entryInRange (sized clients items) e ≡ entryInRange
+      (sizes clients partitions items) e
+  unfolding entryInRange stampInRange
+  entry-sized e = refl
+
+  pub version-sized : (v : Version)
+      → versionInRange (sized clients items) v ≡ versionInRange (sizes clients partitions items) v
+  unfolding versionInRange stampInRange
+  version-sized v = refl
+
+  ended-sized : (x : Ended) → endedInRange (sized clients items) x ≡ endedInRange
+      (sizes clients partitions items) x
+  unfolding endedInRange stampInRange
+  ended-sized nothing = refl
+  ended-sized (read s stamps vs) = refl
+  ended-sized (write s stamp vs) = refl
+
+  pub client-sized : (c : Client) → clientInRange (sized clients items) c ≡ clientInRange
+      (sizes clients partitions items) c
+  unfolding clientInRange stampInRange
+  client-sized c = rw (ended-sized (c .last))

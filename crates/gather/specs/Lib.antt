@@ -1,0 +1,3 @@
+-- What the contracts of `gather` cite besides the protocol.
+pub mod Sized
+pub mod Words

@@ -1,0 +1,223 @@
+-- The tests of a client, part by part, are the protocol's test of the client that its words are.
+use mathlib.Core.Bool.{Bool, true, false, not, Bool·beq, _&&_, _||_}
+use mathlib.Core.List.{List}
+use mathlib.Core.Path.{_≡_, refl, sym, ap, ap₂, _∙_}
+use Prim.Native.Nat.{ℕ, zero, suc, _≤_, _<_, _^_}
+use native.Mathlib.Omega.{arith}
+use lib.Bits.{bitAnd}
+use lib.Dec.{eqb, ltb, leb}
+use borrow.Author.Tests.{le-leb, lt-leb, ne-eqb, ltb-true}
+use Rattle.basics.proofs.Cases.{by-test, or-right, test-ext}
+use Rattle.basics.specs.Lists.{every}
+use Rattle.basics.proofs.Lists.{every-at, at-every}
+use Rattle.itemset.specs.Set.{has, allBelow}
+use Rattle.itemset.proofs.Laws.{has-empty}
+use Rattle.protocol.specs.Tables.{Sizes, write}
+use Rattle.protocol.specs.Range.{fits, each, stampInRange, endedInRange, clientInRange, isWriting}
+use Rattle.protocol.specs.Range.{isIdle}
+use Rattle.protocol.proofs.Tells.{tells-and}
+use Rattle.layout.specs.Layout.{at, scalars, asked, values, lastStamps, lastValues, modeAt, setAt}
+use Rattle.layout.specs.Layout.{stampAt, lastKindAt, lastSetAt, lastStampAt, itemAt}
+use Rattle.layout.specs.Decode.{within, modeOf, endedOf, clientIn}
+use Rattle.gather.specs.Sized.{sized}
+use Rattle.range_client.specs.Clients.{askedInRange, lastRead, lastWrite, lastTest, stateTest}
+use Rattle.range_client.specs.Clients.{valuesTest, clientTest}
+use Rattle.gather.proofs.Sizes.{stamp-sized}
+use Rattle.range_client.proofs.Subsets.{subset-mask}
+use Rattle.gather.proofs.Tested.{every-same, every-both}
+
+-- ---- The items of a set
+
+or-both : (a p q : Bool) → ((a || p) && (a || q)) ≡ (a || (p && q))
+or-both true p q = refl
+or-both false p q = refl
+
+each-both : (z : Sizes) (s : ℕ) (p q : ℕ → Bool)
+    → (each z s p && each z s q) ≡ each z s (λ k. p k && q k)
+each-both z s p q =
+    every-both (z .items) (λ k. not (has s k) || p k) (λ k. not (has s k) || q k)
+    ∙ every-same (z .items) _ _ (λ k l. or-both (not (has s k)) (p k) (q k))
+
+-- of a set's items the decoder keeps the words
+each-within : (z : Sizes) (s : ℕ) (p : ℕ → Bool) (words : ℕ → ℕ)
+    → each z s (λ k. p (words k)) ≡ each z s (λ k. p (within s words k))
+each-within z s p words = every-same (z .items) _ _
+    (λ k l. by-test (has s k) (λ e. rw e) (λ e. rw e))
+
+each-true : (z : Sizes) (s : ℕ) (p : ℕ → Bool) → ((k : ℕ) → p k ≡ true) → each z s p ≡ true
+each-true z s p h = at-every (z .items) _ (λ k l. or-right (not (has s k)) (p k) (h k))
+
+pub each-all : (z : Sizes) (s : ℕ) (p : ℕ → Bool) → every (z .items) p ≡ true → true ≡ each z s p
+each-all z s p e = sym (at-every (z .items) _
+    (λ k l. or-right (not (has s k)) (p k) (every-at (z .items) p e k l)))
+
+pub each-empty : (z : Sizes) (s : ℕ) (p : ℕ → Bool) → s ≡ 0 → true ≡ each z s p
+each-empty z s p e = sym (at-every (z .items) _ (λ k l. rw (e, has-empty k)))
+
+-- ---- The stamps of the transaction under way
+
+pub is-writing : (m : ℕ) → isWriting (modeOf m) ≡ leb 2 m
+unfolding isWriting modeOf
+is-writing zero = refl
+is-writing (suc zero) = refl
+is-writing (suc (suc m)) = sym (le-leb 2 (suc (suc m)) (omega arith))
+
+is-idle : (m : ℕ) → isIdle (modeOf m) ≡ eqb m 0
+unfolding isIdle modeOf
+is-idle zero = refl
+is-idle (suc zero) = refl
+is-idle (suc (suc m)) = sym (ne-eqb (suc (suc m)) 0 (omega arith))
+
+stamp-initial : (z : Sizes) → stampInRange z 0 ≡ true
+unfolding stampInRange
+stamp-initial z = refl
+
+and-true : (a b : Bool) → b ≡ true → a ≡ (a && b)
+and-true true b e = sym e
+and-true false b e = refl
+
+ended-write : (n s stamp : ℕ) (stamps vs : ℕ → ℕ) → 2 ≤ n
+    → endedOf n s stamp stamps vs ≡ write s stamp (within s vs)
+unfolding endedOf
+ended-write zero s stamp stamps vs h = absurd (omega arith)
+ended-write (suc zero) s stamp stamps vs h = absurd (omega arith)
+ended-write (suc (suc n)) s stamp stamps vs h = refl
+
+-- the same tests in another order
+regroup : (mode count own await mask inside rest stamp stamps worth kind ended : Bool)
+    → (await ≡ true → mask ≡ inside)
+    → ((mode && count && own && await && mask && rest) && (stamp && stamps) && worth
+    && (kind && ended))
+    ≡ (mode && kind && (count && own && await && inside && rest && stamp && (stamps && worth)
+    && ended))
+regroup mode count own await mask inside rest stamp stamps worth kind ended h =
+    test-ext _ _
+    (λ e.
+    let f = simp tells-and at e in
+    let same : inside ≡ true = sym (h (search)) ∙ search in
+    simp tells-and search)
+    (λ e.
+    let f = simp tells-and at e in
+    let same : mask ≡ true = h (search) ∙ search in
+    simp tells-and search)
+
+-- ---- Client d of the block, from the outcomes of the tests
+
+module _ (b : List ℕ) (d clients items : ℕ) where
+  abbrev z : Sizes
+  z = sized clients items
+
+  -- the stamps of the transaction under way: of a write, of any other
+  pub asked-write : {stamp : ℕ} {ok : Bool} → ok ≡ stampInRange (sized clients 0) stamp
+      → stamp ≡ at b scalars (stampAt d)
+      → 2 ≤ at b scalars (modeAt d) → ok ≡ askedInRange z (clientIn b d)
+  unfolding askedInRange clientIn
+  asked-write p q h =
+      p ∙ stamp-sized clients 0 items _
+      ∙ rw (q, is-writing (at b scalars (modeAt d)), le-leb 2 (at b scalars (modeAt d)) h)
+      (and-true _ _ (each-true z (at b scalars (setAt d)) (λ k. stampInRange z 0)
+      (λ k. stamp-initial z)))
+
+  pub asked-other : {s : ℕ} {ok : Bool}
+      → ok ≡ each z s (λ k. stampInRange z (at b asked (itemAt d k))) → s ≡ at b scalars (setAt d)
+      → at b scalars (modeAt d) < 2 → ok ≡ askedInRange z (clientIn b d)
+  unfolding askedInRange clientIn
+  asked-other p q h =
+      p ∙ rw (
+        q,
+        is-writing (at b scalars (modeAt d)),
+        lt-leb 2
+            (at b scalars (modeAt d)) h,
+        stamp-initial z,
+      )
+      (each-within z (at b scalars (setAt d)) (stampInRange z) (λ k. at b asked (itemAt d k)))
+
+  -- the values of its items
+  pub values-tests : {s : ℕ} {ok : Bool}
+      → ok ≡ each (sized 0 items) s (λ k. fits (at b values (itemAt d k)))
+      → s ≡ at b scalars (setAt d)
+      → ok ≡ valuesTest b d items
+  values-tests p q = p ∙ rw q
+
+  -- ---- the last ended transaction
+
+  abbrev stamps : ℕ → ℕ
+  stamps k = at b lastStamps (itemAt d k)
+
+  abbrev worth : ℕ → ℕ
+  worth k = at b lastValues (itemAt d k)
+
+  read-whole : let s = at b scalars (lastSetAt d) in
+      (allBelow s items && (each z s (λ k. stampInRange z (stamps k))
+      && each z s (λ k. fits (worth k)))) ≡ endedInRange z (lastRead b d)
+  unfolding endedInRange lastRead
+  read-whole =
+      let s = at b scalars (lastSetAt d) in
+      ap (λ (x : Bool). allBelow s items && x)
+      (ap₂ _&&_ (each-within z s (stampInRange z) stamps) (each-within z s fits worth)
+      ∙ each-both z s (λ k. stampInRange z (within s stamps k)) (λ k. fits (within s worth k)))
+
+  pub read-tests : {s : ℕ} {below stamped valued : Bool} → below ≡ allBelow s items
+      → stamped ≡ each z s (λ k. stampInRange z (stamps k))
+      → valued ≡ each (sized 0 items) s (λ k. fits (worth k)) → s ≡ at b scalars (lastSetAt d)
+      → (below && (stamped && valued)) ≡ endedInRange z (lastRead b d)
+  read-tests p q r e = rw (p, q, r, e) read-whole
+
+  write-whole : let s = at b scalars (lastSetAt d) in
+      (allBelow s items && stampInRange z (at b scalars (lastStampAt d))
+      && each z s (λ k. fits (worth k))) ≡ endedInRange z (lastWrite b d)
+  unfolding endedInRange lastWrite
+  write-whole =
+      let s = at b scalars (lastSetAt d) in
+      ap (λ (x : Bool). allBelow s items && stampInRange z (at b scalars (lastStampAt d)) && x)
+      (each-within z s fits worth)
+
+  pub write-tests : {s stamp : ℕ} {below stamped valued : Bool} → below ≡ allBelow s items
+      → stamped ≡ stampInRange (sized clients 0) stamp
+      → valued ≡ each (sized 0 items) s (λ k. fits (worth k)) → s ≡ at b scalars (lastSetAt d)
+      → stamp ≡ at b scalars (lastStampAt d)
+      → (below && stamped && valued) ≡ endedInRange z (lastWrite b d)
+  write-tests p q r e f = rw (p, q, r, e, f, stamp-sized clients 0 items) write-whole
+
+  -- by the number of its kind
+  pub last-none : at b scalars (lastKindAt d) ≡ 0 → true ≡ lastTest b d clients items
+  unfolding clientIn endedOf endedInRange
+  last-none e = rw e
+
+  pub last-read : {ok : Bool} → ok ≡ endedInRange z (lastRead b d) → at b scalars (lastKindAt d) ≡ 1
+      → ok ≡ lastTest b d clients items
+  unfolding clientIn endedOf lastRead
+  last-read p e = p ∙ rw e
+
+  pub last-write : {kind : ℕ} {ok : Bool} → ok ≡ endedInRange z (lastWrite b d)
+      → kind ≡ at b scalars (lastKindAt d) → 2 ≤ kind
+      → (ltb kind 3 && ok) ≡ lastTest b d clients items
+  unfolding clientIn lastWrite
+  last-write p e h = rw (p, e, ended-write (at b scalars (lastKindAt d)) _ _ _ _ (omega arith))
+
+  -- ---- the whole client
+
+  client-whole : (stateTest b d items && askedInRange z (clientIn b d) && valuesTest b d items
+      && lastTest b d clients items) ≡ clientTest b d clients items
+  unfolding askedInRange clientInRange clientIn
+  client-whole =
+      let c = clientIn b d in
+      let m = at b scalars (modeAt d) in
+      rw (
+        is-idle m,
+        ← each-both z (c .set) (λ k. stampInRange z (c .asked k)) (λ k. fits (c .values k)),
+        ← each-within z (c .set) fits (λ k. at b values (itemAt d k)),
+      )
+      (regroup (ltb m 3) (fits (c .count)) (allBelow (c .set) items) (allBelow (c .awaited) items)
+      (eqb (bitAnd (c .awaited) (c .set)) (c .awaited))
+      (each z (c .awaited) (has (c .set))) (Bool·beq (eqb m 0) (eqb (c .awaited) 0))
+      (stampInRange z (c .stamp))
+      (each z (c .set) (λ k. stampInRange z (c .asked k))) (valuesTest b d items)
+      (ltb (at b scalars (lastKindAt d)) 3) (endedInRange z (c .last))
+      (λ e. subset-mask (c .awaited) (c .set) items (ltb-true (c .awaited) (2 ^ items) e)))
+
+  pub client-tests : {state stamped valued ended : Bool} → state ≡ stateTest b d items
+      → stamped ≡ askedInRange z (clientIn b d)
+      → valued ≡ valuesTest b d items → ended ≡ lastTest b d clients items
+      → (state && stamped && valued && ended) ≡ clientTest b d clients items
+  client-tests p q r s = rw (p, q, r, s) client-whole

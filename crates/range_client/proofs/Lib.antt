@@ -1,0 +1,3 @@
+-- The laws of the tests of a client's words.
+pub mod Subsets
+pub mod ClientTests

@@ -1,0 +1,53 @@
+-- The test of a client, part by part, as `range` goes through it.
+use mathlib.Core.Bool.{Bool, Bool·beq, _&&_}
+use mathlib.Core.List.{List}
+use Prim.Native.Nat.{ℕ}
+use lib.Bits.{bitAnd}
+use lib.Dec.{eqb, ltb}
+use Rattle.itemset.specs.Set.{allBelow}
+use Rattle.protocol.specs.Tables.{Sizes, Client, Ended, read, write}
+use Rattle.protocol.specs.Range.{fits, each, stampInRange, endedInRange, clientInRange}
+use Rattle.layout.specs.Layout.{at, scalars, values, lastStamps, lastValues, modeAt, countAt, setAt}
+use Rattle.layout.specs.Layout.{awaitedAt, lastKindAt, lastSetAt, lastStampAt, itemAt}
+use Rattle.layout.specs.Decode.{within, clientIn}
+use Rattle.gather.specs.Sized.{sized}
+
+-- mode, count, set and awaited items; one mask tests that these lie in the set
+abbrev pub stateTest : List ℕ → ℕ → ℕ → Bool
+stateTest b d items =
+    let mode = at b scalars (modeAt d) in
+    let s = at b scalars (setAt d) in
+    let awaited = at b scalars (awaitedAt d) in
+    ltb mode 3 && fits (at b scalars (countAt d)) && allBelow s items && allBelow awaited items
+    && eqb (bitAnd awaited s) awaited
+    && Bool·beq (eqb mode 0) (eqb awaited 0)
+
+-- the stamps of the transaction under way, and the values of its items
+unfoldable pub askedInRange : Sizes → Client → Bool
+askedInRange z c = stampInRange z (c .stamp) && each z (c .set) (λ k. stampInRange z (c .asked k))
+
+abbrev pub valuesTest : List ℕ → ℕ → ℕ → Bool
+valuesTest b d items = each (sized 0 items) (at b scalars (setAt d))
+    (λ k. fits (at b values (itemAt d k)))
+
+-- the last ended transaction, as a read and as a write
+unfoldable pub lastRead : List ℕ → ℕ → Ended
+lastRead b d =
+    let s = at b scalars (lastSetAt d) in
+    read s (within s (λ k. at b lastStamps (itemAt d k)))
+    (within s (λ k. at b lastValues (itemAt d k)))
+
+unfoldable pub lastWrite : List ℕ → ℕ → Ended
+lastWrite b d =
+    let s = at b scalars (lastSetAt d) in
+    write s (at b scalars (lastStampAt d)) (within s (λ k. at b lastValues (itemAt d k)))
+
+abbrev pub lastTest : List ℕ → ℕ → ℕ → ℕ → Bool
+lastTest b d clients items = ltb (at b scalars (lastKindAt d)) 3
+    && endedInRange (sized clients items) (clientIn b d .last)
+
+-- the whole: numbers of some mode and of some ended transaction, and in range
+abbrev pub clientTest : List ℕ → ℕ → ℕ → ℕ → Bool
+clientTest b d clients items =
+    ltb (at b scalars (modeAt d)) 3 && ltb (at b scalars (lastKindAt d)) 3
+    && clientInRange (sized clients items) (clientIn b d)

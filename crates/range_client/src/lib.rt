@@ -1,0 +1,217 @@
+// Clients (document 01: desks): the transaction under way and the last ended one, with the stamps and values of their items.
+ghost use mathlib.Core.Path.{_≡_};
+ghost use Prim.Native.Nat.{suc, _+_, _≤_, _<_};
+ghost use lib.ListN.{length, getD};
+ghost use Rattle.basics.specs.Lists.{every};
+ghost use Rattle.protocol.specs.Range.{fits, each, stampInRange, endedInRange};
+ghost use Rattle.layout.specs.Layout.{mostClients, mostItems, needed, base, lastValues, itemAt};
+ghost use Rattle.layout.specs.Decode.{clientIn};
+ghost use Rattle.gather.specs.Sized.{sized};
+ghost use Rattle.range_client.specs.Clients.{askedInRange, lastRead, lastWrite, lastTest, stateTest, valuesTest, clientTest};
+use gather::lacks;
+use gather::mixed;
+use gather::room;
+use gather::roomed;
+use gather::stamp_in_range;
+use gather::stamps_pass;
+use layout::ASKED;
+use layout::LAST_STAMPS;
+use layout::LAST_VALUES;
+use layout::MOST_ITEMS;
+use layout::VALUES;
+
+// The word of client `d` and item `k` in the section from `start` on.
+fn item_word(b: &[u64], start: u64, d: u64, k: u64) -> u64
+    requires { ⌜ (start ≤ base lastValues) × (1 ≤ d) × (d ≤ mostClients) × (k < mostItems) × (needed ≤ length (now b)) ⌝ }
+    ensures { λ r. ⌜ r ≡ getD (now (b .entry)) (start + itemAt d k) 0 ⌝ }
+{
+    let place = (start + (MOST_ITEMS * (d - 1) + k)) as usize;
+    b[place]
+}
+
+// All the stamps of client `d` in the section from `start` on, tested once.
+fn all_stamps_in_range(b: &[u64], start: u64, d: u64, clients: u64, items: u64) -> bool
+    requires { ⌜ (start ≤ base lastValues) × (1 ≤ d) × (d ≤ mostClients) × (clients ≤ mostClients) × (items ≤ mostItems) × (needed ≤ length (now b)) ⌝ }
+    ensures { λ r. ⌜ r ≡ every items (λ k. stampInRange (sized clients items) (getD (now (b .entry)) (start + itemAt d k) 0)) ⌝ }
+{
+    let room = room(clients);
+    let mut stamps = 0;
+    let mut mixes = 0;
+    let mut rooms = 0;
+    let mut k = 0;
+    while k < items {
+        let stamp = item_word(b, start, d, k);
+        stamps = stamps | stamp;
+        mixes = mixes | mixed(stamp);
+        rooms = rooms | roomed(stamp, clients, room);
+        k += 1;
+    }
+    stamps_pass(clients, stamps, mixes, rooms)
+}
+
+// Those of the items of `set`, one by one.
+fn some_stamps_in_range(b: &[u64], start: u64, d: u64, set: u64, clients: u64, items: u64) -> bool
+    requires { ⌜ (start ≤ base lastValues) × (1 ≤ d) × (d ≤ mostClients) × (clients ≤ mostClients) × (items ≤ mostItems) × (needed ≤ length (now b)) ⌝ }
+    ensures { λ r. ⌜ r ≡ each (sized clients items) set (λ k. stampInRange (sized clients items) (getD (now (b .entry)) (start + itemAt d k) 0)) ⌝ }
+{
+    let mut ok = true;
+    let mut k = 0;
+    while k < items {
+        ok = ok & (lacks(set, k) | stamp_in_range(clients, item_word(b, start, d, k)));
+        k += 1;
+    }
+    ok
+}
+
+// The same: words that a store has written are in range in or out of the set, so that the set is seldom looked at.
+fn stamps_in_range(b: &[u64], start: u64, d: u64, set: u64, clients: u64, items: u64) -> bool
+    requires { ⌜ (start ≤ base lastValues) × (1 ≤ d) × (d ≤ mostClients) × (clients ≤ mostClients) × (items ≤ mostItems) × (needed ≤ length (now b)) ⌝ }
+    ensures { λ r. ⌜ r ≡ each (sized clients items) set (λ k. stampInRange (sized clients items) (getD (now (b .entry)) (start + itemAt d k) 0)) ⌝ }
+{
+    if set == 0 {
+        return true;
+    }
+    if all_stamps_in_range(b, start, d, clients, items) {
+        return true;
+    }
+    some_stamps_in_range(b, start, d, set, clients, items)
+}
+
+// All the values of client `d` in the section from `start` on, tested once.
+fn all_values_in_range(b: &[u64], start: u64, d: u64, items: u64) -> bool
+    requires { ⌜ (start ≤ base lastValues) × (1 ≤ d) × (d ≤ mostClients) × (items ≤ mostItems) × (needed ≤ length (now b)) ⌝ }
+    ensures { λ r. ⌜ r ≡ every items (λ k. fits (getD (now (b .entry)) (start + itemAt d k) 0)) ⌝ }
+{
+    let mut values = 0;
+    let mut k = 0;
+    while k < items {
+        let value = item_word(b, start, d, k);
+        values = values | value;
+        k += 1;
+    }
+    values < 4294967296
+}
+
+// Those of the items of `set`, one by one.
+fn some_values_in_range(b: &[u64], start: u64, d: u64, set: u64, items: u64) -> bool
+    requires { ⌜ (start ≤ base lastValues) × (1 ≤ d) × (d ≤ mostClients) × (items ≤ mostItems) × (needed ≤ length (now b)) ⌝ }
+    ensures { λ r. ⌜ r ≡ each (sized 0 items) set (λ k. fits (getD (now (b .entry)) (start + itemAt d k) 0)) ⌝ }
+{
+    let mut ok = true;
+    let mut k = 0;
+    while k < items {
+        ok = ok & (lacks(set, k) | (item_word(b, start, d, k) < 4294967296));
+        k += 1;
+    }
+    ok
+}
+
+// The same, likewise.
+fn values_in_range(b: &[u64], start: u64, d: u64, set: u64, items: u64) -> bool
+    requires { ⌜ (start ≤ base lastValues) × (1 ≤ d) × (d ≤ mostClients) × (items ≤ mostItems) × (needed ≤ length (now b)) ⌝ }
+    ensures { λ r. ⌜ r ≡ each (sized 0 items) set (λ k. fits (getD (now (b .entry)) (start + itemAt d k) 0)) ⌝ }
+{
+    if set == 0 {
+        return true;
+    }
+    if all_values_in_range(b, start, d, items) {
+        return true;
+    }
+    some_values_in_range(b, start, d, set, items)
+}
+
+// The stamps of the transaction under way: one for a write, one for each item of any other.
+fn asked_in_range(b: &[u64], d: u64, clients: u64, items: u64) -> bool
+    requires { ⌜ (1 ≤ d) × (d ≤ mostClients) × (clients ≤ mostClients) × (items ≤ mostItems) × (needed ≤ length (now b)) ⌝ }
+    ensures { λ r. ⌜ r ≡ askedInRange (sized clients items) (clientIn (now (b .entry)) d) ⌝ }
+{
+    if 2 <= layout::client::mode(b, d) {
+        stamp_in_range(clients, layout::client::stamp(b, d))
+    } else {
+        stamps_in_range(b, ASKED, d, layout::client::set_of(b, d), clients, items)
+    }
+}
+
+// The last ended transaction, a read.
+fn read_in_range(b: &[u64], d: u64, clients: u64, items: u64) -> bool
+    requires { ⌜ (1 ≤ d) × (d ≤ mostClients) × (clients ≤ mostClients) × (items ≤ mostItems) × (needed ≤ length (now b)) ⌝ }
+    ensures { λ r. ⌜ r ≡ endedInRange (sized clients items) (lastRead (now (b .entry)) d) ⌝ }
+{
+    let set = layout::client::last_set(b, d);
+    itemset::all_below(set, items)
+        & (stamps_in_range(b, LAST_STAMPS, d, set, clients, items)
+            & values_in_range(b, LAST_VALUES, d, set, items))
+}
+
+// The last ended transaction, a write.
+fn write_in_range(b: &[u64], d: u64, clients: u64, items: u64) -> bool
+    requires { ⌜ (1 ≤ d) × (d ≤ mostClients) × (clients ≤ mostClients) × (items ≤ mostItems) × (needed ≤ length (now b)) ⌝ }
+    ensures { λ r. ⌜ r ≡ endedInRange (sized clients items) (lastWrite (now (b .entry)) d) ⌝ }
+{
+    let set = layout::client::last_set(b, d);
+    itemset::all_below(set, items)
+        & stamp_in_range(clients, layout::client::last_stamp(b, d))
+        & values_in_range(b, LAST_VALUES, d, set, items)
+}
+
+fn last_in_range(b: &[u64], d: u64, clients: u64, items: u64) -> bool
+    requires { ⌜ (1 ≤ d) × (d ≤ mostClients) × (clients ≤ mostClients) × (items ≤ mostItems) × (needed ≤ length (now b)) ⌝ }
+    ensures { λ r. ⌜ r ≡ lastTest (now (b .entry)) d clients items ⌝ }
+{
+    let kind = layout::client::last_kind(b, d);
+    if kind == 0 {
+        return true;
+    }
+    if kind == 1 {
+        return read_in_range(b, d, clients, items);
+    }
+    (kind < 3) & write_in_range(b, d, clients, items)
+}
+
+// Its mode, count, set and awaited items: it is idle exactly when it awaits none, and those lie in its set.
+fn state_in_range(b: &[u64], d: u64, items: u64) -> bool
+    requires { ⌜ (1 ≤ d) × (d ≤ mostClients) ⌝ }
+    ensures { λ r. ⌜ r ≡ stateTest (now (b .entry)) d items ⌝ }
+{
+    let mode = layout::client::mode(b, d);
+    let count = layout::client::count(b, d);
+    let set = layout::client::set_of(b, d);
+    let awaited = layout::client::awaited(b, d);
+    (mode < 3)
+        & (count < 4294967296)
+        & itemset::all_below(set, items)
+        & itemset::all_below(awaited, items)
+        & (awaited & set == awaited)
+        & ((mode == 0) == (awaited == 0))
+}
+
+// The values of the transaction under way.
+fn running_in_range(b: &[u64], d: u64, items: u64) -> bool
+    requires { ⌜ (1 ≤ d) × (d ≤ mostClients) × (items ≤ mostItems) × (needed ≤ length (now b)) ⌝ }
+    ensures { λ r. ⌜ r ≡ valuesTest (now (b .entry)) d items ⌝ }
+{
+    values_in_range(b, VALUES, d, layout::client::set_of(b, d), items)
+}
+
+fn client_in_range(b: &[u64], d: u64, clients: u64, items: u64) -> bool
+    requires { ⌜ (1 ≤ d) × (d ≤ mostClients) × (clients ≤ mostClients) × (items ≤ mostItems) × (needed ≤ length (now b)) ⌝ }
+    ensures { λ r. ⌜ r ≡ clientTest (now (b .entry)) d clients items ⌝ }
+{
+    state_in_range(b, d, items)
+        & asked_in_range(b, d, clients, items)
+        & running_in_range(b, d, items)
+        & last_in_range(b, d, clients, items)
+}
+
+pub fn clients_in_range(b: &[u64], clients: u64, items: u64) -> bool
+    requires { ⌜ (clients ≤ mostClients) × (items ≤ mostItems) × (needed ≤ length (now b)) ⌝ }
+    ensures { λ r. ⌜ r ≡ every clients (λ i. clientTest (now (b .entry)) (suc i) clients items) ⌝ }
+{
+    let mut ok = true;
+    let mut i = 0;
+    while i < clients {
+        ok = ok & client_in_range(b, i + 1, clients, items);
+        i += 1;
+    }
+    ok
+}

@@ -1,0 +1,2 @@
+-- The laws of the tests of a message's words.
+pub mod MessageTests

@@ -1,0 +1,81 @@
+-- The tests of those words of a message that its kind uses are the protocol's test of the message
+-- that they are.
+use mathlib.Core.Bool.{Bool, not, _&&_}
+use mathlib.Core.List.{List}
+use mathlib.Core.Logic.{_≢_}
+use mathlib.Core.Path.{_≡_, refl, _∙_}
+use Prim.Native.Nat.{ℕ, zero, suc, _^_}
+use native.Mathlib.Omega.{arith}
+use lib.Dec.{eqb, ltb, leb}
+use borrow.Author.Tests.{le-leb, lt-leb, ne-eqb}
+use Rattle.protocol.specs.declared.Entry.{Entry}
+use Rattle.protocol.specs.declared.Message.{Message}
+use Rattle.protocol.specs.Range.{stampInRange, entryInRange, versionInRange, messageInRange}
+use Rattle.layout.specs.Decode.{messageOf, messageIn}
+use Rattle.layout.specs.Encodes.{word}
+use Rattle.gather.specs.Sized.{sizes, sized}
+use Rattle.range_message.specs.Messages.{messageTest}
+
+module _ (clients partitions items : ℕ) where
+  abbrev numberTest : ℕ → Message → Bool
+  numberTest kind m = leb 1 kind && leb kind 5 && messageInRange (sizes clients partitions items) m
+
+  -- from the outcomes of the tests that its kind asks for
+  module _ (kind who k v stamp s : ℕ) (e : Entry) where
+    abbrev whole : Bool
+    whole = numberTest kind (messageOf kind who k v stamp s e)
+
+    pub prepare-tests : {ok : Bool}
+        → ok ≡ versionInRange (sized clients items)
+        (record { item = k; value = v; stamp = stamp; set = s }) → kind ≡ 1
+        → ok ≡ whole
+    unfolding messageOf messageInRange versionInRange stampInRange
+    prepare-tests p q = rw (p, q)
+
+    pub prepared-tests : {stamped : Bool} → stamped ≡ stampInRange (sized clients 0) stamp
+        → kind ≡ 2
+        → (ltb k items && stamped && not (eqb stamp 0)) ≡ whole
+    unfolding messageOf messageInRange stampInRange
+    prepared-tests p q = rw (p, q)
+
+    pub commit-tests : {stamped : Bool} → stamped ≡ stampInRange (sized clients 0) stamp → kind ≡ 3
+        → (ltb who partitions && stamped && not (eqb stamp 0)) ≡ whole
+    unfolding messageOf messageInRange stampInRange
+    commit-tests p q = rw (p, q)
+
+    pub get-tests : {stamped : Bool} → stamped ≡ stampInRange (sized clients 0) stamp → kind ≡ 4
+        → ((leb 1 who && leb who clients) && ltb k items && stamped) ≡ whole
+    unfolding messageOf messageInRange stampInRange
+    get-tests p q = rw (p, q)
+
+  pub got-tests : (kind who k v stamp s : ℕ) (e : Entry) {stamped entry : Bool}
+      → stamped ≡ stampInRange (sized clients 0) stamp
+      → entry ≡ entryInRange (sized clients items) e → kind ≢ 1 → kind ≢ 2 → kind ≢ 3 → kind ≢ 4
+      → (eqb kind 5 && ((leb 1 who && leb who clients) && ltb k items && ltb v (2 ^ 32) && stamped
+      && entry))
+      ≡ numberTest kind (messageOf kind who k v stamp s e)
+  unfolding messageOf messageInRange entryInRange stampInRange
+  got-tests zero who k v stamp s e p q n₁ n₂ n₃ n₄ = refl
+  got-tests (suc zero) who k v stamp s e p q n₁ n₂ n₃ n₄ = absurd (n₁ refl)
+  got-tests (suc (suc zero)) who k v stamp s e p q n₁ n₂ n₃ n₄ = absurd (n₂ refl)
+  got-tests (suc (suc (suc zero))) who k v stamp s e p q n₁ n₂ n₃ n₄ = absurd (n₃ refl)
+  got-tests (suc (suc (suc (suc zero)))) who k v stamp s e p q n₁ n₂ n₃ n₄ = absurd (n₄ refl)
+  got-tests (suc (suc (suc (suc (suc zero))))) who k v stamp s e p q n₁ n₂ n₃ n₄ = rw (p, q)
+  got-tests (suc (suc (suc (suc (suc (suc kind)))))) who k v stamp s e p q n₁ n₂ n₃ n₄ =
+      rw (
+        ne-eqb (suc (suc (suc (suc (suc (suc kind)))))) 5 (omega arith),
+        le-leb 1 (suc (suc (suc (suc (suc (suc kind)))))) (omega arith),
+        lt-leb (suc (suc (suc (suc (suc (suc kind)))))) 5 (omega arith),
+      )
+
+  -- read off the block
+  pub message-words : (b : List ℕ) (i : ℕ) {r : Bool} {kind who k v stamp s : ℕ} {e : Entry}
+      → r ≡ numberTest kind (messageOf kind who k v stamp s e)
+      → kind ≡ word b i 0 → who ≡ word b i 1 → k ≡ word b i 2 → v ≡ word b i 3 → stamp ≡ word b i 4
+      → s ≡ word b i 5
+      → e .stamp ≡ word b i 6 → e .set ≡ word b i 7 → r ≡ messageTest b i clients partitions items
+  unfolding messageIn
+  message-words b i {e = e} h p₀ p₁ p₂ p₃ p₄ p₅ p₆ p₇ =
+      let entry : e ≡ record { stamp = word b i 6; set = word b i 7 } =
+      λ j. record { stamp = p₆ j; set = p₇ j } in
+      h ∙ rw (p₀, p₁, p₂, p₃, p₄, p₅, entry)

@@ -1,0 +1,150 @@
+// Stored versions, and messages in flight (document 01: the pile).
+ghost use mathlib.Core.Path.{_≡_};
+ghost use mathlib.Core.Bool.{_&&_};
+ghost use Prim.Native.Nat.{_≤_, _<_};
+ghost use lib.ListN.{length};
+ghost use lib.Dec.{leb};
+ghost use Rattle.basics.specs.Lists.{every};
+ghost use Rattle.protocol.specs.Range.{versionInRange, messageInRange};
+ghost use Rattle.layout.specs.Layout.{mostClients, mostItems, mostVersions, mostMessages, versionWords, messageWords, needed};
+ghost use Rattle.layout.specs.Layout.{at, versions, messages, versionAt, messageAt};
+ghost use Rattle.layout.specs.Decode.{messageOf, versionIn};
+ghost use Rattle.gather.specs.Sized.{sizes, sized};
+ghost use Rattle.range_message.specs.Messages.{messageTest};
+use gather::entry_in_range;
+use gather::owned;
+use gather::rest;
+use gather::stamp_in_range;
+use gather::version_in_range;
+use gather::versions_pass;
+use layout::MESSAGE_WORDS;
+use layout::MESSAGES;
+use layout::VERSION_WORDS;
+use layout::VERSIONS;
+use protocol::Entry;
+use protocol::Version;
+
+// Word `f` of stored version `i`.
+fn version_word(b: &[u64], i: u64, f: u64) -> u64
+    requires { ⌜ (i < mostVersions) × (f < versionWords) × (needed ≤ length (now b)) ⌝ }
+    ensures { λ r. ⌜ r ≡ at (now (b .entry)) versions (versionAt i f) ⌝ }
+{
+    let place = (VERSIONS + (VERSION_WORDS * i + f)) as usize;
+    b[place]
+}
+
+// The first `n` stored versions, tested once.
+pub fn versions_in_range(b: &[u64], n: u64, clients: u64, items: u64) -> bool
+    requires { ⌜ (n ≤ mostVersions) × (clients ≤ mostClients) × (items ≤ mostItems) × (needed ≤ length (now b)) ⌝ }
+    ensures { λ r. ⌜ r ≡ every n (λ i. versionInRange (sized clients items) (versionIn (now (b .entry)) i)) ⌝ }
+{
+    let rest = rest(clients);
+    let mut ks = 0;
+    let mut values = 0;
+    let mut owns = 0;
+    let mut sets = 0;
+    let mut shifts = 1;
+    let mut i = 0;
+    while i < n {
+        let item = version_word(b, i, 0);
+        let value = version_word(b, i, 1);
+        let stamp = version_word(b, i, 2);
+        let set = version_word(b, i, 3);
+        ks = ks | item;
+        values = values | value;
+        owns = owns | owned(stamp, clients, rest);
+        sets = sets | set;
+        shifts = shifts & (set >> (item % 64));
+        i += 1;
+    }
+    versions_pass(items, ks, values, owns, sets, shifts)
+}
+
+// Word `f` of message `i`.
+pub fn message_word(b: &[u64], i: u64, f: u64) -> u64
+    requires { ⌜ (i < mostMessages) × (f < messageWords) × (needed ≤ length (now b)) ⌝ }
+    ensures { λ r. ⌜ r ≡ at (now (b .entry)) messages (messageAt i f) ⌝ }
+{
+    let place = (MESSAGES + (MESSAGE_WORDS * i + f)) as usize;
+    b[place]
+}
+
+// The words of a message that its kind uses: 1 prepare, 2 prepared, 3 commit, 4 get, 5 got.
+fn words_in_range(
+    kind: u64,
+    who: u64,
+    item: u64,
+    value: u64,
+    stamp: u64,
+    set: u64,
+    latest: Entry,
+    clients: u64,
+    partitions: u64,
+    items: u64,
+) -> bool
+    requires { ⌜ clients ≤ mostClients ⌝ }
+    ensures { λ r. ⌜ r ≡ (leb 1 kind && leb kind 5 && messageInRange (sizes clients partitions items) (messageOf kind who item value stamp set latest)) ⌝ }
+{
+    if kind == 1 {
+        return version_in_range(
+            clients,
+            items,
+            Version {
+                item: item,
+                value: value,
+                stamp: stamp,
+                set: set,
+            },
+        );
+    }
+    if kind == 2 {
+        return (item < items) & stamp_in_range(clients, stamp) & (stamp != 0);
+    }
+    if kind == 3 {
+        return (who < partitions) & stamp_in_range(clients, stamp) & (stamp != 0);
+    }
+    if kind == 4 {
+        return ((1 <= who) & (who <= clients)) & (item < items) & stamp_in_range(clients, stamp);
+    }
+    (kind == 5)
+        & (((1 <= who) & (who <= clients))
+            & (item < items)
+            & (value < 4294967296)
+            & stamp_in_range(clients, stamp)
+            & entry_in_range(clients, items, latest))
+}
+
+fn message_in_range(b: &[u64], i: u64, clients: u64, partitions: u64, items: u64) -> bool
+    requires { ⌜ (i < mostMessages) × (clients ≤ mostClients) × (needed ≤ length (now b)) ⌝ }
+    ensures { λ r. ⌜ r ≡ messageTest (now (b .entry)) i clients partitions items ⌝ }
+{
+    words_in_range(
+        message_word(b, i, 0),
+        message_word(b, i, 1),
+        message_word(b, i, 2),
+        message_word(b, i, 3),
+        message_word(b, i, 4),
+        message_word(b, i, 5),
+        Entry {
+            stamp: message_word(b, i, 6),
+            set: message_word(b, i, 7),
+        },
+        clients,
+        partitions,
+        items,
+    )
+}
+
+// The first `n` messages.
+pub fn messages_in_range(b: &[u64], n: u64, clients: u64, partitions: u64, items: u64) -> bool
+    requires { ⌜ (n ≤ mostMessages) × (clients ≤ mostClients) × (needed ≤ length (now b)) ⌝ }
+    ensures { λ r. ⌜ r ≡ every n (λ i. messageTest (now (b .entry)) i clients partitions items) ⌝ }
+{
+    let mut ok = true;
+    let mut i = 0;
+    while i < n {
+        ok = ok & message_in_range(b, i, clients, partitions, items);
+        i += 1;
+    }
+    ok
+}
