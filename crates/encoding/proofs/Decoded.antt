@@ -1,9 +1,10 @@
 -- A block that holds tables decodes to them, where they are initial outside their sizes and sets.
-use mathlib.Core.Bool.{true, cond, _&&_}
+use mathlib.Core.Bool.{true, false, cond, _&&_}
 use mathlib.Core.List.{List}
 use mathlib.Core.Path.{_≡_, refl, sym, ap, _∙_, fun-ext}
 use Prim.Native.Nat.{ℕ, _+_, _≤_, min}
 use native.Mathlib.Omega.{arith}
+use lib.Dec.{eqb}
 use lib.ListN.{length}
 use borrow.Author.Tests.{ltb-true}
 use Rattle.basics.proofs.Cases.{by-test, between}
@@ -12,30 +13,28 @@ use Rattle.basics.proofs.Lists.{in-getD}
 use Rattle.itemset.specs.Set.{has}
 use Rattle.protocol.specs.declared.Entry.{Entry}
 use Rattle.protocol.specs.declared.Message.the-variants.{Commit}
-use Rattle.protocol.specs.Tables.{Tables, Client, Mode, idle, reading, writing, Ended, nothing}
-use Rattle.protocol.specs.Tables.{read, write, initial, resting}
-use Rattle.protocol.specs.Range.{capacities, isClient, isItem, isWriting, load, occupied, valid}
+use Rattle.protocol.specs.Tables.{Sizes, Tables, Client, ReadPart, WritePart, noRead, noWrite}
+use Rattle.protocol.specs.Tables.{Ended, nothing, read, write, initial, resting}
+use Rattle.protocol.specs.Range.{capacities, isClient, isItem, isIdle, isWriting, load}
+use Rattle.protocol.specs.Range.{occupied, valid}
 use Rattle.protocol.specs.Steps.{version}
-use Rattle.protocol.proofs.Ranges.Tables.{Valid, valid-facts}
+use Rattle.protocol.proofs.Ranges.Clients.{ClientInRange}
+use Rattle.protocol.proofs.Ranges.Tables.{InRange, Valid, valid-facts}
 use Rattle.layout.specs.Layout.{mostVersions, mostMessages}
 use Rattle.layout.specs.Layout.{Section, header, scalars, latest, views, asked, values, lastStamps}
 use Rattle.layout.specs.Layout.{lastValues, at, messagesAt, versionsAt}
-use Rattle.layout.specs.Layout.{modeAt, lastKindAt, lastSetAt, lastStampAt, setAt, stampAt, itemAt}
+use Rattle.layout.specs.Layout.{modeAt, lastKindAt, lastSetAt, lastStampAt, itemAt}
 use Rattle.layout.specs.Layout.{latestAt, viewAt}
-use Rattle.layout.specs.Decode.{sizesIn, latestIn, viewIn, modeOf, within, endedOf, clientIn}
+use Rattle.layout.specs.Decode.{sizesIn, latestIn, viewIn, within, endedOf, readIn, writeIn, clientIn}
 use Rattle.layout.specs.Decode.{versionIn, messageIn, tablesOf}
-use Rattle.layout.specs.Encodes.{numberOfMode, HoldsEntry, HoldsEnded, HoldsClient, Encodes}
+use Rattle.layout.specs.Encodes.{numberOfMode, HoldsEntry, HoldsEnded, HoldsRead, HoldsWrite}
+use Rattle.layout.specs.Encodes.{HoldsClient, Encodes}
 use Rattle.layout.specs.Masked.{Only, MaskedEnded, MaskedClient, Masked}
+use Rattle.layout.proofs.Parts.{mode-writing}
 use Rattle.layout.proofs.Held.{version-held, message-held}
 use Rattle.encoding.proofs.Folds.{table-of}
 
 -- ---- Clients
-
-pub mode-number : (m : Mode) → modeOf (numberOfMode m) ≡ m
-unfolding modeOf
-mode-number idle = refl
-mode-number reading = refl
-mode-number writing = refl
 
 -- the words of a set's items are what f has there, and f is 0 elsewhere
 only-words : (s : ℕ) (words f : ℕ → ℕ) → ((k : ℕ) → has s k ≡ true → words k ≡ f k) → Only s f
@@ -56,37 +55,51 @@ ended-of b d (write s stamp vs) h m =
     let ν = fun-ext (only-words s (λ j. at b lastValues (itemAt d j)) vs (h .3) m) in
     rw (h .0, h .1) (λ i. write s (h .2 i) (ν i))
 
-client-of : (b : List ℕ) (d : ℕ) (c : Client) → HoldsClient b d c → MaskedClient c
-    → clientIn b d ≡ c
+read-of : (b : List ℕ) (d : ℕ) (p : ReadPart) → HoldsRead b d p → Only (p .set) (p .asked)
+    → Only (p .set) (p .values) → readIn b d ≡ p
+read-of b d p h asks answers =
+    let σ = fun-ext (only-words (p .set) (λ j. at b asked (itemAt d j)) (p .asked) (h .asked) asks) in
+    let ν = fun-ext
+    (only-words (p .set) (λ j. at b values (itemAt d j)) (p .values) (h .values) answers) in
+    rw (h .set, h .awaited) (λ i. record {
+      set = p .set;
+      awaited = p .awaited;
+      asked = σ i;
+      values = ν i;
+    })
+
+write-of : (b : List ℕ) (d : ℕ) (p : WritePart) → HoldsWrite b d p → Only (p .set) (p .values)
+    → writeIn b d ≡ p
+write-of b d p h keeps =
+    let ν = fun-ext
+    (only-words (p .set) (λ j. at b values (itemAt d j)) (p .values) (h .values) keeps) in
+    rw (h .set, h .awaited, h .stamp) (λ i. record {
+      set = p .set;
+      awaited = p .awaited;
+      stamp = p .stamp;
+      values = ν i;
+    })
+
+-- mode 2 is that of no other client
+pub mode-others : (c : Client) → isWriting c ≡ false → eqb (numberOfMode c) 2 ≡ false
+mode-others c w = by-test (isIdle c) (λ i. rw i refl) (λ i. rw (i, w) refl)
+
+client-of : (b : List ℕ) (d : ℕ) (z : Sizes) (c : Client) → HoldsClient b d c → MaskedClient c
+    → ClientInRange z c → clientIn b d ≡ c
 unfolding clientIn
-client-of b d c h m =
-    let mode : modeOf (at b scalars (modeAt d)) ≡ c .mode =
-    ap modeOf (h .mode) ∙ mode-number (c .mode) in
-    let stamp : cond (isWriting (modeOf (at b scalars (modeAt d))))
-    (at b scalars (stampAt d)) 0 ≡ c .stamp =
-    rw mode (by-test (isWriting (c .mode)) (λ w. rw w (h .stamp w))
-    (λ w. rw w (sym (m .others w)))) in
-    let asked : (k : ℕ)
-    → cond (isWriting (modeOf (at b scalars (modeAt d)))) 0
-    (within (at b scalars (setAt d)) (λ j. at b asked (itemAt d j)) k) ≡ c .asked k =
-    λ k.
-    rw (mode, h .set) (by-test (isWriting (c .mode))
-    (λ w. rw w (sym (m .writing w k)))
-    (λ w. rw w (only-words (c .set) (λ j. at b asked (itemAt d j)) (c .asked) (h .asked w)
-    (m .asked) k))) in
-    let values : (k : ℕ) → within (at b scalars (setAt d))
-    (λ j. at b values (itemAt d j)) k ≡ c .values k =
-    λ k. rw (h .set) (only-words (c .set) (λ j. at b values (itemAt d j)) (c .values) (h .values) (m .values) k) in
+client-of b d z c h m r =
     let last = ended-of b d (c .last) (h .last) (m .last) in
-    λ i.
-    record {
-      mode = mode i;
+    let parts : (cond (eqb (at b scalars (modeAt d)) 2) noRead (readIn b d) ≡ c .read)
+    × (cond (eqb (at b scalars (modeAt d)) 2) (writeIn b d) noWrite ≡ c .write) =
+    by-test (isWriting c)
+    (λ w. rw (h .mode, mode-writing z c r w)
+    (sym (m .writing w), write-of b d (c .write) (h .write w) (m .values)))
+    (λ w. rw (h .mode, mode-others c w)
+    (read-of b d (c .read) (h .read w) (m .asked) (m .answers), sym (m .others w))) in
+    λ i. record {
       count = h .count i;
-      set = h .set i;
-      awaited = h .awaited i;
-      asked = λ k. asked k i;
-      stamp = stamp i;
-      values = λ k. values k i;
+      read = parts .0 i;
+      write = parts .1 i;
       last = last i;
     }
 
@@ -98,7 +111,7 @@ entry-of b s at₀ e h = λ i. record { stamp = h .stamp i; set = h .set i }
 
 -- ---- The whole
 
-module _ (b : List ℕ) (t : Tables) (e : Encodes b t) (m : Masked t) where
+module _ (b : List ℕ) (t : Tables) (e : Encodes b t) (m : Masked t) (r : InRange t) where
   sizes-of : sizesIn b ≡ t .sizes
   sizes-of = λ i. record {
     clients = e .clients i;
@@ -134,7 +147,8 @@ module _ (b : List ℕ) (t : Tables) (e : Encodes b t) (m : Masked t) where
       (by-test (isClient (t .sizes) d)
       (λ y.
       let bounds = between 1 (t .sizes .clients) d y in
-      rw y (client-of b d (t .client d) (e .client d (bounds .0) (bounds .1)) (m .client d)))
+      rw y (client-of b d (t .sizes) (t .client d) (e .client d (bounds .0) (bounds .1)) (m .client d)
+      (r .client d bounds)))
       (λ f. rw f (sym (m .absent d f))))
 
   pub tables-of : length (t .versions) ≤ mostVersions → length (t .messages) ≤ mostMessages
@@ -172,4 +186,4 @@ pub tables-of-valid : (b : List ℕ) (t : Tables) → Encodes b t → Masked t �
     → tablesOf b ≡ t
 tables-of-valid b t e m v =
     let f = valid-facts capacities t v in
-    tables-of b t e m (few-versions t f) (few-messages t f)
+    tables-of b t e m (f .inRange) (few-versions t f) (few-messages t f)

@@ -5,28 +5,26 @@ use mathlib.Core.Path.{_≡_, refl, sym, _∙_}
 use Prim.Native.Nat.{ℕ, zero, suc, _<_, min}
 use native.Mathlib.Omega.{arith}
 use lib.ListN.{length, getD}
+use lib.Dec.{eqb}
 use borrow.Author.Tests.{lt-ltb}
+use Rattle.basics.proofs.Cases.{by-test, not-both}
 use Rattle.basics.specs.Lists.{table}
 use Rattle.basics.proofs.Lists.{length-table, table-at}
 use Rattle.itemset.specs.Set.{has}
+use Rattle.protocol.specs.Tables.{Sizes}
+use Rattle.protocol.proofs.Ranges.Clients.{ClientInRange}
 use Rattle.layout.specs.Layout.{mostVersions, mostMessages}
-use Rattle.layout.specs.Layout.{header, scalars, values, lastStamps, lastValues, at, messagesAt}
+use Rattle.layout.specs.Layout.{header, scalars, asked, values, lastStamps, lastValues, at, messagesAt}
 use Rattle.layout.specs.Layout.{versionsAt}
-use Rattle.layout.specs.Layout.{modeAt, lastKindAt, lastSetAt, lastStampAt, setAt, itemAt}
-use Rattle.layout.specs.Decode.{sizesIn, modeOf, endedOf, clientIn, versionIn, messageIn, tablesOf}
-use Rattle.layout.specs.Decode.{wellFormed}
-use Rattle.layout.specs.Encodes.{numberOfMode, HoldsVersion, HoldsMessage, HoldsEnded}
+use Rattle.layout.specs.Layout.{modeAt, awaitedAt, lastKindAt, lastSetAt, lastStampAt, setAt, itemAt}
+use Rattle.layout.specs.Decode.{sizesIn, endedOf, clientIn, versionIn, messageIn, tablesOf}
+use Rattle.layout.specs.Encodes.{HoldsVersion, HoldsMessage, HoldsEnded}
 use Rattle.layout.specs.Encodes.{HoldsClient, Encodes}
 use Rattle.layout.proofs.Held.{held-version, held-message}
-use Rattle.encoding.proofs.WellFormed.{client-test, tells-well-formed}
+use Rattle.encoding.proofs.WellFormed.{client-test, ValidBlock, client-range}
+use Rattle.encoding.proofs.Modes.{write-word, other-word, mode-word}
 
--- ---- Numbers of modes, ended transactions and kinds
-
-number-mode : (n : ℕ) → n < 3 → n ≡ numberOfMode (modeOf n)
-unfolding modeOf
-number-mode zero l = refl
-number-mode (suc zero) l = refl
-number-mode (suc (suc n)) l = omega arith
+-- ---- Ended transactions
 
 -- an item of the set keeps its word
 within-has : (s k v : ℕ) → has s k ≡ true → v ≡ cond (has s k) v 0
@@ -54,19 +52,32 @@ holds-ended b d (suc (suc n)) e l = (
 
 -- ---- Fields
 
-holds-client : (b : List ℕ) (d : ℕ) → at b scalars (modeAt d) < 3 → at b scalars (lastKindAt d) < 3
-    → HoldsClient b d (clientIn b d)
+holds-client : (b : List ℕ) (z : Sizes) (d : ℕ) → ClientInRange z (clientIn b d)
+    → at b scalars (modeAt d) < 3
+    → eqb (at b scalars (modeAt d)) 0 ≡ eqb (at b scalars (awaitedAt d)) 0
+    → at b scalars (lastKindAt d) < 3 → HoldsClient b d (clientIn b d)
 unfolding clientIn
-holds-client b d m l =
+holds-client b z d range below idle l =
     let s = at b scalars (setAt d) in
     record {
-      mode = number-mode (at b scalars (modeAt d)) m;
+      mode = mode-word b d z range below idle;
       count = refl;
-      set = refl;
-      awaited = refl;
-      stamp = λ w. rw w;
-      asked = λ w k h. rw (w, h);
-      values = λ k. within-has s k (at b values (itemAt d k));
+      read = λ w. by-test (eqb (at b scalars (modeAt d)) 2)
+          (λ m. not-both (write-word b d z range below idle m) w)
+          (λ m. rw m (record {
+            set = refl;
+            awaited = refl;
+            asked = λ k. within-has s k (at b asked (itemAt d k));
+            values = λ k. within-has s k (at b values (itemAt d k));
+          }));
+      write = λ w. by-test (eqb (at b scalars (modeAt d)) 2)
+          (λ m. rw m (record {
+            set = refl;
+            awaited = refl;
+            stamp = refl;
+            values = λ k. within-has s k (at b values (itemAt d k));
+          }))
+          (λ m. not-both w (other-word b d m));
       last = holds-ended b d (at b scalars (lastKindAt d)) refl l;
     }
 
@@ -79,10 +90,10 @@ table-holds P n f h i l none =
 
 -- ---- The whole
 
-pub encodes-tables : (b : List ℕ) → wellFormed b ≡ true → Encodes b (tablesOf b)
+pub encodes-tables : (b : List ℕ) → ValidBlock b → Encodes b (tablesOf b)
 unfolding tablesOf
-encodes-tables b e =
-    let w = tells-well-formed b .0 e in
+encodes-tables b v =
+    let w = v .wellFormed in
     let vs : min (at b header versionsAt) mostVersions ≡ at b header versionsAt = omega arith in
     let ms : min (at b header messagesAt) mostMessages ≡ at b header messagesAt = omega arith in
     record {
@@ -94,7 +105,9 @@ encodes-tables b e =
       messageCount = sym (length-table _ _ ∙ ms);
       latest = λ k l. rw (lt-ltb k (sizesIn b .items) l) (record { stamp = refl; set = refl });
       view = λ d l h k m. rw (client-test (sizesIn b) d (l, h), lt-ltb k (sizesIn b .items) m) (record { stamp = refl; set = refl });
-      client = λ d l h. rw (client-test (sizesIn b) d (l, h)) (holds-client b d (w .mode d (l, h)) (w .lastKind d (l, h)));
+      client = λ d l h. rw (client-test (sizesIn b) d (l, h))
+          (holds-client b (sizesIn b) d (client-range b v d (l, h)) (w .mode d (l, h))
+          (w .idle d (l, h)) (w .lastKind d (l, h)));
       versions = table-holds (HoldsVersion b) _ (versionIn b) (λ i l. held-version b i);
       messages = table-holds (HoldsMessage b) _ (messageIn b)
           (λ i l. held-message b i (w .someKind i (omega arith)) (w .kind i (omega arith)));

@@ -5,5 +5,6 @@ pub mod Encoded
 pub mod Decoded
 pub mod Capacity
 pub mod ValidIff
+pub mod Modes
 pub mod MaskedTables
 pub mod MaskedStep

@@ -7,7 +7,7 @@ use mathlib.Core.Logic.{_≢_}
 use mathlib.Core.Path.{_≡_, refl, ap, _∙_, subst}
 use Prim.Native.Nat.{ℕ, _^_, _<_}
 use lib.Dec.{eqb}
-use borrow.Author.Tests.{lt-ltb}
+use borrow.Author.Tests.{lt-ltb, ne-eqb}
 use Rattle.basics.proofs.Cases.{by-test, not-both, and-right}
 use Rattle.basics.specs.Lists.{without}
 use Rattle.itemset.specs.Set.{has}
@@ -16,13 +16,13 @@ use Rattle.protocol.specs.declared.Version.{Version}
 use Rattle.protocol.specs.declared.Entry.{Entry}
 use Rattle.protocol.specs.declared.Message.{Message}
 use Rattle.protocol.specs.declared.Message.the-variants.{Prepare, Prepared, Commit, Get, Got}
-use Rattle.protocol.specs.Tables.{Sizes, Tables, Client, writing, nothing, read, write, initial}
+use Rattle.protocol.specs.Tables.{Sizes, Tables, Client, ofRead, ofWrite, nothing, initial}
 use Rattle.protocol.specs.Tables.{fresh, put, laterOf, writerOf, partitionOf}
 use Rattle.protocol.specs.Tables.{withClient, withView, withLatest, withVersions, withMessages}
 use Rattle.protocol.specs.Range.{Capacities, isClient, isItem, isWriting}
 use Rattle.protocol.specs.Steps.{asks, reader, gets, valueOf, writer, nextStamp, version, prepares}
-use Rattle.protocol.specs.Steps.{stored, found, struck, isLast, prepared, got}
-use Rattle.protocol.specs.Steps.{seen, committed, delivered, touches, joined, messageAt}
+use Rattle.protocol.specs.Steps.{stored, found, struck, answered, ended, isLast, prepared, got}
+use Rattle.protocol.specs.Steps.{seen, committed, delivered, touches, commits, joined, messageAt}
 use Rattle.protocol.specs.Calls.{Call, startRead, startWrite, deliver, show, refusal, effect}
 use Rattle.protocol.proofs.Each.{Each, each-none, each-one, each-append, each-without, each-upto}
 use Rattle.protocol.proofs.Put.{by-cond, put-all, put-other}
@@ -31,7 +31,8 @@ use Rattle.protocol.proofs.Ranges.Values.{IsClient, MessageInRange}
 use Rattle.protocol.proofs.Ranges.Tables.{InRange}
 use Rattle.protocol.proofs.Refusals.{AcceptedDeliver, Expected, accepted-read, accepted-write}
 use Rattle.protocol.proofs.Refusals.{accepted-deliver, accepted-message}
-use Rattle.layout.specs.Masked.{Only, MaskedClient, MaskedMessage, Masked}
+use Rattle.layout.specs.Masked.{Only, MaskedEnded, MaskedClient, MaskedMessage, Masked}
+use Rattle.layout.proofs.Parts.{awaits-reply, awaits-answer}
 use Rattle.encoding.proofs.WellFormed.{client-test}
 use Rattle.encoding.proofs.MaskedTables.{masked-resting}
 
@@ -94,27 +95,25 @@ masked-start t m d c ms i h each =
     (each-append MaskedMessage (t .messages) ms (m .messages) each)
 
 masked-reader : (t : Tables) → Masked t → (d s : ℕ) → MaskedClient (reader t d s)
-unfolding isWriting
 masked-reader t m d s =
     record {
       asked = λ k e. rw e;
+      answers = λ k e. refl;
       values = λ k e. refl;
-      writing = λ w k. not-both w refl;
-      others =
-          λ w. refl;
+      writing = λ w. not-both w refl;
+      others = λ w. refl;
       last = m .client d .last;
     }
 
-masked-writer : (t : Tables) → Masked t → (d s : ℕ) (bytes : List ℕ)
+masked-writer : (t : Tables) → Masked t → (d s : ℕ) (bytes : List ℕ) → s ≢ 0
     → MaskedClient (writer t d s bytes)
-unfolding isWriting
-masked-writer t m d s bytes =
+masked-writer t m d s bytes n =
     record {
       asked = λ k e. refl;
+      answers = λ k e. refl;
       values = λ k e. rw e;
-      writing = λ w k. refl;
-      others =
-          λ w. not-both refl w;
+      writing = λ w. refl;
+      others = λ w. not-both (rw (ne-eqb s 0 n) refl) w;
       last = m .client d .last;
     }
 
@@ -125,30 +124,47 @@ only-put : (s : ℕ) (f : ℕ → ℕ) (k v : ℕ) → has s k ≡ true → Only
 only-put s f k v h o j e = put-other f k v j
     (λ p. not-both h (subst (λ (x : ℕ). has s x ≡ false) p e)) ∙ o j e
 
-masked-struck : (c : Client) (k : ℕ) (vs : ℕ → ℕ) → MaskedClient c → Only (c .set) vs
-    → MaskedClient (struck c k vs)
-masked-struck c k vs m o = record {
+masked-struck : (c : Client) (k : ℕ) → MaskedClient c → isWriting c ≡ true
+    → MaskedClient (struck c k)
+masked-struck c k m w = record {
   asked = m .asked;
-  values = o;
+  answers = m .answers;
+  values = m .values;
   writing = m .writing;
-  others =
-      m .others;
+  others = λ o. not-both w o;
   last = m .last;
 }
 
-masked-prepared : (c : Client) (k : ℕ) → MaskedClient c → MaskedClient (prepared c k)
-masked-prepared c k m =
-    by-cond MaskedClient (isLast c k) _ _
-    (λ l. masked-resting (c .count) (write (c .set) (c .stamp) (c .values)) (m .values))
-    (λ l. masked-struck c k (c .values) m (m .values))
+masked-answered : (c : Client) (k v : ℕ) → MaskedClient c → isWriting c ≡ false
+    → Only (c .read .set) (put (c .read .values) k v) → MaskedClient (answered c k v)
+masked-answered c k v m w o = record {
+  asked = m .asked;
+  answers = o;
+  values = m .values;
+  writing = λ p. not-both p w;
+  others = m .others;
+  last = m .last;
+}
 
-masked-got : (c : Client) (k v : ℕ) → MaskedClient c → has (c .set) k ≡ true
-    → MaskedClient (got c k v)
-masked-got c k v m h =
-    let o = only-put (c .set) (c .values) k v h (m .values) in
-    by-cond MaskedClient (isLast c k) _ _
-    (λ l. masked-resting (c .count) (read (c .set) (c .asked) (put (c .values) k v)) (m .asked, o))
-    (λ l. masked-struck c k (put (c .values) k v) m o)
+masked-ended : (c : Client) → MaskedClient c → MaskedEnded (ended c)
+masked-ended c m =
+    by-cond MaskedEnded (eqb (c .write .set) 0) _ _ (λ e. (m .asked, m .answers)) (λ e. m .values)
+
+masked-prepared : (c : Client) (k : ℕ) → MaskedClient c → isWriting c ≡ true
+    → MaskedClient (prepared c k)
+masked-prepared c k m w =
+    by-cond MaskedClient (isLast ofWrite c k) _ _
+    (λ l. masked-resting (c .count) (ended c) (masked-ended c m))
+    (λ l. masked-struck c k m w)
+
+masked-got : (c : Client) (k v : ℕ) → MaskedClient c → isWriting c ≡ false
+    → has (c .read .set) k ≡ true → MaskedClient (got c k v)
+masked-got c k v m w h =
+    let o = only-put (c .read .set) (c .read .values) k v h (m .answers) in
+    let a = masked-answered c k v m w o in
+    by-cond MaskedClient (isLast ofRead c k) _ _
+    (λ l. masked-resting (c .count) (ended (answered c k v)) (masked-ended (answered c k v) a))
+    (λ l. a)
 
 -- a set of existing items has none of those that don't exist
 hasnt-item : (z : Sizes) (s k : ℕ) → s < 2 ^ z .items → isItem z k ≡ false → has s k ≡ false
@@ -182,10 +198,12 @@ masked-delivered t (Prepared k stamp) m r h x =
     let c = t .client d in
     let one : IsClient (t .sizes) d = h .stamp .writer in
     masked-view (withClient t d (prepared c k))
-    (masked-client t m d (prepared c k) one (masked-prepared c k (m .client d))) d
-    (cond (isLast c k) (seen (t .view d) (c .set) stamp) (t .view d)) one
-    (by-cond (MaskedEntries (t .sizes)) (isLast c k) _ _
-    (λ l. masked-seen (t .sizes) (t .view d) (c .set) stamp (r .client d one .set) (m .itemView d))
+    (masked-client t m d (prepared c k) one (masked-prepared c k (m .client d)
+    (awaits-reply (t .sizes) c (r .client d one) k (x .awaited)))) d
+    (cond (isLast ofWrite c k) (seen (t .view d) (c .write .set) stamp) (t .view d)) one
+    (by-cond (MaskedEntries (t .sizes)) (isLast ofWrite c k) _ _
+    (λ l. masked-seen (t .sizes) (t .view d) (c .write .set) stamp (r .client d one .write .set)
+    (m .itemView d))
     (λ l. m .itemView d))
 masked-delivered t (Commit p stamp) m r h x =
     masked-latest t m (committed t p stamp) (masked-committed t m r p stamp)
@@ -194,29 +212,41 @@ masked-delivered t (Got d v latest) m r h x =
     let c = t .client d in
     let k = v .item in
     let one : IsClient (t .sizes) d = h .client in
-    let own = r .client d one .within k (x .awaited) in
+    let range = r .client d one in
+    let own = range .read .within k (x .awaited) in
+    let reads = awaits-answer (t .sizes) c range k (x .awaited) in
     let view = put (t .view d) k (laterOf (t .view d k) latest) in
-    masked-view (withClient t d (got c k (v .value)))
-    (masked-client t m d (got c k (v .value)) one (masked-got c k (v .value) (m .client d) own))
-    d view one
-    (λ j f.
+    let entries : MaskedEntries (t .sizes) view = λ j f.
     let other : j ≢ k =
     λ p. not-both (lt-ltb k (t .sizes .items) (h .item)) (subst (λ (y : ℕ). isItem (t .sizes) y ≡ false) p f) in
-    put-other (t .view d) k (laterOf (t .view d k) latest) j other ∙ m .itemView d j f)
+    put-other (t .view d) k (laterOf (t .view d k) latest) j other ∙ m .itemView d j f in
+    masked-view (withClient t d (got c k (v .value)))
+    (masked-client t m d (got c k (v .value)) one
+    (masked-got c k (v .value) (m .client d) reads own)) d
+    (cond (isLast ofRead c k) (seen view (c .write .set) (c .write .stamp)) view) one
+    (by-cond (MaskedEntries (t .sizes)) (isLast ofRead c k) _ _
+    (λ l. masked-seen (t .sizes) view (c .write .set) (c .write .stamp) (range .write .set) entries)
+    (λ l. entries))
+
+masked-commits : (t : Tables) (s stamp : ℕ) → Each MaskedMessage (commits t s stamp)
+masked-commits t s stamp =
+    each-upto MaskedMessage (λ p. Commit p stamp) (t .sizes .partitions)
+    (λ p. touches t s p (t .sizes .items)) (λ p b e. tt)
 
 masked-joined : (t : Tables) (x : Message) → Each MaskedMessage (joined t x)
 unfolding joined
 masked-joined t (Prepare v) = each-one MaskedMessage (Prepared (v .item) (v .stamp)) tt
 masked-joined t (Prepared k stamp) =
     let c = t .client (writerOf stamp) in
-    by-cond (Each MaskedMessage) (isLast c k) _ _
-    (λ l. each-upto MaskedMessage (λ p. Commit p stamp) (t .sizes .partitions)
-    (λ p. touches t (c .set) p (t .sizes .items)) (λ p b e. tt))
-    (λ l. each-none MaskedMessage)
+    by-cond (Each MaskedMessage) (isLast ofWrite c k) _ _
+    (λ l. masked-commits t (c .write .set) stamp) (λ l. each-none MaskedMessage)
 masked-joined t (Commit p stamp) = each-none MaskedMessage
 masked-joined t (Get d k stamp) = each-one MaskedMessage
     (Got d (version k (found (t .versions) k stamp .value) stamp 0) (t .latest k)) refl
-masked-joined t (Got d v latest) = each-none MaskedMessage
+masked-joined t (Got d v latest) =
+    let c = t .client d in
+    by-cond (Each MaskedMessage) (isLast ofRead c (v .item)) _ _
+    (λ l. masked-commits t (c .write .set) (c .write .stamp)) (λ l. each-none MaskedMessage)
 
 masked-deliver : (caps : Capacities) (t : Tables) → Masked t → (i : ℕ) → AcceptedDeliver caps t i
     → Masked (effect t (deliver i))
@@ -241,7 +271,7 @@ masked-step caps t (startRead d s) e m =
 masked-step caps t (startWrite d s bytes) e m =
     let a = accepted-write caps t d s bytes .0 e in
     masked-start t m d (writer t d s bytes) (prepares t d s bytes) (a .start .client)
-    (masked-writer t m d s bytes)
+    (masked-writer t m d s bytes (a .start .some))
     (each-upto MaskedMessage (λ k. Prepare (version k (valueOf s bytes k) (nextStamp t d) s))
     (t .sizes .items) (has s) (λ k l h. tt))
 masked-step caps t (deliver i) e m = masked-deliver caps t m i (accepted-deliver caps t i .0 e)

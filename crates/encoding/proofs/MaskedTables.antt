@@ -1,16 +1,21 @@
 -- The decoder's tables are initial outside their sizes and sets.
 use mathlib.Core.List.{List}
-use mathlib.Core.Path.{refl}
+use mathlib.Core.Bool.{true}
+use mathlib.Core.Path.{_≡_, refl}
+use lib.Dec.{eqb}
 use Prim.Native.Nat.{ℕ, zero, suc}
-use Rattle.basics.proofs.Cases.{by-test}
+use Rattle.basics.proofs.Cases.{by-test, not-both, between}
 use Rattle.protocol.specs.Tables.{Ended, nothing, resting}
 use Rattle.protocol.specs.Range.{isClient, isWriting}
 use Rattle.protocol.proofs.Put.{by-cond}
 use Rattle.layout.specs.Layout.{at, scalars, modeAt}
-use Rattle.layout.specs.Decode.{sizesIn, within, modeOf, endedOf, clientIn, messageIn, tablesOf}
+use Rattle.layout.specs.Decode.{sizesIn, within, endedOf, clientIn, messageIn, tablesOf}
+use Rattle.layout.specs.Decode.{validBlock}
 use Rattle.layout.specs.Masked.{Only, MaskedEnded, MaskedClient, MaskedMessage, Masked}
 use Rattle.layout.proofs.Held.{masked-message}
 use Rattle.encoding.proofs.Folds.{each-table}
+use Rattle.encoding.proofs.WellFormed.{client-range, tells-valid-block}
+use Rattle.encoding.proofs.Modes.{write-word}
 
 only-within : (s : ℕ) (f : ℕ → ℕ) → Only s (within s f)
 only-within s f k e = rw e
@@ -21,38 +26,52 @@ masked-ended zero s stamp stamps vs = tt
 masked-ended (suc zero) s stamp stamps vs = (only-within s stamps, only-within s vs)
 masked-ended (suc (suc n)) s stamp stamps vs = only-within s vs
 
-masked-client : (b : List ℕ) (d : ℕ) → MaskedClient (clientIn b d)
+masked-client : (b : List ℕ) (d : ℕ)
+    → (eqb (at b scalars (modeAt d)) 2 ≡ true → isWriting (clientIn b d) ≡ true)
+    → MaskedClient (clientIn b d)
 unfolding clientIn
-masked-client b d =
+masked-client b d writes =
     record {
-      asked = λ k e. rw e (by-test (isWriting (modeOf (at b scalars (modeAt d)))) (λ w. rw w) (λ w. rw w));
-      values = λ k e. rw e;
-      writing = λ w k. rw w;
-      others = λ w. rw w;
+      asked = λ k e. by-test (eqb (at b scalars (modeAt d)) 2) (λ m. rw m refl)
+          (λ m. rw m (rw (rw m at e)));
+      answers = λ k e. by-test (eqb (at b scalars (modeAt d)) 2) (λ m. rw m refl)
+          (λ m. rw m (rw (rw m at e)));
+      values = λ k e. by-test (eqb (at b scalars (modeAt d)) 2) (λ m. rw m (rw (rw m at e)))
+          (λ m. rw m refl);
+      writing = λ w. by-test (eqb (at b scalars (modeAt d)) 2) (λ m. rw m refl)
+          (λ m. not-both (rw m at w) refl);
+      others = λ w. by-test (eqb (at b scalars (modeAt d)) 2) (λ m. not-both (writes m) w)
+          (λ m. rw m refl);
       last = masked-ended _ _ _ _ _;
     }
 
 pub masked-resting : (count : ℕ) (last : Ended) → MaskedEnded last
     → MaskedClient (resting count last)
-unfolding isWriting
 masked-resting count last m =
     record {
       asked = λ k e. refl;
+      answers = λ k e. refl;
       values = λ k e. refl;
-      writing = λ w k. refl;
-      others =
-          λ w. refl;
+      writing = λ w. not-both w refl;
+      others = λ w. refl;
       last = m;
     }
 
-pub masked-tables : (b : List ℕ) → Masked (tablesOf b)
+pub masked-tables : (b : List ℕ) → validBlock b ≡ true → Masked (tablesOf b)
 unfolding tablesOf
-masked-tables b =
+masked-tables b v =
+    let f = tells-valid-block b .0 v in
+    let writes : (d : ℕ) → isClient (sizesIn b) d ≡ true → eqb (at b scalars (modeAt d)) 2 ≡ true
+    → isWriting (clientIn b d) ≡ true =
+    λ d c. let i = between 1 (sizesIn b .clients) d c in
+    write-word b d (sizesIn b) (client-range b f d i) (f .wellFormed .mode d i)
+    (f .wellFormed .idle d i) in
     record {
       latest = λ k e. rw e;
       clientView = λ d k e. rw e;
       itemView = λ d k e. by-test (isClient (sizesIn b) d) (λ c. rw (c, e)) (λ c. rw c);
       absent = λ d e. rw e;
-      client = λ d. by-cond MaskedClient (isClient (sizesIn b) d) _ _ (λ c. masked-client b d) (λ c. masked-resting 0 nothing tt);
+      client = λ d. by-cond MaskedClient (isClient (sizesIn b) d) _ _
+          (λ c. masked-client b d (writes d c)) (λ c. masked-resting 0 nothing tt);
       messages = each-table MaskedMessage _ (messageIn b) (λ i l. masked-message b i);
     }

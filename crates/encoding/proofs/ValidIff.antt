@@ -1,49 +1,51 @@
 -- A block is valid exactly when it holds some tables that are in range and within the capacities.
 use mathlib.Core.Bool.{true}
 use mathlib.Core.List.{List}
-use mathlib.Core.Logic.{_↔_}
-use mathlib.Core.Path.{_≡_, sym, ap, _∙_, subst, subst₂}
+use mathlib.Core.Logic.{_↔_, _≢_}
+use mathlib.Core.Path.{_≡_, refl, sym, ap, _∙_, subst, subst₂}
 use Prim.Native.Nat.{ℕ, _+_, _≤_, _<_}
 use native.Mathlib.Omega.{arith}
 use lib.ListN.{length, getD}
-use borrow.Author.Tests.{lt-ltb}
-use Rattle.basics.proofs.Cases.{by-test}
+use lib.Dec.{eqb}
+use borrow.Author.Tests.{lt-ltb, ne-eqb, eqb-false}
+use Rattle.basics.proofs.Cases.{by-test, not-true}
 use Rattle.basics.proofs.Lists.{in-getD}
 use Rattle.protocol.specs.declared.Entry.{Entry}
 use Rattle.protocol.specs.declared.Message.{Message}
 use Rattle.protocol.specs.declared.Message.the-variants.{Prepare, Prepared, Commit, Get, Got}
-use Rattle.protocol.specs.Tables.{Sizes, Tables, Client, Mode, idle, reading, writing, Ended}
-use Rattle.protocol.specs.Tables.{nothing, read, write}
+use Rattle.protocol.specs.Tables.{Sizes, Tables, Client, Ended, nothing, read, write}
 use Rattle.protocol.specs.Steps.{version}
-use Rattle.protocol.specs.Range.{capacities, isWriting, isPrepare, arrived, load, occupied, valid}
+use Rattle.protocol.specs.Range.{capacities, isIdle, isWriting, isPrepare, arrived, load}
+use Rattle.protocol.specs.Range.{occupied, valid}
 use Rattle.protocol.proofs.Ranges.Values.{SizesInRange, IsClient, EntryInRange, VersionInRange}
 use Rattle.protocol.proofs.Ranges.Values.{MessageInRange}
 use Rattle.protocol.proofs.Ranges.Clients.{EndedInRange, ClientInRange}
-use Rattle.protocol.proofs.Kept.Values.{range-initial}
+use Rattle.protocol.proofs.Kept.Values.{range-no-read, range-no-write}
 use Rattle.protocol.proofs.Ranges.Tables.{InRange, Valid, valid-facts, facts-valid}
 use Rattle.layout.specs.Layout.{Section, header, scalars, latest, views, asked, values, lastStamps}
 use Rattle.layout.specs.Layout.{lastValues, at}
-use Rattle.layout.specs.Layout.{messagesAt, modeAt, lastKindAt, lastSetAt, lastStampAt, itemAt}
+use Rattle.layout.specs.Layout.{messagesAt, modeAt, awaitedAt, lastKindAt, lastSetAt, lastStampAt, itemAt}
 use Rattle.layout.specs.Layout.{latestAt, viewAt}
-use Rattle.layout.specs.Decode.{sizesIn, kindIn, modeOf, within, endedOf, messageOf, clientIn}
-use Rattle.layout.specs.Decode.{versionIn, messageIn, tablesOf, wellFormed, validBlock}
+use Rattle.layout.specs.Decode.{sizesIn, kindIn, within, endedOf, messageOf, clientIn}
+use Rattle.layout.specs.Decode.{versionIn, messageIn, tablesOf, validBlock}
 use Rattle.layout.specs.Encodes.{numberOfMode, HoldsEntry, HoldsMessage, HoldsEnded, HoldsClient}
 use Rattle.layout.specs.Encodes.{Encodes}
 use Rattle.encoding.proofs.Folds.{each-table, counted-list, total-same}
-use Rattle.encoding.proofs.WellFormed.{client-test, WellFormed, tells-well-formed}
+use Rattle.encoding.proofs.WellFormed.{client-test, WellFormed}
 use Rattle.encoding.proofs.WellFormed.{ValidBlock}
 use Rattle.encoding.proofs.WellFormed.{tells-valid-block}
 use Rattle.encoding.proofs.Capacity.{load-words, occupied-words}
 use Rattle.encoding.proofs.Encoded.{encodes-tables}
+use Rattle.layout.proofs.Parts.{mode-writing, mode-other, writes-nothing, no-reply-awaited}
 use Rattle.layout.proofs.Held.{version-held}
-use Rattle.encoding.proofs.Decoded.{mode-number, entry-of, few-versions, few-messages}
+use Rattle.encoding.proofs.Decoded.{mode-others, entry-of, few-versions, few-messages}
 
 -- ---- The numbers are those of some mode, ended transaction or kind
 
-mode-below : (m : Mode) → numberOfMode m < 3
-mode-below idle = omega arith
-mode-below reading = omega arith
-mode-below writing = omega arith
+mode-below : (c : Client) → numberOfMode c < 3
+mode-below c =
+    by-test (isIdle c) (λ i. rw i (omega arith))
+    (λ i. rw i (by-test (isWriting c) (λ w. rw w (omega arith)) (λ w. rw w (omega arith))))
 
 ended-below : (b : List ℕ) (d : ℕ) (x : Ended) → HoldsEnded b d x → at b scalars (lastKindAt d) < 3
 ended-below b d nothing h = omega arith
@@ -87,19 +89,33 @@ module _ (b : List ℕ) (z : Sizes) where
       → ClientInRange z (clientIn b d)
   unfolding clientIn
   client-range d c h r =
-      let mode : modeOf (at b scalars (modeAt d)) ≡ c .mode =
-      ap modeOf (h .mode) ∙ mode-number (c .mode) in
       record {
         count = rw (h .count) (r .count);
-        set = rw (h .set) (r .set);
-        awaited = rw (h .awaited) (r .awaited);
-        within = rw (h .set, h .awaited) (r .within);
-        idle = rw (mode, h .awaited) (r .idle);
-        stamp = rw mode (by-test (isWriting (c .mode)) (λ w. rw (w, h .stamp w) (r .stamp))
-            (λ w. rw w (range-initial z)));
-        asked = rw (mode, h .set) (λ k e. by-test (isWriting (c .mode))
-            (λ w. rw w (range-initial z)) (λ w. rw (w, e, h .asked w k e) (r .asked k e)));
-        values = rw (h .set) (λ k e. rw (e, h .values k e) (r .values k e));
+        read = by-test (isWriting c)
+            (λ w. rw (h .mode, mode-writing z c r w) (range-no-read z))
+            (λ w. let p = h .read w in
+            rw (h .mode, mode-others c w, p .set, p .awaited) (record {
+              set = r .read .set;
+              awaited = r .read .awaited;
+              within = r .read .within;
+              asked = λ k e. rw (e, p .asked k e) (r .read .asked k e);
+              values = λ k e. rw (e, p .values k e) (r .read .values k e);
+            }));
+        write = by-test (isWriting c)
+            (λ w. let p = h .write w in
+            rw (h .mode, mode-writing z c r w, p .set, p .awaited, p .stamp) (record {
+              set = r .write .set;
+              awaited = r .write .awaited;
+              within = r .write .within;
+              stamp = r .write .stamp;
+              values = λ k e. rw (e, p .values k e) (r .write .values k e);
+            }))
+            (λ w. rw (h .mode, mode-others c w) (range-no-write z));
+        alone = by-test (isWriting c)
+            (λ w. let p = h .write w in
+            rw (h .mode, mode-writing z c r w, p .set, p .awaited)
+            (λ n. (refl, r .alone n .1)))
+            (λ w. rw (h .mode, mode-others c w) (λ n. absurd (n refl)));
         last = ended-range d (c .last) (h .last) (r .last);
       }
 
@@ -123,13 +139,13 @@ module _ (b : List ℕ) (z : Sizes) where
 
 -- ---- and the load and the versions in use are the same
 
-arrived-same : (b : List ℕ) (d : ℕ) (c : Client) → HoldsClient b d c
-    → arrived (clientIn b d) ≡ arrived c
+arrived-same : (b : List ℕ) (z : Sizes) (d : ℕ) (c : Client) → HoldsClient b d c
+    → ClientInRange z c → arrived (clientIn b d) ≡ arrived c
 unfolding clientIn arrived
-arrived-same b d c h =
-    let mode : modeOf (at b scalars (modeAt d)) ≡ c .mode =
-    ap modeOf (h .mode) ∙ mode-number (c .mode) in
-    rw (mode, h .set, h .awaited)
+arrived-same b z d c h r =
+    by-test (isWriting c)
+    (λ w. rw (h .mode, mode-writing z c r w, h .write w .set, h .write w .awaited) refl)
+    (λ w. rw (h .mode, mode-others c w, writes-nothing z c r w, no-reply-awaited z c r w) refl)
 
 prepare-same : (b : List ℕ) (i : ℕ) (m : Message) → HoldsMessage b i m
     → isPrepare (messageIn b i) ≡ isPrepare m
@@ -139,6 +155,19 @@ prepare-same b i (Prepared k stamp) h = rw (h .0)
 prepare-same b i (Commit p stamp) h = rw (h .0)
 prepare-same b i (Get d k stamp) h = rw (h .0)
 prepare-same b i (Got d v e) h = rw (h .0)
+
+-- the mode is 0 exactly if no item is awaited
+idle-word : (b : List ℕ) (z : Sizes) (d : ℕ) (c : Client) → HoldsClient b d c → ClientInRange z c
+    → eqb (at b scalars (modeAt d)) 0 ≡ eqb (at b scalars (awaitedAt d)) 0
+idle-word b z d c h r =
+    by-test (isWriting c)
+    (λ w. rw (h .mode, mode-writing z c r w, h .write w .awaited)
+    (sym (ne-eqb (c .write .awaited) 0 (r .alone (writes w) .1))))
+    (λ w. rw (h .mode, mode-other z c r w, h .read w .awaited)
+    (by-test (eqb (c .read .awaited) 0) (λ e. rw e refl) (λ e. rw e refl)))
+  where
+    writes : isWriting c ≡ true → c .write .set ≢ 0
+    writes w = eqb-false (c .write .set) 0 (not-true (eqb (c .write .set) 0) w)
 
 -- ---- The whole
 
@@ -169,7 +198,9 @@ module _ (b : List ℕ) (t : Tables) (e : Encodes b t) (v : Valid capacities t) 
         sizes = subst SizesInRange sizes-same (v .inRange .sizes);
         versionCount = omega (arith, e .versionCount, few-versions t v);
         messageCount = omega (arith, e .messageCount, few-messages t v);
-        mode = λ d c. omega (arith, holds-client d c .mode, mode-below (t .client d .mode));
+        mode = λ d c. omega (arith, holds-client d c .mode, mode-below (t .client d));
+        idle = λ d c. idle-word b (t .sizes) d (t .client d) (holds-client d c)
+            (v .inRange .client d (c .0, omega (arith, e .clients)));
         lastKind = λ d c. ended-below b d (t .client d .last) (holds-client d c .last);
         someKind = λ i l. kind i l .0;
         kind = λ i l. kind i l .1;
@@ -218,7 +249,7 @@ module _ (b : List ℕ) (t : Tables) (e : Encodes b t) (v : Valid capacities t) 
       let come =
       total-same (t .sizes .clients) (λ d. arrived (clientIn b d)) (λ d. arrived (t .client d))
       (λ d l m.
-      arrived-same b d (t .client d) (e .client d l m)) in
+      arrived-same b (t .sizes) d (t .client d) (e .client d l m) (v .inRange .client d (l, m))) in
       sym (load-words b (well-formed .messageCount))
       ∙ rw (e .clients) (omega (arith, come, e .messageCount))
 
@@ -251,7 +282,7 @@ valid-iff b = (
   λ e.
       let f = tells-valid-block b .0 e in (
         tablesOf b,
-        encodes-tables b (tells-well-formed b .1 (f .wellFormed)),
+        encodes-tables b f,
         facts-valid capacities
             (tablesOf b) (f .valid),
       ),

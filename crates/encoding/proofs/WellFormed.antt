@@ -1,22 +1,23 @@
 -- What `wellFormed` and `validBlock` tell of a block, as records of plain facts, both ways.
-use mathlib.Core.Bool.{true}
+use mathlib.Core.Bool.{Bool, true, cond}
 use mathlib.Core.List.{List}
 use mathlib.Core.Logic.{_↔_}
-use mathlib.Core.Path.{_≡_}
+use mathlib.Core.Path.{_≡_, ap, subst}
 use Prim.Native.Nat.{ℕ, _≤_, _<_}
-use lib.Dec.{leb}
+use lib.Dec.{eqb, leb}
 use lib.ListN.{length}
 use borrow.Author.Tests.{le-leb}
 use Rattle.basics.proofs.Cases.{and-both}
-use Rattle.protocol.specs.Tables.{Sizes}
+use Rattle.protocol.specs.Tables.{Sizes, nothing, resting}
 use Rattle.protocol.specs.Range.{capacities, isClient}
 use Rattle.protocol.proofs.Tells.{tells, tells-and}
 use Rattle.protocol.proofs.Ranges.Values.{SizesInRange, IsClient, tells-sizes}
+use Rattle.protocol.proofs.Ranges.Clients.{ClientInRange}
 use Rattle.protocol.proofs.Ranges.Tables.{is-client, each-client, Valid, tells-valid}
 use Rattle.layout.specs.Layout.{mostVersions, mostMessages}
 use Rattle.layout.specs.Layout.{header, scalars, needed, at, versionsAt, messagesAt, modeAt}
-use Rattle.layout.specs.Layout.{lastKindAt}
-use Rattle.layout.specs.Decode.{sizesIn, kindIn, tablesOf, wellFormed, validBlock}
+use Rattle.layout.specs.Layout.{awaitedAt, lastKindAt}
+use Rattle.layout.specs.Decode.{sizesIn, kindIn, clientIn, tablesOf, wellFormed, validBlock}
 
 -- a client that exists passes its test
 pub client-test : (z : Sizes) (d : ℕ) → IsClient z d → isClient z d ≡ true
@@ -29,6 +30,8 @@ pub record WellFormed (b : List ℕ) : Type 0 where
   pub versionCount : at b header versionsAt ≤ mostVersions
   pub messageCount : at b header messagesAt ≤ mostMessages
   pub mode : (d : ℕ) → IsClient (sizesIn b) d → at b scalars (modeAt d) < 3
+  pub idle : (d : ℕ) → IsClient (sizesIn b) d
+      → eqb (at b scalars (modeAt d)) 0 ≡ eqb (at b scalars (awaitedAt d)) 0
   pub lastKind : (d : ℕ) → IsClient (sizesIn b) d → at b scalars (lastKindAt d) < 3
   pub someKind : (i : ℕ) → i < at b header messagesAt → 1 ≤ kindIn b i
   pub kind : (i : ℕ) → i < at b header messagesAt → kindIn b i ≤ 5
@@ -39,15 +42,20 @@ tells-well-formed b = (
   λ e.
       let f = simp (tells, tells-sizes) at e in
       let client = each-client (sizesIn b)
-      (λ d. (at b scalars (modeAt d) < 3) × (at b scalars (lastKindAt d) < 3)) (f .0 .1) in
+      (λ d. ((at b scalars (modeAt d) < 3)
+      × (eqb (at b scalars (modeAt d)) 0 ≡ eqb (at b scalars (awaitedAt d)) 0))
+      × (at b scalars (lastKindAt d) < 3)) (f .0 .1) in
       let mode : (d : ℕ) → IsClient (sizesIn b) d → at b scalars (modeAt d) < 3 =
-      λ d c. client d c .0 in
+      λ d c. client d c .0 .0 in
+      let idle : (d : ℕ) → IsClient (sizesIn b) d
+      → eqb (at b scalars (modeAt d)) 0 ≡ eqb (at b scalars (awaitedAt d)) 0 =
+      λ d c. client d c .0 .1 in
       let lastKind : (d : ℕ) → IsClient (sizesIn b) d → at b scalars (lastKindAt d) < 3 =
       λ d c. client d c .1 in
       let someKind : (i : ℕ) → i < at b header messagesAt → 1 ≤ kindIn b i = λ i l. f .1 i l .0 in
       let kind : (i : ℕ) → i < at b header messagesAt → kindIn b i ≤ 5 = λ i l. f .1 i l .1 in
       search,
-  λ r. simp (tells, tells-sizes) (search (r .mode, r .lastKind, r .someKind, r .kind, is-client)),
+  λ r. simp (tells, tells-sizes) (search (r .mode, r .idle, r .lastKind, r .someKind, r .kind, is-client)),
 )
 
 -- not refused by 1
@@ -62,3 +70,11 @@ tells-valid-block b = (
       search,
   λ r. simp (tells-and, tells-well-formed, tells-valid) search,
 )
+
+-- the client that the words are is in range
+pub client-range : (b : List ℕ) → ValidBlock b → (d : ℕ) → IsClient (sizesIn b) d
+    → ClientInRange (sizesIn b) (clientIn b d)
+unfolding tablesOf
+client-range b v d c =
+    subst (ClientInRange (sizesIn b)) (ap (λ (x : Bool). cond x (clientIn b d) (resting 0 nothing))
+    (client-test (sizesIn b) d c)) (v .valid .inRange .client d c)

@@ -11,8 +11,8 @@ use Rattle.protocol.specs.declared.Version.{Version}
 use Rattle.protocol.specs.declared.Entry.{Entry}
 use Rattle.protocol.specs.declared.Message.{Message}
 use Rattle.protocol.specs.declared.Message.the-variants.{Prepare, Prepared, Commit, Get, Got}
-use Rattle.protocol.specs.Tables.{Sizes, Tables, Client, noRead, noWrite, Ended, nothing, read}
-use Rattle.protocol.specs.Tables.{write, initial, resting}
+use Rattle.protocol.specs.Tables.{Sizes, Tables, Client, ReadPart, WritePart, noRead, noWrite}
+use Rattle.protocol.specs.Tables.{Ended, nothing, read, write, initial, resting}
 use Rattle.protocol.specs.Steps.{version}
 use Rattle.protocol.specs.Range.{capacities, valid, sizesInRange, isClient, isItem, everyClient}
 use Rattle.layout.specs.Layout.{mostVersions, mostMessages, header, scalars, latest, views}
@@ -58,27 +58,35 @@ latestIn b k = record { stamp = at b latest (latestAt k); set = at b latest (lat
 abbrev pub viewIn : List ℕ → ℕ → ℕ → Entry
 viewIn b d k = record { stamp = at b views (viewAt d k); set = at b views (viewAt d k + 1) }
 
--- mode 2 is a write under way; in any other the words are those of a read part
+-- the words of the transaction under way, as a read part and as a write part
+abbrev pub readIn : List ℕ → ℕ → ReadPart
+readIn b d =
+    let s = at b scalars (setAt d) in
+    record {
+      set = s;
+      awaited = at b scalars (awaitedAt d);
+      asked = within s (λ j. at b asked (itemAt d j));
+      values = within s (λ j. at b values (itemAt d j));
+    }
+
+abbrev pub writeIn : List ℕ → ℕ → WritePart
+writeIn b d =
+    let s = at b scalars (setAt d) in
+    record {
+      set = s;
+      awaited = at b scalars (awaitedAt d);
+      stamp = at b scalars (stampAt d);
+      values = within s (λ j. at b values (itemAt d j));
+    }
+
+-- in mode 2 they are those of a write part, in any other those of a read part
 unfoldable pub clientIn : List ℕ → ℕ → Client
 clientIn b d =
     let writes = eqb (at b scalars (modeAt d)) 2 in
-    let s = at b scalars (setAt d) in
-    let awaited = at b scalars (awaitedAt d) in
-    let answers = within s (λ j. at b values (itemAt d j)) in
     record {
       count = at b scalars (countAt d);
-      read = cond writes noRead (record {
-        set = s;
-        awaited = awaited;
-        asked = within s (λ j. at b asked (itemAt d j));
-        values = answers;
-      });
-      write = cond writes (record {
-        set = s;
-        awaited = awaited;
-        stamp = at b scalars (stampAt d);
-        values = answers;
-      }) noWrite;
+      read = cond writes noRead (readIn b d);
+      write = cond writes (writeIn b d) noWrite;
       last = endedOf (at b scalars (lastKindAt d)) (at b scalars (lastSetAt d))
           (at b scalars (lastStampAt d))
           (λ j. at b lastStamps (itemAt d j)) (λ j. at b lastValues (itemAt d j));
