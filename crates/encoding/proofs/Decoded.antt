@@ -4,7 +4,7 @@ use mathlib.Core.List.{List}
 use mathlib.Core.Path.{_≡_, refl, sym, ap, _∙_, fun-ext}
 use Prim.Native.Nat.{ℕ, _+_, _≤_, min}
 use native.Mathlib.Omega.{arith}
-use lib.Dec.{eqb}
+use lib.Dec.{eqb, leb}
 use lib.ListN.{length}
 use borrow.Author.Tests.{ltb-true}
 use Rattle.basics.proofs.Cases.{by-test, between}
@@ -81,7 +81,7 @@ write-of b d p h keeps =
     })
 
 -- mode 2 is that of no other client
-pub mode-others : (c : Client) → isWriting c ≡ false → eqb (numberOfMode c) 2 ≡ false
+pub mode-others : (c : Client) → isWriting c ≡ false → leb 2 (numberOfMode c) ≡ false
 mode-others c w = by-test (isIdle c) (λ i. rw i refl) (λ i. rw (i, w) refl)
 
 client-of : (b : List ℕ) (d : ℕ) (z : Sizes) (c : Client) → HoldsClient b d c → MaskedClient c
@@ -89,8 +89,8 @@ client-of : (b : List ℕ) (d : ℕ) (z : Sizes) (c : Client) → HoldsClient b 
 unfolding clientIn
 client-of b d z c h m r =
     let last = ended-of b d (c .last) (h .last) (m .last) in
-    let parts : (cond (eqb (at b scalars (modeAt d)) 2) noRead (readIn b d) ≡ c .read)
-    × (cond (eqb (at b scalars (modeAt d)) 2) (writeIn b d) noWrite ≡ c .write) =
+    let parts : (cond (leb 2 (at b scalars (modeAt d))) noRead (readIn b d) ≡ c .read)
+    × (cond (leb 2 (at b scalars (modeAt d))) (writeIn b d) noWrite ≡ c .write) =
     by-test (isWriting c)
     (λ w. rw (h .mode, mode-writing z c r w)
     (sym (m .writing w), write-of b d (c .write) (h .write w) (m .values)))

@@ -5,7 +5,7 @@ use mathlib.Core.Path.{_≡_, refl, sym, _∙_}
 use Prim.Native.Nat.{ℕ, zero, suc, _<_, min}
 use native.Mathlib.Omega.{arith}
 use lib.ListN.{length, getD}
-use lib.Dec.{eqb}
+use lib.Dec.{eqb, leb}
 use borrow.Author.Tests.{lt-ltb}
 use Rattle.basics.proofs.Cases.{by-test, not-both}
 use Rattle.basics.specs.Lists.{table}
@@ -62,7 +62,7 @@ holds-client b z d range below idle l =
     record {
       mode = mode-word b d z range below idle;
       count = refl;
-      read = λ w. by-test (eqb (at b scalars (modeAt d)) 2)
+      read = λ w. by-test (leb 2 (at b scalars (modeAt d)))
           (λ m. not-both (write-word b d z range below idle m) w)
           (λ m. rw m (record {
             set = refl;
@@ -70,7 +70,7 @@ holds-client b z d range below idle l =
             asked = λ k. within-has s k (at b asked (itemAt d k));
             values = λ k. within-has s k (at b values (itemAt d k));
           }));
-      write = λ w. by-test (eqb (at b scalars (modeAt d)) 2)
+      write = λ w. by-test (leb 2 (at b scalars (modeAt d)))
           (λ m. rw m (record {
             set = refl;
             awaited = refl;

@@ -2,7 +2,7 @@
 use mathlib.Core.List.{List}
 use mathlib.Core.Bool.{true}
 use mathlib.Core.Path.{_≡_, refl}
-use lib.Dec.{eqb}
+use lib.Dec.{eqb, leb}
 use Prim.Native.Nat.{ℕ, zero, suc}
 use Rattle.basics.proofs.Cases.{by-test, not-both, between}
 use Rattle.protocol.specs.Tables.{Ended, nothing, resting}
@@ -27,20 +27,20 @@ masked-ended (suc zero) s stamp stamps vs = (only-within s stamps, only-within s
 masked-ended (suc (suc n)) s stamp stamps vs = only-within s vs
 
 masked-client : (b : List ℕ) (d : ℕ)
-    → (eqb (at b scalars (modeAt d)) 2 ≡ true → isWriting (clientIn b d) ≡ true)
+    → (leb 2 (at b scalars (modeAt d)) ≡ true → isWriting (clientIn b d) ≡ true)
     → MaskedClient (clientIn b d)
 unfolding clientIn
 masked-client b d writes =
     record {
-      asked = λ k e. by-test (eqb (at b scalars (modeAt d)) 2) (λ m. rw m refl)
+      asked = λ k e. by-test (leb 2 (at b scalars (modeAt d))) (λ m. rw m refl)
           (λ m. rw m (rw (rw m at e)));
-      answers = λ k e. by-test (eqb (at b scalars (modeAt d)) 2) (λ m. rw m refl)
+      answers = λ k e. by-test (leb 2 (at b scalars (modeAt d))) (λ m. rw m refl)
           (λ m. rw m (rw (rw m at e)));
-      values = λ k e. by-test (eqb (at b scalars (modeAt d)) 2) (λ m. rw m (rw (rw m at e)))
+      values = λ k e. by-test (leb 2 (at b scalars (modeAt d))) (λ m. rw m (rw (rw m at e)))
           (λ m. rw m refl);
-      writing = λ w. by-test (eqb (at b scalars (modeAt d)) 2) (λ m. rw m refl)
+      writing = λ w. by-test (leb 2 (at b scalars (modeAt d))) (λ m. rw m refl)
           (λ m. not-both (rw m at w) refl);
-      others = λ w. by-test (eqb (at b scalars (modeAt d)) 2) (λ m. not-both (writes m) w)
+      others = λ w. by-test (leb 2 (at b scalars (modeAt d))) (λ m. not-both (writes m) w)
           (λ m. rw m refl);
       last = masked-ended _ _ _ _ _;
     }
@@ -61,7 +61,7 @@ pub masked-tables : (b : List ℕ) → validBlock b ≡ true → Masked (tablesO
 unfolding tablesOf
 masked-tables b v =
     let f = tells-valid-block b .0 v in
-    let writes : (d : ℕ) → isClient (sizesIn b) d ≡ true → eqb (at b scalars (modeAt d)) 2 ≡ true
+    let writes : (d : ℕ) → isClient (sizesIn b) d ≡ true → leb 2 (at b scalars (modeAt d)) ≡ true
     → isWriting (clientIn b d) ≡ true =
     λ d c. let i = between 1 (sizesIn b .clients) d c in
     write-word b d (sizesIn b) (client-range b f d i) (f .wellFormed .mode d i)

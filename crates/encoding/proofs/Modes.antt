@@ -5,8 +5,8 @@ use mathlib.Core.List.{List}
 use mathlib.Core.Path.{_≡_, refl, sym, ap, _∙_, subst}
 use Prim.Native.Nat.{ℕ, _<_}
 use native.Mathlib.Omega.{arith}
-use lib.Dec.{eqb}
-use borrow.Author.Tests.{eqb-true, eqb-false}
+use lib.Dec.{eqb, leb}
+use borrow.Author.Tests.{eqb-true, eqb-false, leb-true, leb-false}
 use Rattle.basics.proofs.Cases.{by-test, not-both}
 use Rattle.protocol.specs.Tables.{Sizes, Client}
 use Rattle.protocol.specs.Range.{isWriting}
@@ -23,36 +23,39 @@ module _ (b : List ℕ) (d : ℕ) where
   abbrev awaited : ℕ
   awaited = at b scalars (awaitedAt d)
 
-  pub reply-word : eqb mode 2 ≡ true → clientIn b d .write .awaited ≡ awaited
+  pub reply-word : leb 2 mode ≡ true → clientIn b d .write .awaited ≡ awaited
   unfolding clientIn
   reply-word m = rw m refl
 
-  pub answer-word : eqb mode 2 ≡ false → clientIn b d .read .awaited ≡ awaited
+  pub answer-word : leb 2 mode ≡ false → clientIn b d .read .awaited ≡ awaited
   unfolding clientIn
   answer-word m = rw m refl
 
-  pub other-word : eqb mode 2 ≡ false → isWriting (clientIn b d) ≡ false
+  pub other-word : leb 2 mode ≡ false → isWriting (clientIn b d) ≡ false
   unfolding clientIn
   other-word m = rw m refl
 
   module _ (z : Sizes) (range : ClientInRange z (clientIn b d)) (below : mode < 3)
       (idle : eqb mode 0 ≡ eqb awaited 0) where
-    pub write-word : eqb mode 2 ≡ true → isWriting (clientIn b d) ≡ true
+    two : leb 2 mode ≡ true → mode ≡ 2
+    two m = omega (arith, leb-true 2 mode m)
+
+    pub write-word : leb 2 mode ≡ true → isWriting (clientIn b d) ≡ true
     write-word m =
         by-test (isWriting (clientIn b d)) (λ w. w)
         (λ w. not-both
         (ap (λ (x : ℕ). eqb x 0) (sym (reply-word m) ∙ no-reply-awaited z (clientIn b d) range w))
-        (sym idle ∙ ap (λ (x : ℕ). eqb x 0) (eqb-true mode 2 m)))
+        (sym idle ∙ ap (λ (x : ℕ). eqb x 0) (two m)))
 
     pub mode-word : mode ≡ numberOfMode (clientIn b d)
     mode-word =
-        by-test (eqb mode 2)
-        (λ m. eqb-true mode 2 m ∙ sym (mode-writing z (clientIn b d) range (write-word m)))
+        by-test (leb 2 mode)
+        (λ m. two m ∙ sym (mode-writing z (clientIn b d) range (write-word m)))
         (λ m. other m ∙ sym (mode-other z (clientIn b d) range (other-word m)
         ∙ ap (λ (x : ℕ). cond (eqb x 0) 0 1) (answer-word m)))
       where
-        other : eqb mode 2 ≡ false → mode ≡ cond (eqb awaited 0) 0 1
+        other : leb 2 mode ≡ false → mode ≡ cond (eqb awaited 0) 0 1
         other m =
             by-test (eqb mode 0)
             (λ e. rw (sym idle ∙ e) (eqb-true mode 0 e))
-            (λ e. rw (sym idle ∙ e) (omega (arith, eqb-false mode 0 e, eqb-false mode 2 m)))
+            (λ e. rw (sym idle ∙ e) (omega (arith, eqb-false mode 0 e, leb-false 2 mode m)))

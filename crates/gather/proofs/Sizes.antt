@@ -5,7 +5,7 @@ use Rattle.protocol.specs.declared.Entry.{Entry}
 use Rattle.protocol.specs.declared.Version.{Version}
 use Rattle.protocol.specs.Tables.{Client, Ended, nothing, read, write}
 use Rattle.protocol.specs.Range.{stampInRange, entryInRange, versionInRange, endedInRange}
-use Rattle.protocol.specs.Range.{clientInRange}
+use Rattle.protocol.specs.Range.{readPartInRange, writePartInRange, clientInRange}
 use Rattle.gather.specs.Sized.{sizes, sized}
 
 pub stamp-sized : (clients partitions items stamp : ℕ)
@@ -33,5 +33,5 @@ module _ (clients partitions items : ℕ) where
 
   pub client-sized : (c : Client) → clientInRange (sized clients items) c ≡ clientInRange
       (sizes clients partitions items) c
-  unfolding clientInRange stampInRange
+  unfolding clientInRange readPartInRange writePartInRange stampInRange
   client-sized c = rw (ended-sized (c .last))

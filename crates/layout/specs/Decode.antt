@@ -79,10 +79,10 @@ writeIn b d =
       values = within s (λ j. at b values (itemAt d j));
     }
 
--- in mode 2 they are those of a write part, in any other those of a read part
+-- from mode 2 on they are those of a write part, in any other those of a read part
 unfoldable pub clientIn : List ℕ → ℕ → Client
 clientIn b d =
-    let writes = eqb (at b scalars (modeAt d)) 2 in
+    let writes = leb 2 (at b scalars (modeAt d)) in
     record {
       count = at b scalars (countAt d);
       read = cond writes noRead (readIn b d);

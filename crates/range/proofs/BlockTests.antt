@@ -18,9 +18,9 @@ use Rattle.protocol.proofs.Tells.{tells-and, tells-le}
 use Rattle.protocol.proofs.Ranges.Values.{tells-sizes}
 use Rattle.layout.specs.Layout.{mostClients, mostItems, mostVersions, mostMessages}
 use Rattle.layout.specs.Layout.{at, header, scalars, clientsAt, partitionsAt, itemsAt, versionsAt}
-use Rattle.layout.specs.Layout.{messagesAt, modeAt, lastKindAt, needed}
+use Rattle.layout.specs.Layout.{messagesAt, lastKindAt, needed}
 use Rattle.layout.specs.Decode.{sizesIn, latestIn, viewIn, clientIn, versionIn, messageIn, kindIn}
-use Rattle.layout.specs.Decode.{tablesOf, wellFormed, validBlock}
+use Rattle.layout.specs.Decode.{modeFits, tablesOf, wellFormed, validBlock}
 use Rattle.gather.specs.Sized.{sizes, sized}
 use Rattle.gather.proofs.Tested.{every-same, every-both}
 use Rattle.gather.proofs.Sizes.{entry-sized, version-sized, client-sized}
@@ -68,7 +68,7 @@ module _ (b : List ℕ) where
       (entry-sized (z .clients) (z .partitions) (z .items) (viewIn b (suc i) k))))
 
   client-same : every (z .clients) (λ i. clientTest b (suc i) (z .clients) (z .items))
-      ≡ (everyClient z (λ d. ltb (at b scalars (modeAt d)) 3 && ltb (at b scalars (lastKindAt d)) 3)
+      ≡ (everyClient z (λ d. modeFits b d && ltb (at b scalars (lastKindAt d)) 3)
       && everyClient z (λ d. clientInRange z (cond (isClient z d) (clientIn b d)
       (resting 0 nothing))))
   client-same =
@@ -116,7 +116,7 @@ module _ (b : List ℕ) where
       (regroup (leb needed (length b)) (sizesInRange z) (leb vs mostVersions) (leb ms mostMessages)
       (every (z .items) (λ k. entryInRange z (t .latest k)))
       (everyClient z (λ d. every (z .items) (λ k. entryInRange z (t .view d k))))
-      (everyClient z (λ d. ltb (at b scalars (modeAt d)) 3 && ltb (at b scalars (lastKindAt d)) 3))
+      (everyClient z (λ d. modeFits b d && ltb (at b scalars (lastKindAt d)) 3))
       (everyClient z (λ d. clientInRange z (t .client d)))
       (all (versionInRange z) (t .versions))
       (every ms (λ i. leb 1 (kindIn b i) && leb (kindIn b i) 5))

@@ -9,29 +9,26 @@ use native.Mathlib.Omega.{arith}
 use lib.Dec.{eqb}
 use borrow.Author.Tests.{le-leb, lt-leb, ne-eqb}
 use Rattle.itemset.specs.Set.{count}
+use Rattle.itemset.proofs.Counts.{count-empty}
 use Rattle.protocol.specs.declared.Entry.{Entry}
 use Rattle.protocol.specs.Range.{isPrepare, arrived}
 use Rattle.layout.specs.Layout.{at, scalars, modeAt, setAt}
 use Rattle.layout.specs.Layout.{awaitedAt}
 use Rattle.layout.specs.Decode.{clientIn, kindIn, messageOf, messageIn}
-use Rattle.range_client.proofs.ClientTests.{is-writing}
 
 module _ (b : List ℕ) (d : ℕ) where
-  pub arrived-other : at b scalars (modeAt d) < 2 → 0 ≡ arrived (clientIn b d)
+  arrived-none : at b scalars (modeAt d) < 2 → arrived (clientIn b d) ≡ 0
   unfolding arrived clientIn
-  arrived-other h = rw (is-writing (at b scalars (modeAt d)), lt-leb 2 (at b scalars (modeAt d)) h)
+  arrived-none h = rw (lt-leb 2 (at b scalars (modeAt d)) h) (omega (arith, count-empty))
+
+  pub arrived-other : at b scalars (modeAt d) < 2 → 0 ≡ arrived (clientIn b d)
+  arrived-other h = sym (arrived-none h)
 
   pub arrived-write : (s a : ℕ) → s ≡ at b scalars (setAt d) → a ≡ at b scalars (awaitedAt d)
       → 2 ≤ at b scalars (modeAt d)
       → count s - count a ≡ arrived (clientIn b d)
   unfolding arrived clientIn
-  arrived-write s a p q h = rw (
-    is-writing (at b scalars (modeAt d)),
-    le-leb 2
-        (at b scalars (modeAt d)) h,
-    p,
-    q,
-  )
+  arrived-write s a p q h = rw (le-leb 2 (at b scalars (modeAt d)) h, p, q) refl
 
 prepare-number : (n who k v stamp s : ℕ) (e : Entry)
     → isPrepare (messageOf n who k v stamp s e) ≡ eqb n 1

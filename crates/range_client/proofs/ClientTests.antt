@@ -6,21 +6,23 @@ use Prim.Native.Nat.{ℕ, zero, suc, _≤_, _<_, _^_}
 use native.Mathlib.Omega.{arith}
 use lib.Bits.{bitAnd}
 use lib.Dec.{eqb, ltb, leb}
-use borrow.Author.Tests.{le-leb, lt-leb, ne-eqb, ltb-true}
-use Rattle.basics.proofs.Cases.{by-test, or-right, test-ext}
+use borrow.Author.Tests.{le-leb, lt-leb, leb-true, leb-false, ltb-true}
+use Rattle.basics.proofs.Cases.{by-test, or-right, beq-true, test-ext}
 use Rattle.basics.specs.Lists.{every}
 use Rattle.basics.proofs.Lists.{every-at, at-every}
 use Rattle.itemset.specs.Set.{has, allBelow}
 use Rattle.itemset.proofs.Laws.{has-empty}
-use Rattle.protocol.specs.Tables.{Sizes, write}
-use Rattle.protocol.specs.Range.{fits, each, stampInRange, endedInRange, clientInRange, isWriting}
-use Rattle.protocol.specs.Range.{isIdle}
+use Rattle.protocol.specs.Tables.{Sizes, noRead, noWrite, write}
+use Rattle.protocol.specs.Range.{fits, each, stampInRange, endedInRange, readPartInRange}
+use Rattle.protocol.specs.Range.{writePartInRange, clientInRange}
 use Rattle.protocol.proofs.Tells.{tells-and}
+use Rattle.protocol.proofs.Ranges.Clients.{tells-read-part, tells-write-part}
+use Rattle.protocol.proofs.Kept.Values.{range-no-read, range-no-write}
 use Rattle.layout.specs.Layout.{at, scalars, asked, values, lastStamps, lastValues, modeAt, setAt}
-use Rattle.layout.specs.Layout.{stampAt, lastKindAt, lastSetAt, lastStampAt, itemAt}
-use Rattle.layout.specs.Decode.{within, modeOf, endedOf, clientIn}
+use Rattle.layout.specs.Layout.{countAt, awaitedAt, stampAt, lastKindAt, lastSetAt, lastStampAt, itemAt}
+use Rattle.layout.specs.Decode.{within, endedOf, clientIn}
 use Rattle.gather.specs.Sized.{sized}
-use Rattle.range_client.specs.Clients.{askedInRange, lastRead, lastWrite, lastTest, stateTest}
+use Rattle.range_client.specs.Clients.{askedTest, lastRead, lastWrite, lastTest, stateTest}
 use Rattle.range_client.specs.Clients.{valuesTest, clientTest}
 use Rattle.gather.proofs.Sizes.{stamp-sized}
 use Rattle.range_client.proofs.Subsets.{subset-mask}
@@ -54,27 +56,7 @@ each-all z s p e = sym (at-every (z .items) _
 pub each-empty : (z : Sizes) (s : ℕ) (p : ℕ → Bool) → s ≡ 0 → true ≡ each z s p
 each-empty z s p e = sym (at-every (z .items) _ (λ k l. rw (e, has-empty k)))
 
--- ---- The stamps of the transaction under way
-
-pub is-writing : (m : ℕ) → isWriting (modeOf m) ≡ leb 2 m
-unfolding isWriting modeOf
-is-writing zero = refl
-is-writing (suc zero) = refl
-is-writing (suc (suc m)) = sym (le-leb 2 (suc (suc m)) (omega arith))
-
-is-idle : (m : ℕ) → isIdle (modeOf m) ≡ eqb m 0
-unfolding isIdle modeOf
-is-idle zero = refl
-is-idle (suc zero) = refl
-is-idle (suc (suc m)) = sym (ne-eqb (suc (suc m)) 0 (omega arith))
-
-stamp-initial : (z : Sizes) → stampInRange z 0 ≡ true
-unfolding stampInRange
-stamp-initial z = refl
-
-and-true : (a b : Bool) → b ≡ true → a ≡ (a && b)
-and-true true b e = sym e
-and-true false b e = refl
+-- ---- The last ended transaction
 
 ended-write : (n s stamp : ℕ) (stamps vs : ℕ → ℕ) → 2 ≤ n
     → endedOf n s stamp stamps vs ≡ write s stamp (within s vs)
@@ -83,23 +65,48 @@ ended-write zero s stamp stamps vs h = absurd (omega arith)
 ended-write (suc zero) s stamp stamps vs h = absurd (omega arith)
 ended-write (suc (suc n)) s stamp stamps vs h = refl
 
--- the same tests in another order
-regroup : (mode count own await mask inside rest stamp stamps worth kind ended : Bool)
-    → (await ≡ true → mask ≡ inside)
-    → ((mode && count && own && await && mask && rest) && (stamp && stamps) && worth
-    && (kind && ended))
-    ≡ (mode && kind && (count && own && await && inside && rest && stamp && (stamps && worth)
-    && ended))
-regroup mode count own await mask inside rest stamp stamps worth kind ended h =
-    test-ext _ _
-    (λ e.
-    let f = simp tells-and at e in
-    let same : inside ≡ true = sym (h (search)) ∙ search in
-    simp tells-and search)
-    (λ e.
-    let f = simp tells-and at e in
-    let same : mask ≡ true = h (search) ∙ search in
-    simp tells-and search)
+-- ---- The same tests in another order, for a write part and for a read part
+
+module _ (count own await mask inside stamps worth kind ended idle : Bool)
+    (same : await ≡ true → mask ≡ inside) where
+  write-regroup : (empty : Bool)
+      → ((count && own && await && mask && Bool·beq false idle) && stamps && worth && (kind && ended))
+      ≡ (Bool·beq false idle && kind && (count && true && (own && await && inside && stamps && worth)
+      && (empty || not idle) && ended))
+  write-regroup empty =
+      test-ext _ _
+      (λ e.
+      let f = simp tells-and at e in
+      let inner : inside ≡ true = sym (same (search)) ∙ search in
+      let busy : (empty || not idle) ≡ true =
+      or-right empty (not idle) (ap not (sym (beq-true false idle (search)))) in
+      simp tells-and search)
+      (λ e.
+      let f = simp tells-and at e in
+      let outer : mask ≡ true = same (search) ∙ search in
+      simp tells-and search)
+
+  read-regroup : (mode none : Bool)
+      → ((mode && count && own && await && mask && Bool·beq none idle) && stamps && worth
+      && (kind && ended))
+      ≡ (mode && Bool·beq none idle && kind
+      && (count && (own && await && inside && (stamps && worth)) && true && true && ended))
+  read-regroup mode none =
+      test-ext _ _
+      (λ e.
+      let f = simp tells-and at e in
+      let inner : inside ≡ true = sym (same (search)) ∙ search in
+      simp tells-and search)
+      (λ e.
+      let f = simp tells-and at e in
+      let outer : mask ≡ true = same (search) ∙ search in
+      simp tells-and search)
+
+no-read-test : (z : Sizes) → readPartInRange z noRead ≡ true
+no-read-test z = tells-read-part z noRead .1 (range-no-read z)
+
+no-write-test : (z : Sizes) → writePartInRange z noWrite ≡ true
+no-write-test z = tells-write-part z noWrite .1 (range-no-write z)
 
 -- ---- Client d of the block, from the outcomes of the tests
 
@@ -110,27 +117,16 @@ module _ (b : List ℕ) (d clients items : ℕ) where
   -- the stamps of the transaction under way: of a write, of any other
   pub asked-write : {stamp : ℕ} {ok : Bool} → ok ≡ stampInRange (sized clients 0) stamp
       → stamp ≡ at b scalars (stampAt d)
-      → 2 ≤ at b scalars (modeAt d) → ok ≡ askedInRange z (clientIn b d)
-  unfolding askedInRange clientIn
+      → 2 ≤ at b scalars (modeAt d) → ok ≡ askedTest b d clients items
+  unfolding askedTest
   asked-write p q h =
-      p ∙ stamp-sized clients 0 items _
-      ∙ rw (q, is-writing (at b scalars (modeAt d)), le-leb 2 (at b scalars (modeAt d)) h)
-      (and-true _ _ (each-true z (at b scalars (setAt d)) (λ k. stampInRange z 0)
-      (λ k. stamp-initial z)))
+      p ∙ stamp-sized clients 0 items _ ∙ rw (q, le-leb 2 (at b scalars (modeAt d)) h) refl
 
   pub asked-other : {s : ℕ} {ok : Bool}
       → ok ≡ each z s (λ k. stampInRange z (at b asked (itemAt d k))) → s ≡ at b scalars (setAt d)
-      → at b scalars (modeAt d) < 2 → ok ≡ askedInRange z (clientIn b d)
-  unfolding askedInRange clientIn
-  asked-other p q h =
-      p ∙ rw (
-        q,
-        is-writing (at b scalars (modeAt d)),
-        lt-leb 2
-            (at b scalars (modeAt d)) h,
-        stamp-initial z,
-      )
-      (each-within z (at b scalars (setAt d)) (stampInRange z) (λ k. at b asked (itemAt d k)))
+      → at b scalars (modeAt d) < 2 → ok ≡ askedTest b d clients items
+  unfolding askedTest
+  asked-other p q h = p ∙ rw (q, lt-leb 2 (at b scalars (modeAt d)) h) refl
 
   -- the values of its items
   pub values-tests : {s : ℕ} {ok : Bool}
@@ -197,27 +193,60 @@ module _ (b : List ℕ) (d clients items : ℕ) where
 
   -- ---- the whole client
 
-  client-whole : (stateTest b d items && askedInRange z (clientIn b d) && valuesTest b d items
+  abbrev mode : ℕ
+  mode = at b scalars (modeAt d)
+
+  abbrev set : ℕ
+  set = at b scalars (setAt d)
+
+  abbrev awaited : ℕ
+  awaited = at b scalars (awaitedAt d)
+
+  inside : allBelow awaited items ≡ true
+      → eqb (bitAnd awaited set) awaited ≡ each z awaited (has set)
+  inside e = subset-mask awaited set items (ltb-true awaited (2 ^ items) e)
+
+  abbrev Whole : Type 0
+  Whole = (stateTest b d items && askedTest b d clients items && valuesTest b d items
       && lastTest b d clients items) ≡ clientTest b d clients items
-  unfolding askedInRange clientInRange clientIn
-  client-whole =
-      let c = clientIn b d in
-      let m = at b scalars (modeAt d) in
+
+  whole-write : mode ≡ 2 → Whole
+  unfolding askedTest clientInRange writePartInRange clientIn
+  whole-write m =
+      rw (m, no-read-test z, ← each-within z set fits (λ k. at b values (itemAt d k)))
+      (write-regroup (fits (at b scalars (countAt d))) (allBelow set items) (allBelow awaited items)
+      (eqb (bitAnd awaited set) awaited) (each z awaited (has set))
+      (stampInRange z (at b scalars (stampAt d))) (valuesTest b d items)
+      (ltb (at b scalars (lastKindAt d)) 3) (endedInRange z (clientIn b d .last)) (eqb awaited 0)
+      inside (eqb set 0))
+
+  whole-other : mode < 2 → Whole
+  unfolding askedTest clientInRange readPartInRange clientIn
+  whole-other l =
       rw (
-        is-idle m,
-        ← each-both z (c .set) (λ k. stampInRange z (c .asked k)) (λ k. fits (c .values k)),
-        ← each-within z (c .set) fits (λ k. at b values (itemAt d k)),
+        lt-leb 2 mode l,
+        no-write-test z,
+        ← each-both z set (λ k. stampInRange z (within set (λ j. at b asked (itemAt d j)) k))
+            (λ k. fits (within set (λ j. at b values (itemAt d j)) k)),
+        ← each-within z set (stampInRange z) (λ k. at b asked (itemAt d k)),
+        ← each-within z set fits (λ k. at b values (itemAt d k)),
       )
-      (regroup (ltb m 3) (fits (c .count)) (allBelow (c .set) items) (allBelow (c .awaited) items)
-      (eqb (bitAnd (c .awaited) (c .set)) (c .awaited))
-      (each z (c .awaited) (has (c .set))) (Bool·beq (eqb m 0) (eqb (c .awaited) 0))
-      (stampInRange z (c .stamp))
-      (each z (c .set) (λ k. stampInRange z (c .asked k))) (valuesTest b d items)
-      (ltb (at b scalars (lastKindAt d)) 3) (endedInRange z (c .last))
-      (λ e. subset-mask (c .awaited) (c .set) items (ltb-true (c .awaited) (2 ^ items) e)))
+      (read-regroup (fits (at b scalars (countAt d))) (allBelow set items) (allBelow awaited items)
+      (eqb (bitAnd awaited set) awaited) (each z awaited (has set))
+      (each z set (λ k. stampInRange z (at b asked (itemAt d k)))) (valuesTest b d items)
+      (ltb (at b scalars (lastKindAt d)) 3) (endedInRange z (clientIn b d .last)) (eqb awaited 0)
+      inside (ltb mode 3) (eqb mode 0))
+
+  client-whole : Whole
+  client-whole =
+      by-test (ltb mode 3)
+      (λ e. by-test (leb 2 mode)
+      (λ m. whole-write (omega (arith, ltb-true mode 3 e, leb-true 2 mode m)))
+      (λ m. whole-other (leb-false 2 mode m)))
+      (λ e. rw e refl)
 
   pub client-tests : {state stamped valued ended : Bool} → state ≡ stateTest b d items
-      → stamped ≡ askedInRange z (clientIn b d)
+      → stamped ≡ askedTest b d clients items
       → valued ≡ valuesTest b d items → ended ≡ lastTest b d clients items
       → (state && stamped && valued && ended) ≡ clientTest b d clients items
   client-tests p q r s = rw (p, q, r, s) client-whole

@@ -1,15 +1,15 @@
 -- The test of a client, part by part, as `range` goes through it.
-use mathlib.Core.Bool.{Bool, Bool·beq, _&&_}
+use mathlib.Core.Bool.{Bool, cond, Bool·beq, _&&_}
 use mathlib.Core.List.{List}
 use Prim.Native.Nat.{ℕ}
 use lib.Bits.{bitAnd}
-use lib.Dec.{eqb, ltb}
+use lib.Dec.{eqb, ltb, leb}
 use Rattle.itemset.specs.Set.{allBelow}
-use Rattle.protocol.specs.Tables.{Sizes, Client, Ended, read, write}
+use Rattle.protocol.specs.Tables.{Ended, read, write}
 use Rattle.protocol.specs.Range.{fits, each, stampInRange, endedInRange, clientInRange}
-use Rattle.layout.specs.Layout.{at, scalars, values, lastStamps, lastValues, modeAt, countAt, setAt}
-use Rattle.layout.specs.Layout.{awaitedAt, lastKindAt, lastSetAt, lastStampAt, itemAt}
-use Rattle.layout.specs.Decode.{within, clientIn}
+use Rattle.layout.specs.Layout.{at, scalars, asked, values, lastStamps, lastValues, modeAt, countAt}
+use Rattle.layout.specs.Layout.{setAt, stampAt, awaitedAt, lastKindAt, lastSetAt, lastStampAt, itemAt}
+use Rattle.layout.specs.Decode.{within, clientIn, modeFits}
 use Rattle.gather.specs.Sized.{sized}
 
 -- mode, count, set and awaited items; one mask tests that these lie in the set
@@ -22,9 +22,13 @@ stateTest b d items =
     && eqb (bitAnd awaited s) awaited
     && Bool·beq (eqb mode 0) (eqb awaited 0)
 
--- the stamps of the transaction under way, and the values of its items
-unfoldable pub askedInRange : Sizes → Client → Bool
-askedInRange z c = stampInRange z (c .stamp) && each z (c .set) (λ k. stampInRange z (c .asked k))
+-- the stamps of the transaction under way, one of a write, one for each item of any other; and the
+-- values of its items
+unfoldable pub askedTest : List ℕ → ℕ → ℕ → ℕ → Bool
+askedTest b d clients items =
+    let z = sized clients items in
+    cond (leb 2 (at b scalars (modeAt d))) (stampInRange z (at b scalars (stampAt d)))
+    (each z (at b scalars (setAt d)) (λ k. stampInRange z (at b asked (itemAt d k))))
 
 abbrev pub valuesTest : List ℕ → ℕ → ℕ → Bool
 valuesTest b d items = each (sized 0 items) (at b scalars (setAt d))
@@ -49,5 +53,5 @@ lastTest b d clients items = ltb (at b scalars (lastKindAt d)) 3
 -- the whole: numbers of some mode and of some ended transaction, and in range
 abbrev pub clientTest : List ℕ → ℕ → ℕ → ℕ → Bool
 clientTest b d clients items =
-    ltb (at b scalars (modeAt d)) 3 && ltb (at b scalars (lastKindAt d)) 3
+    modeFits b d && ltb (at b scalars (lastKindAt d)) 3
     && clientInRange (sized clients items) (clientIn b d)

@@ -5,9 +5,8 @@ ghost use lib.ListN.{length, getD};
 ghost use Rattle.basics.specs.Lists.{every};
 ghost use Rattle.protocol.specs.Range.{fits, each, stampInRange, endedInRange};
 ghost use Rattle.layout.specs.Layout.{mostClients, mostItems, needed, base, lastValues, itemAt};
-ghost use Rattle.layout.specs.Decode.{clientIn};
 ghost use Rattle.gather.specs.Sized.{sized};
-ghost use Rattle.range_client.specs.Clients.{askedInRange, lastRead, lastWrite, lastTest, stateTest, valuesTest, clientTest};
+ghost use Rattle.range_client.specs.Clients.{askedTest, lastRead, lastWrite, lastTest, stateTest, valuesTest, clientTest};
 use gather::lacks;
 use gather::mixed;
 use gather::room;
@@ -123,7 +122,7 @@ fn values_in_range(b: &[u64], start: u64, d: u64, set: u64, items: u64) -> bool
 // The stamps of the transaction under way: one for a write, one for each item of any other.
 fn asked_in_range(b: &[u64], d: u64, clients: u64, items: u64) -> bool
     requires { ⌜ (1 ≤ d) × (d ≤ mostClients) × (clients ≤ mostClients) × (items ≤ mostItems) × (needed ≤ length (now b)) ⌝ }
-    ensures { λ r. ⌜ r ≡ askedInRange (sized clients items) (clientIn (now (b .entry)) d) ⌝ }
+    ensures { λ r. ⌜ r ≡ askedTest (now (b .entry)) d clients items ⌝ }
 {
     if 2 <= layout::client::mode(b, d) {
         stamp_in_range(clients, layout::client::stamp(b, d))
