@@ -6,12 +6,13 @@ use mathlib.Core.Path.{_≡_, refl, sym, ap, _∙_}
 use Prim.Native.Nat.{ℕ, suc}
 use lib.ListN.{length}
 use native.Mathlib.Omega.{arith}
-use Rattle.basics.proofs.Cases.{by-test, and-left, and-right}
+use Rattle.basics.proofs.Cases.{by-test, and-right}
 use Rattle.protocol.specs.declared.Answer.the-variants.{Refused}
 use Rattle.protocol.specs.Range.{capacities, valid}
 use Rattle.protocol.specs.Calls.{Call, refusal, effect, reply, written, lent, step}
 use Rattle.layout.specs.Layout.{header, at, messagesAt}
 use Rattle.layout.specs.Decode.{tablesOf, wellFormed, validBlock}
+use Rattle.encoding.proofs.WellFormed.{tells-valid-block}
 use Rattle.encoding.proofs.Encoded.{encodes-tables}
 use Rattle.encoding.proofs.MaskedTables.{masked-tables}
 use Rattle.store.specs.Calls.{refusalOn, answerOn, outputOn, tablesAfter, changed, blockAfter}
@@ -31,11 +32,10 @@ unfolding validBlock
 valid-tables b v = and-right (wellFormed b) (valid capacities (tablesOf b)) v
 
 pub holds-tables : (b : List ℕ) → validBlock b ≡ true → Holds b (tablesOf b)
-unfolding validBlock
 holds-tables b v =
     record {
-      encodes = encodes-tables b (and-left (wellFormed b) (valid capacities (tablesOf b)) v);
-      masked = masked-tables b;
+      encodes = encodes-tables b (tells-valid-block b .0 v);
+      masked = masked-tables b v;
       isValid = valid-tables b v;
     }
 

@@ -4,12 +4,13 @@ use mathlib.Core.List.{List, [], _∷_}
 use mathlib.Core.Path.{_≡_, refl, ap, _∙_, subst}
 use Prim.Native.Nat.{ℕ, zero, suc, _%_, _≤_, _<_, _^_}
 use native.Mathlib.Omega.{arith}
+use lib.Dec.{eqb}
 use Rattle.basics.proofs.Cases.{by-test}
 use Rattle.protocol.specs.declared.Message.{Message}
 use Rattle.protocol.specs.declared.Message.the-variants.{Prepare, Prepared, Commit, Get, Got}
 use Rattle.protocol.specs.declared.Answer.{Answer}
 use Rattle.protocol.specs.declared.Answer.the-variants.{Refused, Made, Started, Delivered, Shown}
-use Rattle.protocol.specs.Tables.{Tables, Sizes, writerOf}
+use Rattle.protocol.specs.Tables.{Tables, Sizes, ofRead, ofWrite, writerOf}
 use Rattle.protocol.specs.Steps.{messageAt, isLast}
 use Rattle.protocol.specs.Calls.{Call, startRead, startWrite, deliver, show, Test, test, first}
 use Rattle.protocol.specs.Calls.{refusal, effect, reply, step, pick, kindOf, outcomeOf}
@@ -74,12 +75,13 @@ either false n m k x y = y
 outcome-le : (t : Tables) (m : Message) → outcomeOf t m < 2 ^ 8
 unfolding outcomeOf
 outcome-le t (Prepare v) = omega arith
-outcome-le t (Prepared k stamp) = either (isLast (t .client (writerOf stamp)) k) 2 0 (2 ^ 8)
+outcome-le t (Prepared k stamp) = either (isLast ofWrite (t .client (writerOf stamp)) k) 2 0
+    (2 ^ 8)
     (omega arith) (omega arith)
 outcome-le t (Commit p stamp) = omega arith
 outcome-le t (Get d k stamp) = omega arith
-outcome-le t (Got d v latest) = either (isLast (t .client d) (v .item)) 1 0 (2 ^ 8) (omega arith)
-    (omega arith)
+outcome-le t (Got d v latest) = either (isLast ofRead (t .client d) (v .item)) _ 0 (2 ^ 8)
+    (either (eqb (t .client d .write .set) 0) 1 2 (2 ^ 8) (omega arith) (omega arith)) (omega arith)
 
 -- ---- answers
 

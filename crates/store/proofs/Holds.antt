@@ -33,8 +33,8 @@ module _ (b : List ℕ) (t : Tables) (h : Holds b t) where
 
   pub tables-are : tablesOf b ≡ t
   unfolding load occupied
-  tables-are = tables-of b t (h .encodes) (h .masked) (omega (arith, facts .occupied))
-      (omega (arith, facts .load))
+  tables-are = tables-of b t (h .encodes) (h .masked) (facts .inRange)
+      (omega (arith, facts .occupied)) (omega (arith, facts .load))
 
   -- what the calls give on the block is what the steps give on the tables
   refusal-is : (c : Call) → refusalOn b c ≡ refusal capacities t c

@@ -20,6 +20,7 @@ use Rattle.protocol.specs.Calls.{deliver, refusal, reply, test, first, unexpect
 use Rattle.protocol.specs.Calls.{outcomeOf}
 use Rattle.protocol.proofs.Ranges.Values.{MessageInRange}
 use Rattle.protocol.proofs.Ranges.Tables.{Valid, valid-facts}
+use Rattle.protocol.proofs.Refusals.{Expected, accepted-deliver}
 use Rattle.protocol.specs.Range.{capacities}
 use Rattle.layout.specs.Store.{takeOut}
 use Rattle.layout.specs.Layout.{mostVersions, mostMessages, header, needed, at, partitionsAt}
@@ -29,12 +30,11 @@ use Rattle.layout.specs.Encodes.{Encodes}
 use Rattle.slots.proofs.ReadBack.{read-message}
 use Rattle.encoding.proofs.WellFormed.{WellFormed, tells-valid-block}
 use Rattle.deliver.specs.declared.Tested.{Tested}
-use Rattle.deliver.specs.Tests.{Bounded, told, testedIn}
+use Rattle.deliver.specs.Tests.{Bounded, testedIn}
 use Rattle.deliver.specs.Deliver.{messageDelivered, deliveredBlock}
 use Rattle.deliver.proofs.Bounds.{bounded}
 use Rattle.deliver.proofs.Delivered.{delivered-block}
-use Rattle.deliver.proofs.TestedTables.{tested-tables}
-use Rattle.deliver.proofs.Worked.{answerOf}
+use Rattle.deliver.proofs.TestedTables.{Tells, tested-tables}
 use Rattle.store.specs.Calls.{refusalOn, answerOn, changed, blockAfter}
 use Rattle.store.proofs.Accepted.{valid-tables, holds-tables, refusal-valid, accepted-valid}
 use Rattle.store.proofs.Accepted.{answer-accepted}
@@ -96,9 +96,7 @@ module _ (b : List ℕ) (i : ℕ) (v : validBlock b ≡ true) where
         (bounded (t .sizes) (messageAt t i) (facts .inRange .sizes .clients)
         (facts .inRange .sizes .items) in-range)
 
-    told-tables : testedIn b (at b header versionsAt) (messageIn b i)
-        ≡ told (first (test 11 (unexpected t (messageAt t i)) ∷ test 12 (missing t (messageAt t i))
-        ∷ [])) (outcomeOf t (messageAt t i)) (answerOf t (messageAt t i))
+    told-tables : Tells (testedIn b (at b header versionsAt) (messageIn b i)) t (messageAt t i)
     told-tables = rw message-read (tested-tables (messageAt t i) held (facts .inRange) in-range)
 
     refusal-place : refusal capacities t (deliver i) ≡ first
@@ -110,7 +108,7 @@ module _ (b : List ℕ) (i : ℕ) (v : validBlock b ≡ true) where
     pub refusal-told : refusalOn b (deliver i) ≡ testedIn b (at b header versionsAt)
         (messageIn b i) .refusal
     refusal-told = refusal-valid b (deliver i) v
-        ∙ (refusal-place ∙ sym (ap (λ (x : Tested). x .refusal) told-tables))
+        ∙ (refusal-place ∙ sym (told-tables .refusal))
 
     pub told-refusal : (x : Tested) (m : Message) (n : ℕ) → m ≡ messageIn b i
         → n ≡ at b header versionsAt → x ≡ testedIn b n m
@@ -118,9 +116,9 @@ module _ (b : List ℕ) (i : ℕ) (v : validBlock b ≡ true) where
     told-refusal x m n h k e = ap (λ (y : Tested). y .refusal) e
         ∙ (rw (h, k) refl ∙ sym refusal-told)
 
-    pub outcome-told : testedIn b (at b header versionsAt) (messageIn b i) .outcome ≡ outcomeOf t
-        (messageAt t i)
-    outcome-told = ap (λ (x : Tested). x .outcome) told-tables
+    pub outcome-told : Expected t (messageAt t i)
+        → testedIn b (at b header versionsAt) (messageIn b i) .outcome ≡ outcomeOf t (messageAt t i)
+    outcome-told = told-tables .outcome
 
     pub kind-read : kindIn b i ≡ kindOf (messageAt t i)
     unfolding messageIn
@@ -149,6 +147,8 @@ module _ (b : List ℕ) (i : ℕ) (e : refusalOn b (deliver i) ≡ 0) where
   outcome x m h y =
       ap (λ (z : Tested). z .outcome) (y ∙ ap (testedIn b (at b header versionsAt)) h)
       ∙ outcome-told b i v accepted-place
+      (accepted-deliver capacities (tablesOf b) i .0 (sym (refusal-valid b (deliver i) v) ∙ e)
+      .expected)
 
   -- what the code requires
   pub deliver-ready : (n p k w : ℕ) (m : Message) → n ≡ at b header messagesAt

@@ -1,17 +1,18 @@
 -- The refusal table from the words of a valid block.
-use mathlib.Core.Bool.{Bool, true, false, cond, not, _||_}
+use mathlib.Core.Bool.{Bool, true, false, cond, not, _||_, and-true}
 use mathlib.Core.List.{List}
-use mathlib.Core.Path.{_≡_, refl, sym}
-use Prim.Native.Nat.{ℕ, zero, suc, _+_, _*_}
-use lib.Dec.{eqb, ltb, eqb·suc-zero}
+use mathlib.Core.Path.{_≡_, refl, sym, _∙_}
+use Prim.Native.Nat.{ℕ, _+_, _*_}
+use lib.Dec.{eqb, ltb, leb}
 use lib.ListN.{length}
-use Rattle.basics.specs.Lists.{table}
+use Rattle.basics.proofs.Cases.{by-test, between}
 use Rattle.itemset.specs.Set.{allBelow, count}
 use Rattle.protocol.specs.Range.{capacities, valid, isClient, isIdle, load, occupied}
 use Rattle.protocol.specs.Calls.{startRead, startWrite, show, refusal, first, isNothing}
 use Rattle.layout.specs.Layout.{mostVersions, mostMessages, header, scalars, at, itemsAt, modeAt}
-use Rattle.layout.specs.Layout.{countAt, lastKindAt}
-use Rattle.layout.specs.Decode.{modeOf, sizesIn, clientIn, tablesOf, validBlock}
+use Rattle.layout.specs.Layout.{awaitedAt, countAt, lastKindAt}
+use Rattle.layout.specs.Decode.{sizesIn, clientIn, tablesOf, validBlock}
+use Rattle.encoding.proofs.WellFormed.{tells-valid-block}
 use Rattle.show.specs.Show.{frameIn}
 use Rattle.show.proofs.Frames.{isNothing-last, shownFrame-tablesOf}
 use Rattle.store.proofs.Accepted.{valid-tables}
@@ -22,20 +23,22 @@ pub sizes-read : (b : List ℕ) → tablesOf b .sizes ≡ sizesIn b
 unfolding tablesOf
 sizes-read b = refl
 
-idle-number : (n : ℕ) → isIdle (modeOf n) ≡ eqb n 0
-unfolding isIdle modeOf
-idle-number zero = refl
-idle-number (suc zero) = refl
-idle-number (suc (suc n)) = sym (eqb·suc-zero (suc n))
+-- a client is idle exactly if its words await no item
+idle-words : (b : List ℕ) (d : ℕ) → isIdle (clientIn b d) ≡ eqb (at b scalars (awaitedAt d)) 0
+unfolding clientIn
+idle-words b d =
+    by-test (leb 2 (at b scalars (modeAt d))) (λ e. rw e refl)
+    (λ e. rw e (and-true (eqb (at b scalars (awaitedAt d)) 0)))
 
 module _ (b : List ℕ) (d : ℕ) (c : isClient (sizesIn b) d ≡ true) where
   client-read : tablesOf b .client d ≡ clientIn b d
   unfolding tablesOf
   client-read = rw c
 
-  idle-read : isIdle (tablesOf b .client d .mode) ≡ eqb (at b scalars (modeAt d)) 0
-  unfolding clientIn
-  idle-read = rw client-read (idle-number (at b scalars (modeAt d)))
+  idle-read : validBlock b ≡ true
+      → isIdle (tablesOf b .client d) ≡ eqb (at b scalars (modeAt d)) 0
+  idle-read v = rw client-read (idle-words b d
+      ∙ sym (tells-valid-block b .0 v .wellFormed .idle d (between 1 (sizesIn b .clients) d c)))
 
   count-read : tablesOf b .client d .count ≡ at b scalars (countAt d)
   unfolding clientIn
@@ -72,7 +75,7 @@ module _ (b : List ℕ) (d : ℕ) (v : validBlock b ≡ true) where
       → refusal capacities (tablesOf b) (startRead d s) ≡ cond busy 4
       (cond (bad s) 5 (cond (ltb mostMessages (load (tablesOf b) + count s)) 8 0))
   unfolding refusal first
-  read-tests s c = rw (valid-tables b v, idle-read b d c, sizes-read b, c) refl
+  read-tests s c = rw (valid-tables b v, idle-read b d c v, sizes-read b, c) refl
 
   pub write-tests : (s : ℕ) (bytes : List ℕ) → isClient (sizesIn b) d ≡ true
       → refusal capacities (tablesOf b) (startWrite d s bytes)
@@ -83,7 +86,7 @@ module _ (b : List ℕ) (d : ℕ) (v : validBlock b ≡ true) where
       (cond (ltb mostMessages (load (tablesOf b) + count s)) 8
       (cond (ltb mostVersions (occupied (tablesOf b) + count s)) 9 0)))))
   unfolding refusal first
-  write-tests s bytes c = rw (valid-tables b v, idle-read b d c, count-read b d c, sizes-read b, c)
+  write-tests s bytes c = rw (valid-tables b v, idle-read b d c v, count-read b d c, sizes-read b, c)
       refl
 
   pub show-tests : (output : List ℕ) → isClient (sizesIn b) d ≡ true
@@ -94,7 +97,7 @@ module _ (b : List ℕ) (d : ℕ) (v : validBlock b ≡ true) where
   show-tests output c =
       rw (
         valid-tables b v,
-        idle-read b d c,
+        idle-read b d c v,
         nothing-read b d c,
         shownFrame-tablesOf b d c,
         sizes-read b,
