@@ -2,7 +2,6 @@
 -- values and landings.
 pub mod Step
 pub mod Asks
-pub mod Held
 use mathlib.Core.Bool.{true}
 use mathlib.Core.List.{List, map}
 use mathlib.Core.Path.{_≡_}
@@ -13,8 +12,9 @@ use Rattle.protocol.specs.declared.Version.{Version}
 use Rattle.protocol.specs.declared.Message.{Message}
 use Rattle.protocol.specs.declared.Message.the-variants.{Prepare, Prepared, Commit, Get, Got}
 use Rattle.protocol.specs.Tables.{Client}
+use Rattle.protocol.specs.Message.{ownerOf}
 use Rattle.protocol.specs.Range.{Capacities}
-use Rattle.protocol.specs.World.{World, Label, Labelled, Write, Store, ownerOf}
+use Rattle.protocol.specs.World.{World, Label, Labelled, Write, Store}
 use Rattle.protocol.proofs.Sound.{Ledger, Counted, SoundBy}
 use Rattle.protocol.proofs.Common.{known}
 

@@ -14,6 +14,7 @@ use Rattle.protocol.specs.declared.Answer.the-variants.{Refused, Made, S
 use Rattle.protocol.specs.declared.Answer.the-variants.{Shown}
 use Rattle.protocol.specs.Tables.{Sizes, Tables, Ended, nothing, read, write, ofRead, ofWrite}
 use Rattle.protocol.specs.Tables.{writerOf}
+use Rattle.protocol.specs.Message.{kindOf}
 use Rattle.protocol.specs.Range.{Capacities, valid, sizesInRange, isClient, isIdle, load}
 use Rattle.protocol.specs.Range.{occupied}
 use Rattle.protocol.specs.Steps.{startedRead, startedWrite, deliveredAt, messageAt, stored}
@@ -115,13 +116,6 @@ abbrev pub freshRefusal : Sizes → ℕ
 freshRefusal z = first (test 2 (not (sizesInRange z)) ∷ [])
 
 -- ---- Answers
-
-unfoldable pub kindOf : Message → ℕ
-kindOf (Prepare v) = 1
-kindOf (Prepared k stamp) = 2
-kindOf (Commit p stamp) = 3
-kindOf (Get d k stamp) = 4
-kindOf (Got d v latest) = 5
 
 -- 0 none ended, 1 a read ended, 2 a transaction with a write part ended
 unfoldable pub outcomeOf : Tables → Message → ℕ

@@ -14,10 +14,11 @@ use Rattle.hex.specs.Number.{numberAt, bigEndian}
 use Rattle.itemset.specs.Set.{has, count, rank}
 use Rattle.protocol.specs.declared.Answer.the-variants.{Shown}
 use Rattle.protocol.specs.Tables.{numberOf, writerOf}
+use Rattle.protocol.specs.Message.{ownerOf}
 use Rattle.protocol.specs.Range.{Capacities}
 use Rattle.protocol.specs.Steps.{nextStamp}
 use Rattle.protocol.specs.Calls.{Call, startRead, startWrite, deliver, show, refusal, step}
-use Rattle.protocol.specs.World.{World, Labelled, Write, Store, ownerOf, begun, storing}
+use Rattle.protocol.specs.World.{World, Labelled, Write, Store, begun, storing}
 use Rattle.protocol.specs.World.{after, joiningOver, leavingOver, isRequest, isReply}
 use Rattle.protocol.specs.World.{isReplyFor, isReadMessage, outcomeIn, endsFor, stays, rests}
 

@@ -12,7 +12,8 @@ use Rattle.protocol.specs.declared.Message.the-variants.{Prepare, Prepar
 use Rattle.protocol.specs.declared.Answer.{Answer}
 use Rattle.protocol.specs.declared.Answer.the-variants.{Refused, Made, Started, Delivered}
 use Rattle.protocol.specs.declared.Answer.the-variants.{Shown}
-use Rattle.protocol.specs.Tables.{Tables, Sizes, fresh, writerOf}
+use Rattle.protocol.specs.Tables.{Tables, Sizes, fresh}
+use Rattle.protocol.specs.Message.{isGet, isGot, itemOf}
 use Rattle.protocol.specs.Range.{Capacities}
 use Rattle.protocol.specs.Steps.{gets, prepares, joined, nextStamp, valueOf}
 use Rattle.protocol.specs.Calls.{Call, startRead, startWrite, deliver, show, refusal, effect}
@@ -161,36 +162,6 @@ leavingOver caps w (c ∷ cs) = cond (accepts caps w c) (leaving w c) [] ++ leav
     (next caps w c) cs
 
 -- ---- Whose, and of which item
-
-unfoldable pub isGet : Message → Bool
-isGet (Prepare v) = false
-isGet (Prepared k stamp) = false
-isGet (Commit p stamp) = false
-isGet (Get d k stamp) = true
-isGet (Got d v latest) = false
-
-unfoldable pub isGot : Message → Bool
-isGot (Prepare v) = false
-isGot (Prepared k stamp) = false
-isGot (Commit p stamp) = false
-isGot (Get d k stamp) = false
-isGot (Got d v latest) = true
-
--- of a message that is about one item
-unfoldable pub itemOf : Message → ℕ
-itemOf (Prepare v) = v .item
-itemOf (Prepared k stamp) = k
-itemOf (Commit p stamp) = 0
-itemOf (Get d k stamp) = k
-itemOf (Got d v latest) = v .item
-
--- the client that a message's own fields name
-unfoldable pub ownerOf : Message → ℕ
-ownerOf (Prepare v) = writerOf (v .stamp)
-ownerOf (Prepared k stamp) = writerOf stamp
-ownerOf (Commit p stamp) = writerOf stamp
-ownerOf (Get d k stamp) = d
-ownerOf (Got d v latest) = d
 
 -- a request and a reply of client d, by its label
 abbrev pub isRequest : ℕ → Labelled → Bool

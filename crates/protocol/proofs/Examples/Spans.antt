@@ -13,15 +13,15 @@ use Rattle.itemset.specs.Set.{has, upto, remove}
 use Rattle.protocol.specs.Range.{capacities, valid, inRange, stampInRange, sizesInRange}
 use Rattle.protocol.specs.Range.{entryInRange, versionInRange, messageInRange, endedInRange}
 use Rattle.protocol.specs.Range.{clientInRange, readPartInRange, writePartInRange}
-use Rattle.protocol.specs.Range.{arrived, total, load, occupied, isPrepare}
+use Rattle.protocol.specs.Range.{arrived, total, load, occupied}
 use Rattle.protocol.specs.Steps.{choice, stored, found, delivered, joined, touches}
 use Rattle.protocol.specs.Frame.{listed, frame}
 use Rattle.protocol.specs.Calls.{Call, startRead, startWrite, deliver, show, first, refusal}
-use Rattle.protocol.specs.Calls.{unexpected, missing, isNothing, kindOf, outcomeOf, effect}
+use Rattle.protocol.specs.Calls.{unexpected, missing, isNothing, outcomeOf, effect}
 use Rattle.protocol.specs.Calls.{reply, written, lent, step}
 use Rattle.protocol.specs.World.{World, begin, accepts, next, after, joining, leaving}
 use Rattle.protocol.specs.World.{staying, begun, landed, storing, joiningOver, leavingOver}
-use Rattle.protocol.specs.World.{isGet, isGot, itemOf, isRequest, isReply, isReplyFor}
+use Rattle.protocol.specs.World.{isRequest, isReply, isReplyFor}
 use Rattle.protocol.specs.World.{isReadMessage, outcomeIn, delivers, endsFor, stays}
 use Rattle.protocol.specs.World.{startsFor, rests}
 use Rattle.protocol.specs.Condition3.{now, sent, came, shownAt, answeredAt}
@@ -71,11 +71,10 @@ storedBefore =
     (came capacities w 2 3 between (during ++ deliver 1 ∷ []))
 
 pub spans : (whole written-first && whole between && storedBefore) ≡ true
-unfolding next after joining leaving staying begun landed storing joiningOver leavingOver isGet
-    isGot itemOf outcomeIn delivers stays startsFor rests step refusal first unexpected missing
-    isNothing effect reply written lent kindOf outcomeOf valid inRange sizesInRange stampInRange
-    entryInRange versionInRange messageInRange endedInRange clientInRange readPartInRange
-    writePartInRange load arrived total
-    occupied isPrepare choice stored found delivered joined touches listed frame every
-    all counted without has upto remove ones onesIn bigEndian numberAt
+unfolding next after joining leaving staying begun landed storing joiningOver leavingOver outcomeIn
+    delivers stays startsFor rests step refusal first unexpected missing isNothing effect reply
+    written lent outcomeOf valid inRange sizesInRange stampInRange entryInRange versionInRange
+    messageInRange endedInRange clientInRange readPartInRange writePartInRange load arrived total
+    occupied choice stored found delivered joined touches listed frame every all counted without has
+    upto remove ones onesIn bigEndian numberAt
 spans = refl

@@ -22,11 +22,11 @@ use Rattle.protocol.specs.Tables.{Sizes, Tables, fresh, numberOf, writer
 use Rattle.protocol.specs.Range.{capacities, valid, inRange, stampInRange, sizesInRange}
 use Rattle.protocol.specs.Range.{entryInRange, versionInRange, messageInRange, endedInRange}
 use Rattle.protocol.specs.Range.{clientInRange, readPartInRange, writePartInRange}
-use Rattle.protocol.specs.Range.{arrived, total, load, occupied, isPrepare}
+use Rattle.protocol.specs.Range.{arrived, total, load, occupied}
 use Rattle.protocol.specs.Steps.{choice, stored, found, delivered, joined, touches}
 use Rattle.protocol.specs.Frame.{listed, frame}
 use Rattle.protocol.specs.Calls.{Call, Given, first, refusal, freshAnswer, unexpected}
-use Rattle.protocol.specs.Calls.{missing, isNothing, kindOf, outcomeOf, effect, reply}
+use Rattle.protocol.specs.Calls.{missing, isNothing, outcomeOf, effect, reply}
 use Rattle.protocol.specs.Calls.{written, lent, step, bytesOfAnswer}
 
 -- ---- A line: a call, its answer's digits, and the digits of what its output keeps (past the frame shown; all of it after a refusal)
@@ -63,12 +63,11 @@ anything t = true
 -- ---- What the definitions give
 
 unfoldable pub given : Tables → Call → Given
-unfolding step refusal first unexpected missing isNothing effect reply written lent kindOf outcomeOf
-    valid inRange sizesInRange stampInRange entryInRange versionInRange messageInRange endedInRange
-    clientInRange readPartInRange writePartInRange load arrived total occupied isPrepare choice
-    stored found delivered joined
-    touches listed frame every all counted without has upto remove ones onesIn bigEndian
-    numberAt
+unfolding step refusal first unexpected missing isNothing effect reply written lent outcomeOf valid
+    inRange sizesInRange stampInRange entryInRange versionInRange messageInRange endedInRange
+    clientInRange readPartInRange writePartInRange load arrived total occupied choice stored found
+    delivered joined touches listed frame every all counted without has upto remove ones onesIn
+    bigEndian numberAt
 given t c = step capacities t c
 
 unfoldable pub made : Sizes → Answer

@@ -19,6 +19,7 @@ use Rattle.protocol.specs.declared.Version.{Version}
 use Rattle.protocol.specs.declared.Message.{Message}
 use Rattle.protocol.specs.declared.Message.the-variants.{Prepare, Prepared, Commit, Get, Got}
 use Rattle.protocol.specs.Tables.{Sizes, Tables, Client, writerOf, put, ofRead, ofWrite}
+use Rattle.protocol.specs.Message.{ownerOf}
 use Rattle.protocol.specs.Range.{Capacities, sizesInRange}
 use Rattle.protocol.specs.Steps.{delivered, joined, messageAt, stored, found, isLast, touches}
 use Rattle.protocol.specs.Steps.{gets, prepares, nextStamp, valueOf, writer, reader, prepared}
@@ -26,7 +27,7 @@ use Rattle.protocol.specs.Steps.{got, asks, version}
 use Rattle.protocol.specs.Calls.{Call, startRead, startWrite, deliver, show, refusal, effect}
 use Rattle.protocol.specs.World.{World, Label, Labelled, Write, Store, begin, placed}
 use Rattle.protocol.specs.World.{labelled, landed, joining, staying, begun, storing, accepts}
-use Rattle.protocol.specs.World.{moved, passed, next, ownerOf}
+use Rattle.protocol.specs.World.{moved, passed, next}
 use Rattle.protocol.proofs.Each.{each-upto}
 use Rattle.protocol.proofs.Put.{put-every, put-same}
 use Rattle.protocol.proofs.Stored.{found-held}
@@ -317,7 +318,7 @@ module _ (caps : Capacities) (w : World) (inv : Inv caps w) where
       ∙ ap₂ (λ (x y : List Message). x ++ y) e (unlabelled d a b ms)
 
   read-owes : (d s : ℕ) → Owes (startRead d s)
-  unfolding effect joining staying begun storing Comes ownerOf
+  unfolding effect joining staying begun storing Comes
   read-owes d s =
       record {
         pile = joining-pile d (w .time) (w .time) (w .pile) (gets (w .tables) d s)
@@ -422,7 +423,7 @@ module _ (caps : Capacities) (w : World) (inv : Inv caps w) where
     prepare k = Prepare (version k (valueOf s bytes k) stamp s)
 
     write-owes : Owes (startWrite d s bytes)
-    unfolding effect joining staying begun storing Comes ownerOf
+    unfolding effect joining staying begun storing Comes
     write-owes =
         record {
           pile = joining-pile d (w .time) (w .time) (w .pile) (prepares (w .tables) d s bytes)
@@ -491,7 +492,7 @@ module _ (caps : Capacities) (w : World) (inv : Inv caps w) where
       → (σs : List Store) → (j : Message) → In j (joined (w .tables) m)
       → Comes (w .writes ++ []) (w .stores ++ σs)
       (record { client = l .client; start = l .start; since = w .time }) j
-  unfolding joined Comes Fits ownerOf
+  unfolding joined Comes Fits
   joins-come l (Prepare v) here σs j (inl e) =
       subst (λ (x : Message). Comes (w .writes ++ []) (w .stores ++ σs)
       (record { client = l .client; start = l .start; since = w .time }) x) (sym e) tt

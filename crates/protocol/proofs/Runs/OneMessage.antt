@@ -12,18 +12,17 @@ use Rattle.protocol.specs.declared.Message.{Message}
 use Rattle.protocol.specs.declared.Message.the-variants.{Prepare, Prepared, Commit, Get, Got}
 use Rattle.protocol.specs.Tables.{ofRead}
 use Rattle.protocol.specs.Range.{Capacities}
-use Rattle.protocol.specs.World.{World, Label, Labelled, ownerOf, itemOf, isGet, isGot}
+use Rattle.protocol.specs.World.{World, Label, Labelled}
 use Rattle.protocol.specs.World.{isReadMessage}
 use Rattle.protocol.proofs.Ranges.Values.{IsClient}
 use Rattle.protocol.proofs.Link.{Inv}
-use Rattle.protocol.proofs.Common.{isFor, ofSide}
+use Rattle.protocol.proofs.Common.{isFor}
 
 module _ (caps : Capacities) (v : World) (inv : Inv caps v) (d : ℕ)
     (is-client : IsClient (v .tables .sizes) d) where
   -- a message is for an item of the read part exactly where it is a get or a got of it
   for-read : (k : ℕ) (l : Label) (m : Message) → In (record { label = l; message = m }) (v .pile)
       → isFor ofRead d k m ≡ isReadMessage d k (record { label = l; message = m })
-  unfolding ofSide ownerOf itemOf isGet isGot
   for-read k l (Prepare u) here = rw (and-false (eqb (l .client) d)) refl
   for-read k l (Prepared j s) here = rw (and-false (eqb (l .client) d)) refl
   for-read k l (Commit p s) here = rw (and-false (eqb (l .client) d)) refl

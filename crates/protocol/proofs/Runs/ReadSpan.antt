@@ -19,11 +19,11 @@ use Rattle.protocol.specs.declared.Entry.{Entry}
 use Rattle.protocol.specs.declared.Message.{Message}
 use Rattle.protocol.specs.declared.Message.the-variants.{Got}
 use Rattle.protocol.specs.Tables.{Client, ofRead, noWrite, put}
+use Rattle.protocol.specs.Message.{ownerOf}
 use Rattle.protocol.specs.Range.{Capacities}
 use Rattle.protocol.specs.Steps.{answered}
 use Rattle.protocol.specs.Calls.{reply}
-use Rattle.protocol.specs.World.{World, Labelled, Write, placed, isGot, isReply, isReplyFor}
-use Rattle.protocol.specs.World.{itemOf, ownerOf}
+use Rattle.protocol.specs.World.{World, Labelled, Write, placed, isReply, isReplyFor}
 use Rattle.protocol.proofs.Ranges.Values.{IsClient}
 use Rattle.protocol.proofs.Put.{put-same, put-other}
 use Rattle.protocol.proofs.Sound.{Fits, FitsGot}
@@ -32,7 +32,7 @@ use Rattle.protocol.proofs.Sound.Delivery.{awaited-in}
 use Rattle.protocol.proofs.Link.{LandedBefore, FromAnswer, Comes, Inv}
 use Rattle.protocol.proofs.Link.Step.{Grows, grow-known, in-message, fits}
 use Rattle.protocol.proofs.Link.Asks.{answer-value}
-use Rattle.protocol.proofs.Common.{known, isFor, ofSide}
+use Rattle.protocol.proofs.Common.{known, isFor}
 
 -- item k has the value of the write asked for, brought by a reply among `left`, and that write had
 -- landed when the reply joined
@@ -134,7 +134,7 @@ module _ (caps : Capacities) (v : World) (inv : Inv caps v) (d s : ℕ) (asked :
   k = u .item
 
   fit : FitsGot (inv .ledger) (v .tables .versions) c u latest
-  unfolding Fits ownerOf
+  unfolding Fits
   fit = subst (λ (m : Message). Fits (inv .ledger) (v .tables .versions)
       (v .tables .client (ownerOf m)) m) is-got (fits caps v inv (placed v i) here)
 
@@ -144,25 +144,20 @@ module _ (caps : Capacities) (v : World) (inv : Inv caps v) (d s : ℕ) (asked :
       (inv .comes (placed v i) here)
 
   is-client : IsClient (v .tables .sizes) d
-  unfolding ownerOf
   is-client = subst (λ (m : Message). IsClient (v .tables .sizes) (ownerOf m)) is-got
       (owner-client caps (inv .ledger) (v .tables) (inv .sound) (placed v i .message)
       (in-message caps v inv (placed v i) here))
 
   label-client : placed v i .label .client ≡ d
-  unfolding ownerOf
   label-client = inv .owners (placed v i) here ∙ ap ownerOf is-got
 
   is-reply : isReply d (placed v i) ≡ true
-  unfolding isGot
   is-reply = rw (label-client, is-got, eqb-same d) refl
 
   is-reply-for : (j : ℕ) → isReplyFor d j (placed v i) ≡ eqb k j
-  unfolding isGot itemOf
   is-reply-for j = rw (label-client, is-got, eqb-same d) refl
 
   awaited-here : has (c .read .awaited) k ≡ true
-  unfolding ofSide ownerOf itemOf
   awaited-here = awaited-in caps (inv .ledger) (v .tables) (inv .sound) (placed v i .message)
       (in-message caps v inv (placed v i) here) ofRead d k is-client
       (rw (is-got, eqb-same d) (eqb-same k))

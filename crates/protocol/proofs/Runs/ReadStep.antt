@@ -14,12 +14,13 @@ use Rattle.protocol.specs.declared.Entry.{Entry}
 use Rattle.protocol.specs.declared.Message.{Message}
 use Rattle.protocol.specs.declared.Message.the-variants.{Got}
 use Rattle.protocol.specs.Tables.{Tables, Client, WritePart, ofRead, read, resting, put}
+use Rattle.protocol.specs.Message.{ownerOf}
 use Rattle.protocol.specs.Range.{Capacities}
 use Rattle.protocol.specs.Steps.{delivered, got, answered, isLast, messageAt}
 use Rattle.protocol.specs.Calls.{Call, startRead, startWrite, deliver, show, refusal, effect}
 use Rattle.protocol.specs.Calls.{step, outcomeOf}
 use Rattle.protocol.specs.World.{World, Labelled, placed, joining, leaving, accepts, moved}
-use Rattle.protocol.specs.World.{passed, next, isReply, isReplyFor, isRequest, ownerOf}
+use Rattle.protocol.specs.World.{passed, next, isReply, isReplyFor, isRequest}
 use Rattle.protocol.specs.World.{outcomeIn, delivers, endsFor, startsFor}
 use Rattle.protocol.proofs.Put.{put-same}
 use Rattle.protocol.proofs.Refusals.{accepted-read, accepted-write}
@@ -97,7 +98,7 @@ module _ (caps : Capacities) (v : World) (inv : Inv caps v) (d s : ℕ) (asked :
   -- outcome alone
   delivers-reply : (i : ℕ) → In (placed v i) (v .pile) → {u : Version} {latest : Entry}
       → placed v i .message ≡ Got d u latest → delivers v d (deliver i) ≡ true
-  unfolding delivers ownerOf
+  unfolding delivers
   delivers-reply i here e = eq-eqb (placed v i .label .client) d
       (inv .owners (placed v i) here ∙ ap ownerOf e)
 

@@ -19,16 +19,16 @@ use Rattle.protocol.specs.Range.{Capacities}
 use Rattle.protocol.specs.Steps.{reader, gets, asks}
 use Rattle.protocol.specs.Calls.{Call, startRead, refusal, effect}
 use Rattle.protocol.specs.World.{World, Labelled, labelled, placed, joining, leaving, accepts}
-use Rattle.protocol.specs.World.{moved, next, after, joiningOver, leavingOver, isGet}
-use Rattle.protocol.specs.World.{isRequest, ownerOf, delivers, endsFor, stays, startsFor}
+use Rattle.protocol.specs.World.{moved, next, after, joiningOver, leavingOver}
+use Rattle.protocol.specs.World.{isRequest, delivers, endsFor, stays, startsFor}
 use Rattle.protocol.specs.World.{rests}
 use Rattle.protocol.proofs.Put.{put-same}
 use Rattle.protocol.proofs.Refusals.{Idle, AcceptedStart, accepted-read}
 use Rattle.protocol.proofs.Link.{Inv}
-use Rattle.protocol.proofs.Link.Step.{placed-in, fits, next-inv, in-message}
+use Rattle.protocol.proofs.Link.Step.{placed-in, next-inv, in-message}
 use Rattle.protocol.proofs.Runs.Run.{next-all}
 use Rattle.protocol.proofs.Runs.Touch.{refused-outcome, Way, quiet, starts, answers, way}
-use Rattle.protocol.proofs.Runs.Touch.{answers-owner, no-answer}
+use Rattle.protocol.proofs.Runs.Touch.{no-answer}
 use Rattle.protocol.proofs.Runs.ReadSpan.{Reading}
 use Rattle.protocol.proofs.Runs.ReadStep.{read-goes-on}
 
@@ -62,7 +62,7 @@ module _ (caps : Capacities) (w : World) (inv : Inv caps w) (d s : ℕ)
 
   -- one request for each item of its set
   pub read-requests : counted (isRequest d) (joining w (startRead d s)) ≡ count s
-  unfolding joining isGet
+  unfolding joining
   read-requests =
       counted-map (labelled d (w .time) (w .time)) (isRequest d) (gets (w .tables) d s)
       ∙ counted-map (λ k. Get d k (asks (w .tables) d k))

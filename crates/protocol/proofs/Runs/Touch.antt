@@ -17,13 +17,14 @@ use Rattle.protocol.specs.declared.Message.{Message}
 use Rattle.protocol.specs.declared.Message.the-variants.{Prepare, Prepared, Commit, Get, Got}
 use Rattle.protocol.specs.declared.Answer.the-variants.{Refused}
 use Rattle.protocol.specs.Tables.{Tables, Client, ofRead, ofWrite, writerOf}
+use Rattle.protocol.specs.Message.{isGet, isGot, ownerOf}
 use Rattle.protocol.specs.Range.{Capacities}
 use Rattle.protocol.specs.Steps.{delivered, joined, isLast, touches, gets, prepares, reader}
 use Rattle.protocol.specs.Steps.{writer, messageAt}
 use Rattle.protocol.specs.Calls.{Call, startRead, startWrite, deliver, show, refusal, effect}
 use Rattle.protocol.specs.Calls.{step, reply, outcomeOf, pick}
-use Rattle.protocol.specs.World.{World, Labelled, labelled, placed, joining, leaving, isGet}
-use Rattle.protocol.specs.World.{isGot, isRequest, isReply, ownerOf, startsFor, accepts}
+use Rattle.protocol.specs.World.{World, Labelled, labelled, placed, joining, leaving}
+use Rattle.protocol.specs.World.{isRequest, isReply, startsFor, accepts}
 use Rattle.protocol.specs.World.{outcomeIn, delivers, endsFor}
 use Rattle.protocol.proofs.Refusals.{Idle}
 use Rattle.protocol.proofs.Put.{put-other}
@@ -54,7 +55,7 @@ delivered-client t (Got e′ v latest) d e =
 
 -- a delivery makes no get join
 joined-no-get : (t : Tables) (m j : Message) → In j (joined t m) → isGet j ≡ false
-unfolding joined isGet
+unfolding joined
 joined-no-get t (Prepare v) j (inl e) = ap isGet e
 joined-no-get t (Prepared k s) j i =
     by-test (isLast ofWrite (t .client (writerOf s)) k)
@@ -75,7 +76,7 @@ joined-no-get t (Got d v latest) j i =
 
 -- a got of client d is an answer to it
 got-answers : (m : Message) (d : ℕ) → isGot m ≡ true → ownerOf m ≡ d → answersTo d m ≡ true
-unfolding isGot ownerOf answersTo
+unfolding answersTo
 got-answers (Prepare v) d e o = not-both e refl
 got-answers (Prepared k s) d e o = not-both e refl
 got-answers (Commit p s) d e o = not-both e refl
@@ -105,7 +106,7 @@ delivered-outcome caps v i e = rw e refl
 -- a message of client d that is no answer to it has the outcome none
 no-outcome : (t : Tables) (m : Message) (d : ℕ) → ownerOf m ≡ d → answersTo d m ≡ false
     → outcomeOf t m ≡ 0
-unfolding ownerOf answersTo outcomeOf
+unfolding answersTo outcomeOf
 no-outcome t (Prepare v) d o f = refl
 no-outcome t (Prepared k s) d o f = not-both (eq-eqb (writerOf s) d o) f
 no-outcome t (Commit p s) d o f = refl
@@ -113,7 +114,7 @@ no-outcome t (Get e k s) d o f = refl
 no-outcome t (Got e v latest) d o f = not-both (eq-eqb e d o) f
 
 answers-item : (m : Message) (d : ℕ) → answersTo d m ≡ true → hasItem m ≡ true
-unfolding hasItem answersTo
+unfolding answersTo
 answers-item (Prepare v) d e = refl
 answers-item (Prepared k s) d e = refl
 answers-item (Commit p s) d e = not-both e refl
@@ -121,7 +122,7 @@ answers-item (Get c k s) d e = refl
 answers-item (Got c v latest) d e = refl
 
 pub answers-owner : (m : Message) (d : ℕ) → answersTo d m ≡ true → ownerOf m ≡ d
-unfolding ownerOf answersTo
+unfolding answersTo
 answers-owner (Prepare v) d e = not-both e refl
 answers-owner (Prepared k s) d e = eqb-true (writerOf s) d e
 answers-owner (Commit p s) d e = not-both e refl

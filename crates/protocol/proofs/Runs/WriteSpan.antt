@@ -15,12 +15,13 @@ use Rattle.protocol.specs.declared.Message.{Message}
 use Rattle.protocol.specs.declared.Message.the-variants.{Prepared}
 use Rattle.protocol.specs.Tables.{Tables, Client, ReadPart, noRead, ofWrite, writerOf}
 use Rattle.protocol.specs.Tables.{laterOf}
+use Rattle.protocol.specs.Message.{ownerOf}
 use Rattle.protocol.specs.Range.{Capacities}
 use Rattle.protocol.specs.Steps.{delivered, prepared, struck, seen, isLast, messageAt, writer}
 use Rattle.protocol.specs.Steps.{nextStamp}
 use Rattle.protocol.specs.Calls.{Call, startRead, startWrite, deliver, show, refusal, effect}
 use Rattle.protocol.specs.Calls.{step, outcomeOf}
-use Rattle.protocol.specs.World.{World, placed, accepts, moved, passed, next, after, ownerOf}
+use Rattle.protocol.specs.World.{World, placed, accepts, moved, passed, next, after}
 use Rattle.protocol.specs.World.{outcomeIn, delivers, endsFor, stays, startsFor}
 use Rattle.protocol.proofs.Put.{put-same}
 use Rattle.protocol.proofs.Refusals.{accepted-read, accepted-write}

@@ -5,7 +5,6 @@ use mathlib.Core.List.{[]}
 use mathlib.Core.Logic.{⊎-elim}
 use mathlib.Core.Path.{_≡_, refl}
 use Prim.Native.Nat.{ℕ, zero, suc, _<_}
-use native.Mathlib.Omega.{arith}
 use lib.Dec.{eqb}
 use lib.ListN.{length}
 use borrow.Author.Tests.{eqb-true}
@@ -21,7 +20,6 @@ use Rattle.protocol.specs.Range.{Capacities, sizesInRange}
 use Rattle.protocol.specs.Steps.{messageAt, nextStamp, valueOf}
 use Rattle.protocol.specs.Calls.{Call, startRead, startWrite, deliver, show, refusal, effect}
 use Rattle.protocol.specs.Calls.{pick, step}
-use Rattle.protocol.specs.World.{ownerOf, itemOf}
 use Rattle.protocol.proofs.Refusals.{Expected, accepted-read, accepted-write}
 use Rattle.protocol.proofs.Refusals.{accepted-deliver}
 use Rattle.protocol.proofs.Valid.{valid-kept, valid-fresh}
@@ -38,7 +36,7 @@ use Rattle.protocol.proofs.Sound.DeliverGet.{sound-get}
 use Rattle.protocol.proofs.Sound.DeliverGot.{sound-got}
 use Rattle.protocol.proofs.Sound.StartRead.{sound-read}
 use Rattle.protocol.proofs.Sound.StartWrite.{entered, sound-write}
-use Rattle.protocol.proofs.Common.{isFor, ofSide, by-side}
+use Rattle.protocol.proofs.Common.{isFor, by-side}
 
 -- ---- fresh tables
 
@@ -119,7 +117,7 @@ module _ (caps : Capacities) (L : Ledger) (t : Tables) (sound : SoundBy caps L t
   -- ---- no delivery is refused by 11 or 12
 
   expected : (m : Message) → In m (t .messages) → Expected t m
-  unfolding Fits ofSide ownerOf itemOf
+  unfolding Fits
   expected (Prepare v) here = sound .fits (Prepare v) here .unstored
   expected (Prepared k s) here =
       let fit = sound .fits (Prepared k s) here in
