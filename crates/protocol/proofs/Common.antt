@@ -177,7 +177,7 @@ unlabelled client start since (j ∷ js) =
     ap (λ (r : List Message). j ∷ r) (unlabelled client start since js)
 
 abbrev pub origin : Write
-origin = record { start = 0; client = 0; stamp = 0; set = 0; values = λ k. 0 }
+origin = record { start = 0; stamp = 0; set = 0; values = λ k. 0 }
 
 abbrev pub known : List Write → List Write
 known writes = origin ∷ writes

@@ -69,7 +69,9 @@ condition-3-from caps w inv calls =
       steps = λ before rest c e.
           ap (λ (v : World). v .tables) (after-append caps w before (c ∷ []))
           ∙ next-step caps (after caps w before) c;
-      labels = λ before rest e. (after-inv caps w inv before .pile, after-inv caps w inv before .owners);
+      labels = λ before rest e.
+          let here = after-inv caps w inv before in
+          (here .inFlight, here .owners);
       history = writes-iff caps w calls;
       preparations = stores-iff caps w calls;
       oneMessage = λ before during rest d s e u k m none.
@@ -85,7 +87,8 @@ condition-3-from caps w inv calls =
           silent caps w inv d s before during end until []
           (replicate (10 + 9 * count s) 0) u quietly
           (le-of-eq (sym (length-replicate (10 + 9 * count s) 0)));
-      counts = λ before during rest d s end e u. counts-exact caps w inv d s before during (u .underWay) end (u .ended);
+      counts = λ before during rest d s end e u.
+          counts-exact caps w inv d s before during (u .underWay) end (u .ended);
       shows = λ before during until rest d s end room e u quietly enough.
           subst (λ (cs : List Call). Shows caps w cs d s before during end until room) (sym e)
           (shows caps w inv d s before during end until rest room u quietly enough);

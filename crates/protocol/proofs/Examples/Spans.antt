@@ -20,7 +20,8 @@ use Rattle.protocol.specs.Calls.{Call, startRead, startWrite, deliver, s
 use Rattle.protocol.specs.Calls.{unexpected, missing, isNothing, outcomeOf, effect}
 use Rattle.protocol.specs.Calls.{reply, written, lent, step}
 use Rattle.protocol.specs.World.{World, begin, accepts, next, after, joining, leaving}
-use Rattle.protocol.specs.World.{staying, begun, landed, storing, joiningOver, leavingOver}
+use Rattle.protocol.specs.World.{staying, begun, withoutAll, storing, joiningOver}
+use Rattle.protocol.specs.World.{leavingOver}
 use Rattle.protocol.specs.World.{isRequest, isReply, isReplyFor}
 use Rattle.protocol.specs.World.{isReadMessage, outcomeIn, delivers, endsFor, stays}
 use Rattle.protocol.specs.World.{startsFor, rests}
@@ -56,7 +57,7 @@ whole before =
     && every 2 (λ k. eqb (counted (isReplyFor 2 k) (came capacities w 2 3 before
     (during ++ deliver 1 ∷ []))) 1)
     && every 2 (λ k. eqb (counted (isReadMessage 2 k)
-    (now capacities w 2 3 before (deliver 1 ∷ deliver 1 ∷ []) .pile)) 1)
+    (now capacities w 2 3 before (deliver 1 ∷ deliver 1 ∷ []) .inFlight)) 1)
     && rests capacities (shownAt capacities w 2 3 before during (deliver 1) []) 2
     (deliver 0 ∷ startRead 2 0 ∷ [])
 
@@ -71,7 +72,8 @@ storedBefore =
     (came capacities w 2 3 between (during ++ deliver 1 ∷ []))
 
 pub spans : (whole written-first && whole between && storedBefore) ≡ true
-unfolding next after joining leaving staying begun landed storing joiningOver leavingOver outcomeIn
+unfolding next after joining leaving staying begun withoutAll storing joiningOver leavingOver
+    outcomeIn
     delivers stays startsFor rests step refusal first unexpected missing isNothing effect reply
     written lent outcomeOf valid inRange sizesInRange stampInRange entryInRange versionInRange
     messageInRange endedInRange clientInRange readPartInRange writePartInRange load arrived total

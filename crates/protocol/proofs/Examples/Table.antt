@@ -29,8 +29,9 @@ use Rattle.protocol.specs.Calls.{Call, Given, first, refusal, freshAnswe
 use Rattle.protocol.specs.Calls.{missing, isNothing, outcomeOf, effect, reply}
 use Rattle.protocol.specs.Calls.{written, lent, step, bytesOfAnswer}
 
--- ---- A line: a call, its answer's digits, and the digits of what its output keeps (past the frame shown; all of it after a refusal)
+-- ---- A line: a call, its answer's digits, and the digits of what its output keeps
 
+-- past the frame shown; after a refusal all of it
 pub record Line : Type 0 where
   pub call : Call
   pub answer : String
@@ -44,7 +45,7 @@ c ⇒ answer = record { call = c; answer = answer; kept = "" }
 abbrev pub _keeping_ : Line → String → Line
 l keeping kept = record { call = l .call; answer = l .answer; kept = kept }
 
--- ---- A row: a fresh start with its answer's digits, or tables, or several; then its lines, and a test of the tables after them
+-- ---- A row: a fresh start, or tables, with lines and a test of the tables after them
 
 pub data Start : Type 0 where
   freshly : Sizes → String → Start
@@ -133,11 +134,11 @@ same (x ∷ xs) [] = false
 same (x ∷ xs) (y ∷ ys) = eqb x y && same xs ys
 
 -- the messages have these fields
-abbrev pub pileIs : List Message → List (List ℕ) → Bool
-pileIs [] [] = true
-pileIs [] (f ∷ fs) = false
-pileIs (m ∷ ms) [] = false
-pileIs (m ∷ ms) (f ∷ fs) = same (fieldsOf m) f && pileIs ms fs
+abbrev pub messagesAre : List Message → List (List ℕ) → Bool
+messagesAre [] [] = true
+messagesAre [] (f ∷ fs) = false
+messagesAre (m ∷ ms) [] = false
+messagesAre (m ∷ ms) (f ∷ fs) = same (fieldsOf m) f && messagesAre ms fs
 
 -- the entry has this number, writing desk and write set
 abbrev pub entryIs : Entry → ℕ → ℕ → ℕ → Bool

@@ -100,7 +100,9 @@ undisturbed d s asked v v′ left more g same none r =
       set = ap (λ (c : Client). c .read .set) same ∙ r .set;
       asks = ap (λ (c : Client). c .read .asked) same ∙ r .asks;
       busy = ap (λ (c : Client). eqb (c .read .awaited) 0) same ∙ r .busy;
-      once = λ k. ap (λ (c : Client). counted (isReplyFor d k) (left ++ more) + cond (has (c .read .awaited) k) 1 0) same
+      once = λ k.
+          ap (λ (c : Client). counted (isReplyFor d k) (left ++ more) + cond
+          (has (c .read .awaited) k) 1 0) same
           ∙ ap (λ (n : ℕ). n + cond (has (v .tables .client d .read .awaited) k) 1 0) (same-for k)
           ∙ r .once k;
       replied = omega (
@@ -112,7 +114,8 @@ undisturbed d s asked v v′ left more g same none r =
         r .replied,
       );
       answered =
-          λ k e f. subst (λ (c : Client). Answer v′ d k (asked k) (c .read .values k) (left ++ more)) (sym same)
+          λ k e f. subst (λ (c : Client). Answer v′ d k (asked k) (c .read .values k) (left ++ more))
+          (sym same)
           (answer-grows v v′ d k (asked k) (v .tables .client d .read .values k) left more g
           (r .answered k e (sym (ap (λ (c : Client). has (c .read .awaited) k) same) ∙ f)));
     }
@@ -125,7 +128,7 @@ undisturbed d s asked v v′ left more g same none r =
 
 module _ (caps : Capacities) (v : World) (inv : Inv caps v) (d s : ℕ) (asked : ℕ → ℕ)
     (left : List Labelled)
-    (r : Reading d s asked v left) (i : ℕ) (here : In (placed v i) (v .pile))
+    (r : Reading d s asked v left) (i : ℕ) (here : In (placed v i) (v .inFlight))
     (u : Version) (latest : Entry) (is-got : placed v i .message ≡ Got d u latest) where
   abbrev c : Client
   c = v .tables .client d
@@ -253,7 +256,9 @@ module _ (caps : Capacities) (v : World) (inv : Inv caps v) (d s : ℕ) (asked :
           r .replied,
         );
         answered =
-            λ j e q. subst (λ (x : Client). Answer v′ d j (asked j) (x .read .values j) (left ++ placed v i ∷ [])) (sym same)
+            λ j e q. subst
+            (λ (x : Client). Answer v′ d j (asked j) (x .read .values j) (left ++ placed v i ∷ []))
+            (sym same)
             (answered-after v′ g j e
             (sym (ap (λ (x : Client). has (x .read .awaited) j) same) ∙ q));
       }

@@ -65,7 +65,9 @@ module _ (caps : Capacities) (L : Ledger) (t : Tables) (sound : SoundBy caps L t
   carries r c =
       record {
         set = put-other (L .set) stamp s r (stamp-new r c);
-        value = λ k e. ap (λ (f : ℕ → ℕ). f k) (put-other (L .value) stamp (valueOf s bytes) r (stamp-new r c));
+        value = λ k e.
+            ap (λ (f : ℕ → ℕ). f k)
+            (put-other (L .value) stamp (valueOf s bytes) r (stamp-new r c));
         keeps = λ k e. e;
       }
 
