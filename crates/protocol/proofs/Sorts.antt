@@ -33,7 +33,7 @@ withViews t view =
 abbrev pub ViewGrows : Tables → Tables → Type 0
 ViewGrows t u = (d k : ℕ) → t .view d k .stamp ≤ u .view d k .stamp
 
--- a call that does nothing but answer, and at most gives view entries from client to client
+-- a call that answers, and at most gives view entries from client to client
 pub record Apart (t : Tables) (c : Call) : Type 0 where
   pub view : ℕ → ℕ → Entry
   pub output : List ℕ
@@ -42,6 +42,19 @@ pub record Apart (t : Tables) (c : Call) : Type 0 where
   pub taken : (d k : ℕ) → IsClient (t .sizes) d → k < t .sizes .items
       → (e : ℕ) × IsClient (t .sizes) e × (view d k ≡ t .view e k)
   pub grows : ViewGrows t (withViews t view)
+
+-- a call that does nothing but answer
+pub still : (t : Tables) (c : Call) (output : List ℕ) (answer : Answer)
+    → effects t c ≡ quiet t output answer → Apart t c
+still t c output answer e =
+    record {
+      view = t .view;
+      output = output;
+      answer = answer;
+      does = e;
+      taken = λ d k i l. (d, i, refl);
+      grows = λ d k. le-refl (t .view d k .stamp);
+    }
 
 module _ (caps : Capacities) (t : Tables) where
   pub data Sort : Call → Type 0 where
@@ -57,11 +70,4 @@ module _ (caps : Capacities) (t : Tables) where
   sort (deliver i) e = delivers i (accepted-deliver caps t i .0 e)
   sort (show d output) e =
       apart (show d output) (accepted-show caps t d output .0 e .valid)
-      (record {
-        view = t .view;
-        output = effects t (show d output) .output;
-        answer = effects t (show d output) .answer;
-        does = refl;
-        taken = λ d k i l. (d, i, refl);
-        grows = λ d k. le-refl (t .view d k .stamp);
-      })
+      (still t (show d output) _ _ refl)
