@@ -14,9 +14,11 @@ use Rattle.protocol.proofs.Examples.Table.{anything, right, messagesAre
 use Rattle.protocol.proofs.Examples.Begin.{sizes, entry, loaded, holding, seeing, ahead}
 use Rattle.protocol.proofs.Examples.Begin.{spent, crowded, strayed}
 use Rattle.protocol.proofs.Examples.Faults.{faults}
+use Rattle.protocol.proofs.Examples.Pinned.{pinned}
 pub mod Table
 pub mod Begin
 pub mod Faults
+pub mod Pinned
 pub mod Spans
 
 -- a value's four bytes, for values below 256
@@ -338,7 +340,7 @@ rows =
     ∷ firstOfSeveral
     ∷ strays
     ∷ outOfRange
-    ∷ []
+    ∷ pinned
 
 pub examples : all right rows ≡ true
 unfolding all right
