@@ -55,7 +55,8 @@ abbrev fullAndWrong : Row
 fullAndWrong =
     record {
       start = on (loaded 100);
-      lines = startRead 8 1 ⇒ "08" ∷ startRead 8 0 ⇒ "05" ∷ startRead 9 1 ⇒ "03" ∷ [];
+      lines = startRead 8 1 ⇒ "08" ∷ startRead 8 0 ⇒ "05" ∷ startRead 8 16 ⇒ "05"
+          ∷ startRead 9 1 ⇒ "03" ∷ [];
       after = anything;
     }
 

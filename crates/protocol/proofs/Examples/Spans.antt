@@ -147,6 +147,25 @@ ownCommits =
     && delivers v 1 (deliver 0) && accepts capacities v (deliver 0)
     && not (endsFor capacities v 1 (deliver 0)) && rests capacities v 1 (deliver 0 ∷ [])
 
+-- ---- Two writes, of client 1 by call 0 and of client 2 by call 3, with prepares delivered by 1 and 4
+
+abbrev u : World
+u = begin (record { clients = 2; partitions = 1; items = 1 })
+
+abbrev bothWritten : List Call
+bothWritten =
+    startWrite 1 1 (0 ∷ 0 ∷ 0 ∷ 7 ∷ []) ∷ deliver 0 ∷ deliver 0
+    ∷ startWrite 2 1 (0 ∷ 0 ∷ 0 ∷ 8 ∷ []) ∷ deliver 1 ∷ deliver 1 ∷ deliver 0 ∷ deliver 0 ∷ []
+
+abbrev writesAndStores : Bool
+writesAndStores =
+    let v = after capacities u bothWritten in
+    same (map (λ a. a .start) (v .writes)) (0 ∷ 3 ∷ [])
+    && same (map (λ a. a .stamp) (v .writes)) (17 ∷ 18 ∷ [])
+    && same (map (λ a. a .values 0) (v .writes)) (7 ∷ 8 ∷ [])
+    && same (map (λ σ. σ .start) (v .stores)) (0 ∷ 3 ∷ [])
+    && same (map (λ σ. σ .time) (v .stores)) (1 ∷ 4 ∷ [])
+
 -- ---- The rows
 
 abbrev rows : List Bool
@@ -160,6 +179,7 @@ rows =
     ∷ showing
     ∷ times
     ∷ ownCommits
+    ∷ writesAndStores
     ∷ []
 
 pub spans : all (λ b. b) rows ≡ true
@@ -171,15 +191,7 @@ unfolding next after joining leaving staying begun withoutAll storing joiningOve
     upto remove ones onesIn bigEndian numberAt
 spans = refl
 
--- ---- A tie: both clients' first writes of item 0 have number 1
-
-abbrev u : World
-u = begin (record { clients = 2; partitions = 1; items = 1 })
-
-abbrev bothWritten : List Call
-bothWritten =
-    startWrite 1 1 (0 ∷ 0 ∷ 0 ∷ 7 ∷ []) ∷ deliver 0 ∷ deliver 0
-    ∷ startWrite 2 1 (0 ∷ 0 ∷ 0 ∷ 8 ∷ []) ∷ deliver 1 ∷ deliver 1 ∷ deliver 0 ∷ deliver 0 ∷ []
+-- ---- A tie: both writes have number 1
 
 -- client 1's first read shows its own write, its second one client 2's
 abbrev own : List ℕ
