@@ -1,12 +1,12 @@
 -- Small laws of messages, clients and labels that the invariant's files share.
-use mathlib.Core.Bool.{Bool, true, false, cond, _&&_}
+use mathlib.Core.Bool.{Bool, true, false, cond, not, _&&_}
 use mathlib.Core.List.{List, [], _∷_, map}
 use mathlib.Core.Logic.{_≢_, inl}
 use mathlib.Core.Path.{_≡_, refl, sym, ap, _∙_, subst}
 use Prim.Native.Nat.{ℕ, zero, suc, _+_, _^_, _≤_, _<_}
 use native.Mathlib.Nat.{not-suc-le-zero}
 use native.Mathlib.Omega.{arith}
-use lib.Dec.{eqb, ltb}
+use lib.Dec.{eqb, ltb, leb}
 use borrow.Author.Tests.{eqb-true, eqb-false, ne-eqb, ltb-true, ltb-false}
 use Rattle.basics.proofs.Cases.{by-test, not-both, and-left, and-right}
 use Rattle.basics.specs.Lists.{In, counted}
@@ -15,31 +15,20 @@ use Rattle.itemset.specs.Set.{has, remove, upto, only, members}
 use Rattle.itemset.proofs.Laws.{has-empty, has-above}
 use Rattle.protocol.specs.declared.Message.{Message}
 use Rattle.protocol.specs.declared.Message.the-variants.{Prepare, Prepared, Commit, Get, Got}
-use Rattle.protocol.specs.Tables.{Tables, Client, Side, ofRead, ofWrite, awaitedOf, writerOf}
+use Rattle.protocol.specs.Tables.{Tables, Client, Side, ofRead, ofWrite, writerOf}
+use Rattle.protocol.specs.Message.{kindOf, isCommit, itemOf, namesClient, ownerOf}
 use Rattle.protocol.specs.Steps.{joined, commits, isLast, touches}
-use Rattle.protocol.specs.World.{Write, labelled, ownerOf, itemOf}
+use Rattle.protocol.specs.World.{Write, labelled}
 
 -- ---- a message about item k of client d: any kind but a commit
 
-unfoldable pub hasItem : Message → Bool
-hasItem (Prepare v) = true
-hasItem (Prepared k s) = true
-hasItem (Commit p s) = false
-hasItem (Get d k s) = true
-hasItem (Got d v e) = true
+abbrev pub hasItem : Message → Bool
+hasItem m = not (isCommit m)
 
 -- of a read part the gets and gots, of a write part the prepares and prepared replies
-unfoldable pub ofSide : Side → Message → Bool
-ofSide ofRead (Prepare v) = false
-ofSide ofRead (Prepared k s) = false
-ofSide ofRead (Commit p s) = false
-ofSide ofRead (Get d k s) = true
-ofSide ofRead (Got d v e) = true
-ofSide ofWrite (Prepare v) = true
-ofSide ofWrite (Prepared k s) = true
-ofSide ofWrite (Commit p s) = false
-ofSide ofWrite (Get d k s) = false
-ofSide ofWrite (Got d v e) = false
+abbrev pub ofSide : Side → Message → Bool
+ofSide ofRead m = namesClient m
+ofSide ofWrite m = leb (kindOf m) 2
 
 abbrev pub isFor : Side → ℕ → ℕ → Message → Bool
 isFor σ d k m = ofSide σ m && (eqb (ownerOf m) d && eqb (itemOf m) k)
@@ -51,7 +40,6 @@ by-side P r w ofWrite = w
 
 -- a message about an item is of one of the sides
 pub side-of : (m : Message) → hasItem m ≡ true → (σ : Side) × (ofSide σ m ≡ true)
-unfolding hasItem ofSide
 side-of (Prepare v) e = (ofWrite, refl)
 side-of (Prepared k s) e = (ofWrite, refl)
 side-of (Commit p s) e = not-both e refl
@@ -115,7 +103,6 @@ no-commits t stamp =
 
 commits-owner : (t : Tables) (s stamp : ℕ) (j : Message) → In j (commits t s stamp)
     → ownerOf j ≡ writerOf stamp
-unfolding ownerOf
 commits-owner t s stamp j i =
     let x = in-map (λ p. Commit p stamp) j
     (upto (t .sizes .partitions) (λ p. touches t s p (t .sizes .items))) i in
@@ -126,7 +113,7 @@ pub joined-owner : (t : Tables) (m j : Message)
     → ((d : ℕ) → ownerOf m ≡ d → t .client d .write .set ≢ 0
     → writerOf (t .client d .write .stamp) ≡ d)
     → In j (joined t m) → ownerOf j ≡ ownerOf m
-unfolding joined ownerOf
+unfolding joined
 joined-owner t (Prepare v) j own (inl e) = ap ownerOf e
 joined-owner t (Prepared k stamp) j own i =
     by-test (isLast ofWrite (t .client (writerOf stamp)) k)
@@ -190,7 +177,7 @@ unlabelled client start since (j ∷ js) =
     ap (λ (r : List Message). j ∷ r) (unlabelled client start since js)
 
 abbrev pub origin : Write
-origin = record { start = 0; client = 0; stamp = 0; set = 0; values = λ k. 0 }
+origin = record { start = 0; stamp = 0; set = 0; values = λ k. 0 }
 
 abbrev pub known : List Write → List Write
 known writes = origin ∷ writes

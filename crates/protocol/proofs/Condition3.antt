@@ -11,7 +11,7 @@ use lib.ListN.{replicate, length-replicate}
 use Rattle.basics.proofs.Cases.{by-test}
 use Rattle.basics.specs.Lists.{counted}
 use Rattle.itemset.specs.Set.{has, count}
-use Rattle.protocol.specs.Tables.{Sizes, Tables}
+use Rattle.protocol.specs.Tables.{Sizes}
 use Rattle.protocol.specs.Range.{Capacities, sizesInRange}
 use Rattle.protocol.specs.Calls.{Call, startRead, refusal, effect, step, pick}
 use Rattle.protocol.specs.World.{World, Labelled, begin, moved, passed, next, after}
@@ -19,9 +19,7 @@ use Rattle.protocol.specs.World.{isReplyFor}
 use Rattle.protocol.specs.Condition3.{Shows, Condition3}
 use Rattle.protocol.proofs.Ranges.Values.{IsClient}
 use Rattle.protocol.proofs.Refusals.{accepted-read}
-use Rattle.protocol.proofs.Sound.{Ledger, SoundBy}
 use Rattle.protocol.proofs.Link.{Inv}
-use Rattle.protocol.proofs.Link.Held.{worldOf, held-inv}
 use Rattle.protocol.proofs.Link.Step.{begin-inv}
 use Rattle.protocol.proofs.Runs.Run.{after-append, after-inv, after-sizes}
 use Rattle.protocol.proofs.Runs.ReadSpan.{Reading}
@@ -71,7 +69,9 @@ condition-3-from caps w inv calls =
       steps = λ before rest c e.
           ap (λ (v : World). v .tables) (after-append caps w before (c ∷ []))
           ∙ next-step caps (after caps w before) c;
-      labels = λ before rest e. (after-inv caps w inv before .pile, after-inv caps w inv before .owners);
+      labels = λ before rest e.
+          let here = after-inv caps w inv before in
+          (here .inFlight, here .owners);
       history = writes-iff caps w calls;
       preparations = stores-iff caps w calls;
       oneMessage = λ before during rest d s e u k m none.
@@ -87,7 +87,8 @@ condition-3-from caps w inv calls =
           silent caps w inv d s before during end until []
           (replicate (10 + 9 * count s) 0) u quietly
           (le-of-eq (sym (length-replicate (10 + 9 * count s) 0)));
-      counts = λ before during rest d s end e u. counts-exact caps w inv d s before during (u .underWay) end (u .ended);
+      counts = λ before during rest d s end e u.
+          counts-exact caps w inv d s before during (u .underWay) end (u .ended);
       shows = λ before during until rest d s end room e u quietly enough.
           subst (λ (cs : List Call). Shows caps w cs d s before during end until room) (sym e)
           (shows caps w inv d s before during end until rest room u quietly enough);
@@ -99,8 +100,3 @@ condition-3-from caps w inv calls =
 pub condition-3 : (caps : Capacities) (z : Sizes) → sizesInRange z ≡ true → (calls : List Call)
     → Condition3 caps (begin z) calls
 condition-3 caps z ok = condition-3-from caps (begin z) (begin-inv caps z ok)
-
--- P9: from sound tables, however they came about
-pub condition-3-held : (caps : Capacities) (L : Ledger) (t : Tables) → SoundBy caps L t
-    → (calls : List Call) → Condition3 caps (worldOf L t) calls
-condition-3-held caps L t sound = condition-3-from caps (worldOf L t) (held-inv caps L t sound)

@@ -10,13 +10,15 @@ use lib.ListN.{length, drop, replicate}
 use Rattle.basics.specs.Lists.{all}
 use Rattle.protocol.specs.Calls.{startRead, startWrite, deliver, show}
 use Rattle.protocol.proofs.Examples.Table.{Row, freshly, on, onEach, _⇒_, _keeping_}
-use Rattle.protocol.proofs.Examples.Table.{anything, right, pileIs, entryIs}
+use Rattle.protocol.proofs.Examples.Table.{anything, right, messagesAre, entryIs}
 use Rattle.protocol.proofs.Examples.Begin.{sizes, entry, loaded, holding, seeing, ahead}
 use Rattle.protocol.proofs.Examples.Begin.{spent, crowded, strayed}
 use Rattle.protocol.proofs.Examples.Faults.{faults}
+use Rattle.protocol.proofs.Examples.Pinned.{pinned}
 pub mod Table
 pub mod Begin
 pub mod Faults
+pub mod Pinned
 pub mod Spans
 
 -- a value's four bytes, for values below 256
@@ -92,7 +94,8 @@ asksSibling =
     record {
       start = on (seeing (entry 2 1 3) (entry 1 2 2));
       lines = startRead 3 3 ⇒ "000002" ∷ [];
-      after = λ t. pileIs (t .messages) ((4 ∷ 3 ∷ 0 ∷ 2 ∷ 1 ∷ []) ∷ (4 ∷ 3 ∷ 1 ∷ 2 ∷ 1 ∷ []) ∷ []);
+      after = λ t. messagesAre (t .messages) ((4 ∷ 3 ∷ 0 ∷ 2 ∷ 1 ∷ []) ∷ (4 ∷ 3 ∷ 1 ∷ 2 ∷ 1 ∷ [])
+          ∷ []);
     }
 
 abbrev asksGreaterClient : Row
@@ -100,7 +103,8 @@ asksGreaterClient =
     record {
       start = on (seeing (entry 1 2 1) (entry 1 1 3));
       lines = startRead 3 3 ⇒ "000002" ∷ [];
-      after = λ t. pileIs (t .messages) ((4 ∷ 3 ∷ 0 ∷ 1 ∷ 2 ∷ []) ∷ (4 ∷ 3 ∷ 1 ∷ 1 ∷ 1 ∷ []) ∷ []);
+      after = λ t. messagesAre (t .messages) ((4 ∷ 3 ∷ 0 ∷ 1 ∷ 2 ∷ []) ∷ (4 ∷ 3 ∷ 1 ∷ 1 ∷ 1 ∷ [])
+          ∷ []);
     }
 
 -- ---- Document 01's whole session
@@ -161,7 +165,7 @@ ownWrite =
           ∷ [];
       after = λ t.
           entryIs (t .view 1 1) 1 1 6 && entryIs (t .view 1 2) 1 1 6
-          && pileIs (t .messages) ((3 ∷ 0 ∷ 1 ∷ 1 ∷ []) ∷ (3 ∷ 1 ∷ 1 ∷ 1 ∷ []) ∷ []);
+          && messagesAre (t .messages) ((3 ∷ 0 ∷ 1 ∷ 1 ∷ []) ∷ (3 ∷ 1 ∷ 1 ∷ 1 ∷ []) ∷ []);
     }
 
 -- A write of which one line is stored and replied is in nobody's view, its writer's included, and
@@ -297,7 +301,7 @@ strays =
           ∷ [];
       after = λ t.
           entryIs (t .latest 0) 1 1 1 && entryIs (t .latest 1) 0 0 3 && entryIs (t .view 2 0) 1 1 1
-          && pileIs (drop 8 (t .messages))
+          && messagesAre (drop 8 (t .messages))
           ((5 ∷ 1 ∷ 1 ∷ 0 ∷ 0 ∷ 0 ∷ 0 ∷ 0 ∷ 3 ∷ [])
           ∷ (5 ∷ 2 ∷ 0 ∷ 7 ∷ 1 ∷ 1 ∷ 1 ∷ 1 ∷ 1 ∷ [])
           ∷ (3 ∷ 0 ∷ 1 ∷ 1 ∷ [])
@@ -336,7 +340,7 @@ rows =
     ∷ firstOfSeveral
     ∷ strays
     ∷ outOfRange
-    ∷ []
+    ∷ pinned
 
 pub examples : all right rows ≡ true
 unfolding all right

@@ -14,6 +14,8 @@ pub mod Touched
 pub mod Load
 pub mod Occupied
 pub mod Kept
+pub mod Sorts
+pub mod Keeps
 pub mod Valid
 pub mod Common
 pub mod Runs

@@ -2,7 +2,6 @@
 -- values and landings.
 pub mod Step
 pub mod Asks
-pub mod Held
 use mathlib.Core.Bool.{true}
 use mathlib.Core.List.{List, map}
 use mathlib.Core.Path.{_≡_}
@@ -13,8 +12,9 @@ use Rattle.protocol.specs.declared.Version.{Version}
 use Rattle.protocol.specs.declared.Message.{Message}
 use Rattle.protocol.specs.declared.Message.the-variants.{Prepare, Prepared, Commit, Get, Got}
 use Rattle.protocol.specs.Tables.{Client}
+use Rattle.protocol.specs.Message.{ownerOf}
 use Rattle.protocol.specs.Range.{Capacities}
-use Rattle.protocol.specs.World.{World, Label, Labelled, Write, Store, ownerOf}
+use Rattle.protocol.specs.World.{World, Label, Labelled, Write, Store}
 use Rattle.protocol.proofs.Sound.{Ledger, Counted, SoundBy}
 use Rattle.protocol.proofs.Common.{known}
 
@@ -60,12 +60,12 @@ Comes writes stores l (Got d v e) = FromAnswer writes stores l (v .stamp)
 pub record Inv (caps : Capacities) (w : World) : Type 0 where
   pub ledger : Ledger
   pub sound : SoundBy caps ledger (w .tables)
-  pub pile : map (λ l. l .message) (w .pile) ≡ w .tables .messages
-  pub owners : (l : Labelled) → In l (w .pile) → l .label .client ≡ ownerOf (l .message)
+  pub inFlight : map (λ l. l .message) (w .inFlight) ≡ w .tables .messages
+  pub owners : (l : Labelled) → In l (w .inFlight) → l .label .client ≡ ownerOf (l .message)
   pub unique : (a b : Write) → In a (known (w .writes)) → In b (known (w .writes))
       → a .stamp ≡ b .stamp → a ≡ b
   pub entered : (a : Write) → In a (known (w .writes)) → Entered ledger (w .tables .client) a
   pub stored : (v : Version) → In v (w .tables .versions)
       → Landed (w .writes) (w .stores) (w .time) (v .stamp) (v .item)
-  pub comes : (l : Labelled) → In l (w .pile)
+  pub comes : (l : Labelled) → In l (w .inFlight)
       → Comes (w .writes) (w .stores) (l .label) (l .message)

@@ -16,7 +16,7 @@ use Rattle.itemset.proofs.Counts.{count-empty, count-remove}
 use Rattle.itemset.proofs.Members.{length-members}
 use Rattle.protocol.specs.declared.Message.{Message}
 use Rattle.protocol.specs.declared.Message.the-variants.{Prepare, Prepared, Commit, Get, Got}
-use Rattle.protocol.specs.Tables.{Tables, Client, Side, ofRead, ofWrite, put, resting}
+use Rattle.protocol.specs.Tables.{Tables, Client, ofRead, ofWrite, resting}
 use Rattle.protocol.specs.Tables.{writerOf, withClient, withMessages}
 use Rattle.protocol.specs.Range.{Capacities, arrived, load}
 use Rattle.protocol.specs.Steps.{reader, gets, writer, prepares, isLast, ended, struck}
@@ -25,7 +25,7 @@ use Rattle.protocol.specs.Steps.{messageAt}
 use Rattle.protocol.specs.Calls.{startRead, startWrite, deliver, effect}
 use Rattle.protocol.proofs.Ranges.Values.{IsClient, MessageInRange}
 use Rattle.protocol.proofs.Ranges.Tables.{InRange}
-use Rattle.protocol.proofs.Refusals.{Idle, AcceptedStart, AcceptedDeliver, Expected}
+use Rattle.protocol.proofs.Refusals.{AcceptedStart, AcceptedDeliver, Expected}
 use Rattle.protocol.proofs.Refusals.{accepted-message}
 use Rattle.protocol.proofs.Delivered.{delivered-messages}
 use Rattle.protocol.proofs.Put.{total-put}

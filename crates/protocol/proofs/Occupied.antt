@@ -14,7 +14,8 @@ use Rattle.itemset.proofs.Members.{length-members}
 use Rattle.protocol.specs.declared.Message.{Message}
 use Rattle.protocol.specs.declared.Message.the-variants.{Prepare, Prepared, Commit, Get, Got}
 use Rattle.protocol.specs.Tables.{Tables, ofRead, ofWrite, writerOf}
-use Rattle.protocol.specs.Range.{Capacities, isPrepare, occupied}
+use Rattle.protocol.specs.Message.{isPrepare}
+use Rattle.protocol.specs.Range.{Capacities, occupied}
 use Rattle.protocol.specs.Steps.{asks, gets, valueOf, nextStamp, version, prepares, isLast}
 use Rattle.protocol.specs.Steps.{commits, touches, delivered, joined, messageAt}
 use Rattle.protocol.specs.Calls.{startRead, startWrite, deliver, effect}
@@ -35,7 +36,7 @@ counted-each f false (x ∷ xs) h = rw (h x) (omega (arith, counted-each f false
 
 module _ (caps : Capacities) (t : Tables) (d s : ℕ) (a : AcceptedStart caps t d s) where
   pub occupied-read : occupied (effect t (startRead d s)) ≡ occupied t
-  unfolding effect occupied isPrepare
+  unfolding effect occupied
   occupied-read =
       omega (
         arith,
@@ -45,7 +46,7 @@ module _ (caps : Capacities) (t : Tables) (d s : ℕ) (a : AcceptedStart caps t 
 
   pub occupied-write : (bytes : List ℕ)
       → occupied (effect t (startWrite d s bytes)) ≡ occupied t + count s
-  unfolding effect occupied isPrepare
+  unfolding effect occupied
   occupied-write bytes =
       omega (
         arith,
@@ -58,7 +59,6 @@ module _ (caps : Capacities) (t : Tables) (d s : ℕ) (a : AcceptedStart caps t 
 -- ---- Deliveries
 
 commits-none : (t : Tables) (s stamp : ℕ) → counted isPrepare (commits t s stamp) ≡ 0
-unfolding isPrepare
 commits-none t s stamp =
     counted-each (λ p. Commit p stamp) false
     (upto (t .sizes .partitions) (λ p. touches t s p (t .sizes .items))) (λ p. refl)
@@ -66,7 +66,7 @@ commits-none t s stamp =
 occupied-delivered : (t : Tables) (m : Message)
     → length (delivered t m .versions) + counted isPrepare (joined t m) ≡ length
     (t .versions) + cond (isPrepare m) 1 0
-unfolding delivered joined isPrepare counted
+unfolding delivered joined counted
 occupied-delivered t (Prepare v) = omega (arith, length-append (t .versions) (v ∷ []))
 occupied-delivered t (Prepared k stamp) =
     let c = t .client (writerOf stamp) in

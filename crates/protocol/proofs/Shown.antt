@@ -18,7 +18,7 @@ use Rattle.itemset.proofs.Laws.{has-below}
 use Rattle.itemset.proofs.Counts.{rank-lt}
 use Rattle.itemset.proofs.Members.{length-members, members-at}
 use Rattle.protocol.specs.Tables.{read, write, stampOf, numberOf, writerOf}
-use Rattle.protocol.specs.Frame.{listed, shownEntry, frame}
+use Rattle.protocol.specs.Frame.{listed, shownEntry, withRead, withWrite, frame}
 
 -- ---- entries of n bytes each
 
@@ -65,35 +65,57 @@ length-entryOf stamps values k = simp (length-append, length-bigEndian)
 
 -- ---- lengths
 
+pub length-with-read : (before : List ℕ) (s : ℕ) (stamps values : ℕ → ℕ) → s < 2 ^ 64
+    → length (withRead before s stamps values) ≡ length before + 8 + 9 * count s
+length-with-read before s stamps values below =
+    length-append (before ++ bigEndian 8 s) (entries s stamps values)
+    ∙ omega (
+      arith,
+      length-append before (bigEndian 8 s),
+      length-bigEndian 8 s,
+      length-listed (entryOf stamps values) 9
+          (length-entryOf stamps values) (members 64 s),
+      length-members s 64 below,
+    )
+
+pub length-with-write : (before : List ℕ) (s stamp : ℕ) (values : ℕ → ℕ) → s < 2 ^ 64
+    → length (withWrite before s stamp values) ≡ length before + 12 + 4 * count s
+length-with-write before s stamp values below =
+    let number = bigEndian 4 (numberOf stamp) in
+    length-append (before ++ bigEndian 8 s ++ number)
+    (listed (λ k. bigEndian 4 (values k)) (members 64 s))
+    ∙ omega (
+      arith,
+      length-append (before ++ bigEndian 8 s) number,
+      length-append before (bigEndian 8 s),
+      length-bigEndian 8 s,
+      length-bigEndian 4
+          (numberOf stamp),
+      length-listed (λ k. bigEndian 4 (values k)) 4
+          (λ k. length-bigEndian 4 (values k)) (members 64 s),
+      length-members s 64 below,
+    )
+
 pub length-frame-read : (d s : ℕ) (stamps values : ℕ → ℕ) → s < 2 ^ 64
     → length (frame d (read s stamps values)) ≡ 10 + 9 * count s
 unfolding frame
 length-frame-read d s stamps values below =
-    length-append (head 0x21 d s) (entries s stamps values)
-    ∙ omega (
+    omega (
       arith,
-      length-head 0x21 d s,
-      length-listed (entryOf stamps values) 9
-          (length-entryOf stamps values) (members 64 s),
-      length-members s 64 below,
+      length-with-read
+          (0x21 ∷ bigEndian 1 d) s stamps values below,
+      length-bigEndian 1 d,
     )
 
 pub length-frame-write : (d s stamp : ℕ) (values : ℕ → ℕ) → s < 2 ^ 64
     → length (frame d (write s stamp values)) ≡ 14 + 4 * count s
 unfolding frame
 length-frame-write d s stamp values below =
-    let number = bigEndian 4 (numberOf stamp) in
-    let each = length-listed (λ k. bigEndian 4 (values k)) 4 (λ k. length-bigEndian 4 (values k))
-    (members 64 s) in
-    length-append (head 0x20 d s ++ number) (listed (λ k. bigEndian 4 (values k)) (members 64 s))
-    ∙ omega (
+    omega (
       arith,
-      length-append (head 0x20 d s) number,
-      length-head 0x20 d s,
-      length-bigEndian 4
-          (numberOf stamp),
-      each,
-      length-members s 64 below,
+      length-with-write
+          (0x20 ∷ bigEndian 1 d) s stamp values below,
+      length-bigEndian 1 d,
     )
 
 -- ---- what a read shows: the head

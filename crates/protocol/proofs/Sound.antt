@@ -1,5 +1,6 @@
--- P9's rules of the tables alone: there is a ledger, of each stamp its set and values, with which
--- every copy agrees; each rule is then about one place of the tables.
+-- What holds of the tables alone after every call (document 02's rules for a kept block, numbered
+-- as there): there is a ledger, of each stamp its set and values, with which every copy agrees, so
+-- that each rule is about one place of the tables.
 pub mod Carry
 pub mod Delivery
 pub mod Distinct
@@ -9,7 +10,6 @@ pub mod End
 pub mod Start
 pub mod StartRead
 pub mod StartWrite
-pub mod Clear
 pub mod Step
 pub mod DeliverPrepare
 pub mod DeliverPrepared
@@ -30,9 +30,9 @@ use Rattle.protocol.specs.declared.Message.{Message}
 use Rattle.protocol.specs.declared.Message.the-variants.{Prepare, Prepared, Commit, Get, Got}
 use Rattle.protocol.specs.Tables.{Tables, Client, Side, awaitedOf, Ended, nothing, read}
 use Rattle.protocol.specs.Tables.{write, stampOf, numberOf, writerOf}
+use Rattle.protocol.specs.Message.{ownerOf}
 use Rattle.protocol.specs.Range.{Capacities}
 use Rattle.protocol.specs.Steps.{stored}
-use Rattle.protocol.specs.World.{ownerOf}
 use Rattle.protocol.proofs.Ranges.Values.{IsClient}
 use Rattle.protocol.proofs.Ranges.Tables.{Valid}
 use Rattle.protocol.proofs.Common.{isFor}

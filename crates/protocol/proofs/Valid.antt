@@ -8,44 +8,19 @@ use lib.Pow.{pow-pos}
 use Rattle.basics.specs.Lists.{counted}
 use Rattle.protocol.specs.Tables.{Sizes, Tables, nothing, initial, resting, fresh}
 use Rattle.protocol.specs.Range.{Capacities, sizesInRange, arrived, load, occupied, valid}
-use Rattle.protocol.specs.Calls.{Call, startRead, startWrite, deliver, show, effect, refusal}
+use Rattle.protocol.specs.Calls.{Call, effect, refusal}
 use Rattle.protocol.specs.Calls.{pick, step}
 use Rattle.protocol.proofs.Ranges.Values.{SizesInRange, EntryInRange, tells-sizes}
 use Rattle.protocol.proofs.Ranges.Tables.{InRange, Valid, facts-valid}
-use Rattle.protocol.proofs.Refusals.{accepted-read, accepted-write, accepted-deliver}
-use Rattle.protocol.proofs.Refusals.{accepted-show}
+use Rattle.protocol.proofs.Keeps.{keeps}
 use Rattle.protocol.proofs.Put.{total-none}
-use Rattle.protocol.proofs.Load.{arrived-none, load-read, load-write, load-deliver}
-use Rattle.protocol.proofs.Occupied.{occupied-read, occupied-write, occupied-deliver}
+use Rattle.protocol.proofs.Load.{arrived-none}
 use Rattle.protocol.proofs.Kept.Values.{range-initial, range-resting}
-use Rattle.protocol.proofs.Kept.Starts.{range-read, range-write}
-use Rattle.protocol.proofs.Kept.Deliveries.{range-deliver}
 
 pub valid-kept : (caps : Capacities) (t : Tables) (c : Call) → refusal caps t c ≡ 0
     → Valid caps (effect t c)
 unfolding effect
-valid-kept caps t (startRead d s) e =
-    let a = accepted-read caps t d s .0 e in
-    record {
-      inRange = range-read caps t d s a;
-      load = omega (arith, load-read caps t d s a);
-      occupied = omega (arith, occupied-read caps t d s a);
-    }
-valid-kept caps t (startWrite d s bytes) e =
-    let a = accepted-write caps t d s bytes .0 e in
-    record {
-      inRange = range-write caps t d s bytes a;
-      load = omega (arith, load-write caps t d s (a .start) bytes);
-      occupied = omega (arith, occupied-write caps t d s (a .start) bytes);
-    }
-valid-kept caps t (deliver i) e =
-    let a = accepted-deliver caps t i .0 e in
-    record {
-      inRange = range-deliver caps t i a;
-      load = omega (arith, load-deliver caps t i a);
-      occupied = omega (arith, occupied-deliver caps t i a);
-    }
-valid-kept caps t (show d output) e = accepted-show caps t d output .0 e .valid
+valid-kept caps t c e = keeps caps t c e .valid
 
 pub valid-step : (caps : Capacities) (t : Tables) (c : Call) → refusal caps t c ≡ 0
     → valid caps (effect t c) ≡ true

@@ -13,11 +13,12 @@ use Rattle.protocol.specs.declared.Answer.{Answer}
 use Rattle.protocol.specs.declared.Answer.the-variants.{Refused, Made, Started, Delivered}
 use Rattle.protocol.specs.declared.Answer.the-variants.{Shown}
 use Rattle.protocol.specs.Tables.{Sizes, Tables, Ended, nothing, read, write, ofRead, ofWrite}
-use Rattle.protocol.specs.Tables.{writerOf}
+use Rattle.protocol.specs.Tables.{WritePart, writerOf}
+use Rattle.protocol.specs.Message.{partsOf, kindOf, isPrepare, isGet, itemOf}
 use Rattle.protocol.specs.Range.{Capacities, valid, sizesInRange, isClient, isIdle, load}
 use Rattle.protocol.specs.Range.{occupied}
 use Rattle.protocol.specs.Steps.{startedRead, startedWrite, deliveredAt, messageAt, stored}
-use Rattle.protocol.specs.Steps.{isLast}
+use Rattle.protocol.specs.Steps.{isLast, gets, prepares, writer, joined}
 use Rattle.protocol.specs.Frame.{frame}
 
 -- The calls that follow a fresh start. A write brings its value bytes, a showing the lent output.
@@ -27,8 +28,9 @@ pub data Call : Type 0 where
   deliver : (place : ℕ) → Call
   show : (client : ℕ) (output : List ℕ) → Call
 
--- ---- Refusal table: each call's tests in their order; the first that applies is returned, 0 where none does
+-- ---- Refusal table: each call's tests in their order
 
+-- the first that applies is returned, 0 where none does
 pub record Test : Type 0 where
   pub number : ℕ
   pub applies : Bool
@@ -59,11 +61,9 @@ unexpected t (Got d v latest) =
 
 -- 12: get of a version that isn't stored, the initial one excepted
 unfoldable pub missing : Tables → Message → Bool
-missing t (Prepare v) = false
-missing t (Prepared k stamp) = false
-missing t (Commit p stamp) = false
-missing t (Get d k stamp) = not (eqb stamp 0 || stored (t .versions) k stamp)
-missing t (Got d v latest) = false
+missing t m =
+    let p = partsOf m in
+    isGet m && not (eqb (p .stamp) 0 || stored (t .versions) (p .item) (p .stamp))
 
 -- 13: no transaction has ended
 unfoldable pub isNothing : Ended → Bool
@@ -116,13 +116,6 @@ freshRefusal z = first (test 2 (not (sizesInRange z)) ∷ [])
 
 -- ---- Answers
 
-unfoldable pub kindOf : Message → ℕ
-kindOf (Prepare v) = 1
-kindOf (Prepared k stamp) = 2
-kindOf (Commit p stamp) = 3
-kindOf (Get d k stamp) = 4
-kindOf (Got d v latest) = 5
-
 -- 0 none ended, 1 a read ended, 2 a transaction with a write part ended
 unfoldable pub outcomeOf : Tables → Message → ℕ
 outcomeOf t (Prepare v) = 0
@@ -132,27 +125,85 @@ outcomeOf t (Get d k stamp) = 0
 outcomeOf t (Got d v latest) = cond (isLast ofRead (t .client d) (v .item))
     (cond (eqb (t .client d .write .set) 0) 1 2) 0
 
--- the tables after an accepted call, and its answer
+-- ---- What an accepted call does, said once; a refused call does nothing
+
+-- whose the joining messages are: a start's of its client, a delivery's of the same client as the
+-- message at that place
+pub data Origin : Type 0 where
+  nobody : Origin
+  starts : (client : ℕ) → Origin
+  follows : (place : ℕ) → Origin
+
+pub record Effects : Type 0 where
+  -- the tables after it
+  pub tables : Tables
+  -- the places of the messages that leave, the messages that join, and whose these are
+  pub leaves : List ℕ
+  pub joins : List Message
+  pub origin : Origin
+  -- the writes that begin, and the items that are stored
+  pub begins : List WritePart
+  pub stores : List ℕ
+  -- the output after it, and the answer
+  pub output : List ℕ
+  pub answer : Answer
+
+-- of a start of client d
+abbrev pub started : ℕ → Tables → List Message → List WritePart → Effects
+started d after joins begins =
+    record {
+      tables = after;
+      leaves = [];
+      joins = joins;
+      origin = starts d;
+      begins = begins;
+      stores = [];
+      output = [];
+      answer = Started (length (after .messages));
+    }
+
+-- of a call that leaves messages and versions alone
+abbrev pub quiet : Tables → List ℕ → Answer → Effects
+quiet after output answer =
+    record {
+      tables = after;
+      leaves = [];
+      joins = [];
+      origin = nobody;
+      begins = [];
+      stores = [];
+      output = output;
+      answer = answer;
+    }
+
+-- a prepare stores its item; past the frame the output keeps its bytes
+abbrev pub effects : Tables → Call → Effects
+effects t (startRead d s) = started d (startedRead t d s) (gets t d s) []
+effects t (startWrite d s bytes) = started d (startedWrite t d s bytes) (prepares t d s bytes)
+    (writer t d s bytes .write ∷ [])
+effects t (deliver i) =
+    let m = messageAt t i in
+    record {
+      tables = deliveredAt t i;
+      leaves = i ∷ [];
+      joins = joined t m;
+      origin = follows i;
+      begins = [];
+      stores = cond (isPrepare m) (itemOf m ∷ []) [];
+      output = [];
+      answer = Delivered (kindOf m) (length (deliveredAt t i .messages)) (outcomeOf t m);
+    }
+effects t (show d output) = quiet t (shownFrame t d ++ drop (length (shownFrame t d)) output)
+    (Shown (length (shownFrame t d)))
+
 unfoldable pub effect : Tables → Call → Tables
-effect t (startRead d s) = startedRead t d s
-effect t (startWrite d s bytes) = startedWrite t d s bytes
-effect t (deliver i) = deliveredAt t i
-effect t (show d output) = t
+effect t c = effects t c .tables
 
 unfoldable pub reply : Tables → Call → Answer
-reply t (startRead d s) = Started (length (effect t (startRead d s) .messages))
-reply t (startWrite d s bytes) = Started (length (effect t (startWrite d s bytes) .messages))
-reply t (deliver i) =
-    Delivered (kindOf (messageAt t i)) (length (effect t (deliver i) .messages))
-    (outcomeOf t (messageAt t i))
-reply t (show d output) = Shown (length (shownFrame t d))
+reply t c = effects t c .answer
 
--- the output after an accepted call: past the frame it keeps its bytes
 unfoldable pub written : Tables → Call → List ℕ
-written t (startRead d s) = []
-written t (startWrite d s bytes) = []
-written t (deliver i) = []
-written t (show d output) = shownFrame t d ++ drop (length (shownFrame t d)) output
+written t c = effects t c .output
 
 -- the lent output before a call
 unfoldable pub lent : Call → List ℕ

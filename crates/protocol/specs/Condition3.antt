@@ -14,14 +14,17 @@ use Rattle.hex.specs.Number.{numberAt, bigEndian}
 use Rattle.itemset.specs.Set.{has, count, rank}
 use Rattle.protocol.specs.declared.Answer.the-variants.{Shown}
 use Rattle.protocol.specs.Tables.{numberOf, writerOf}
+use Rattle.protocol.specs.Message.{ownerOf}
 use Rattle.protocol.specs.Range.{Capacities}
 use Rattle.protocol.specs.Steps.{nextStamp}
 use Rattle.protocol.specs.Calls.{Call, startRead, startWrite, deliver, show, refusal, step}
-use Rattle.protocol.specs.World.{World, Labelled, Write, Store, ownerOf, begun, storing}
+use Rattle.protocol.specs.World.{World, Labelled, Write, Store, begun, storing}
 use Rattle.protocol.specs.World.{after, joiningOver, leavingOver, isRequest, isReply}
 use Rattle.protocol.specs.World.{isReplyFor, isReadMessage, outcomeIn, endsFor, stays, rests}
 
--- ---- What a read of s shows: what the output bytes of a showing say of item k (number 4, writing client 1, value 4)
+-- ---- What a read of s shows of item k, in the output bytes of a showing
+
+-- number (4), writing client (1), value (4)
 
 abbrev pub shownNumber : ℕ → List ℕ → ℕ → ℕ
 shownNumber s output k = numberAt 4 output (10 + 9 * rank s k)
@@ -60,8 +63,9 @@ abbrev pub answeredAt : Labelled → ℕ
 answeredAt reply = reply .label .since
 
 module _ (caps : Capacities) (w : World) where
-  -- ---- Transactions in a list of calls: accepted after the calls `before`, under way during the calls `during`, ended by the call `end`
+  -- ---- Transactions in a list of calls
 
+  -- accepted after the calls `before`, under way during the calls `during`, ended by the call `end`
   pub record UnderWay (d : ℕ) (start : Call) (before during : List Call) : Type 0 where
     pub accepted : refusal caps (after caps w before .tables) start ≡ 0
     pub unended : stays caps (after caps w (before ++ start ∷ [])) d during ≡ true
@@ -143,12 +147,12 @@ module _ (caps : Capacities) (w : World) where
         → after caps w (before ++ c ∷ []) .tables ≡ step caps
         (after caps w before .tables) c .tables
     -- 'A message is of the desk whose start put it there, or of the same desk as the message whose
-    -- delivery did': the labelled pile holds the tables' messages, and a label's client is the one
+    -- delivery did': the labelled messages are the tables' own, and a label's client is the one
     -- that the message's own fields name
     pub labels : (before rest : List Call) → calls ≡ before ++ rest
-        → (map (λ l. l .message) (after caps w before .pile) ≡ after caps w
+        → (map (λ l. l .message) (after caps w before .inFlight) ≡ after caps w
         before .tables .messages)
-        × ((l : Labelled) → In l (after caps w before .pile)
+        × ((l : Labelled) → In l (after caps w before .inFlight)
         → l .label .client ≡ ownerOf (l .message))
     -- the history's writes and stores are w's and those that accepted calls of the list add
     pub history : (a : Write) → In a (after caps w calls .writes)
@@ -160,7 +164,7 @@ module _ (caps : Capacities) (w : World) where
         → calls ≡ before ++ startRead d s ∷ during ++ rest
         → UnderWay d (startRead d s) before during
         → (k : ℕ) → has s k ≡ true → counted (isReplyFor d k) (came d s before during) ≡ 0
-        → counted (isReadMessage d k) (now d s before during .pile) ≡ 1
+        → counted (isReadMessage d k) (now d s before during .inFlight) ≡ 1
     -- 'the delivery of its n-th reply, and no other, reports it ended'
     pub ends : (before during rest : List Call) (d s : ℕ) (c : Call)
         → calls ≡ before ++ startRead d s ∷ during ++ c ∷ rest

@@ -1,4 +1,5 @@
--- The log frame of an ended transaction (document 01, 'Frames'): what a showing writes.
+-- The log frame of an ended transaction (document 01, 'Frames'), which a showing writes: a read
+-- part and a write part, either of which may be absent.
 use mathlib.Core.List.{List, [], _∷_, _++_}
 use Prim.Native.Nat.{ℕ}
 use Rattle.hex.specs.Number.{bigEndian}
@@ -15,12 +16,19 @@ abbrev pub shownEntry : ℕ → ℕ → List ℕ
 shownEntry stamp value = bigEndian 4 (numberOf stamp) ++ bigEndian 1
     (writerOf stamp) ++ bigEndian 4 value
 
--- `21` client, set, then per item its entry; `20` client, set, number, values
+-- after these bytes, a read part: set, then per item its entry
+abbrev pub withRead : List ℕ → ℕ → (ℕ → ℕ) → (ℕ → ℕ) → List ℕ
+withRead before s stamps values =
+    before ++ bigEndian 8 s ++ listed (λ k. shownEntry (stamps k) (values k)) (members 64 s)
+
+-- after these bytes, a write part: set, number, values
+abbrev pub withWrite : List ℕ → ℕ → ℕ → (ℕ → ℕ) → List ℕ
+withWrite before s stamp values =
+    before ++ bigEndian 8 s ++ bigEndian 4 (numberOf stamp) ++ listed (λ k. bigEndian 4 (values k))
+    (members 64 s)
+
+-- kind, client, and the parts that a frame of that kind has: `21` a read part, `20` a write part
 unfoldable pub frame : ℕ → Ended → List ℕ
 frame d nothing = []
-frame d (read s stamps values) =
-    0x21 ∷ bigEndian 1 d ++ bigEndian 8 s ++ listed (λ k. shownEntry (stamps k) (values k))
-    (members 64 s)
-frame d (write s stamp values) =
-    0x20 ∷ bigEndian 1 d ++ bigEndian 8 s ++ bigEndian 4 (numberOf stamp) ++ listed
-    (λ k. bigEndian 4 (values k)) (members 64 s)
+frame d (read s stamps values) = withRead (0x21 ∷ bigEndian 1 d) s stamps values
+frame d (write s stamp values) = withWrite (0x20 ∷ bigEndian 1 d) s stamp values

@@ -1,10 +1,10 @@
 -- Document 01 as definitions, in its order: the tables, what is in range, the steps, showing, the
 -- refusals, the calls.
 pub mod Tables
+pub mod Message
 pub mod Range
 pub mod Steps
 pub mod Frame
 pub mod Calls
 pub mod World
-pub mod Clear
 pub mod Condition3

@@ -1,6 +1,6 @@
 -- What is in range, and the load (document 01, 'Tables'): the fields that a block's words are held
 -- to.
-use mathlib.Core.Bool.{Bool, true, false, cond, not, _&&_, _||_}
+use mathlib.Core.Bool.{Bool, true, cond, not, _&&_, _||_}
 use Prim.Native.Nat.{ℕ, zero, suc, _+_, _-_, _^_}
 use lib.Dec.{eqb, ltb, leb}
 use lib.ListN.{length}
@@ -9,10 +9,10 @@ use Rattle.itemset.specs.Set.{has, count, allBelow}
 use Rattle.protocol.specs.declared.Version.{Version}
 use Rattle.protocol.specs.declared.Entry.{Entry}
 use Rattle.protocol.specs.declared.Message.{Message}
-use Rattle.protocol.specs.declared.Message.the-variants.{Prepare, Prepared, Commit, Get, Got}
 use Rattle.protocol.specs.Tables.{Sizes, Tables, Client, ReadPart, WritePart, Ended, nothing}
 use Rattle.protocol.specs.Tables.{read, write}
 use Rattle.protocol.specs.Tables.{numberOf, writerOf}
+use Rattle.protocol.specs.Message.{partsOf, isPrepare, namesClient}
 
 -- counts are at most 4,294,967,295 and values of 32 bits
 abbrev pub fits : ℕ → Bool
@@ -52,15 +52,16 @@ versionInRange z v =
     isItem z (v .item) && fits (v .value) && stampInRange z (v .stamp) && notInitial (v .stamp)
     && allBelow (v .set) (z .items) && has (v .set) (v .item)
 
--- a prepared reply or commit isn't of the initial stamp
+-- every part of a message is in range, the place as a client or as a partition; a prepare, prepared
+-- reply or commit isn't of the initial stamp, and a prepare's set has its item
 unfoldable pub messageInRange : Sizes → Message → Bool
-messageInRange z (Prepare v) = versionInRange z v
-messageInRange z (Prepared k stamp) = isItem z k && stampInRange z stamp && notInitial stamp
-messageInRange z (Commit p stamp) = isPartition z p && stampInRange z stamp && notInitial stamp
-messageInRange z (Get d k stamp) = isClient z d && isItem z k && stampInRange z stamp
-messageInRange z (Got d v latest) =
-    isClient z d && isItem z (v .item) && fits (v .value) && stampInRange z (v .stamp)
-    && entryInRange z latest
+messageInRange z m =
+    let p = partsOf m in
+    cond (namesClient m) (isClient z (p .place)) (isPartition z (p .place))
+    && isItem z (p .item) && fits (p .value) && stampInRange z (p .stamp)
+    && allBelow (p .set) (z .items) && entryInRange z (p .latest)
+    && (namesClient m || notInitial (p .stamp))
+    && (not (isPrepare m) || has (p .set) (p .item))
 
 -- every item of s has p
 abbrev pub each : Sizes → ℕ → (ℕ → Bool) → Bool
@@ -128,13 +129,6 @@ total (suc n) f = total n f + f (suc n)
 
 unfoldable pub load : Tables → ℕ
 load t = length (t .messages) + total (t .sizes .clients) (λ d. arrived (t .client d))
-
-unfoldable pub isPrepare : Message → Bool
-isPrepare (Prepare v) = true
-isPrepare (Prepared k stamp) = false
-isPrepare (Commit p stamp) = false
-isPrepare (Get d k stamp) = false
-isPrepare (Got d v latest) = false
 
 -- stored versions + prepares in flight
 unfoldable pub occupied : Tables → ℕ

@@ -99,7 +99,10 @@ unfoldable pub found : List Version → ℕ → ℕ → Version
 found [] k stamp = version k 0 stamp 0
 found (v ∷ vs) k stamp = cond (alike k stamp v) v (found vs k stamp)
 
--- ---- The five deliveries. Each message changes the tables beside the messages in flight (`delivered`), and makes messages join (`joined`)
+-- ---- The five deliveries
+
+-- Each message changes the tables beside the messages in flight (`delivered`), and makes messages
+-- join (`joined`).
 
 -- item k is struck from those that the read part awaits, and its answer is kept
 abbrev pub answered : Client → ℕ → ℕ → Client

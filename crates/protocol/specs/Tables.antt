@@ -8,9 +8,10 @@ use Rattle.protocol.specs.declared.Version.{Version}
 use Rattle.protocol.specs.declared.Entry.{Entry}
 use Rattle.protocol.specs.declared.Message.{Message}
 
--- ---- Stamp: a number and a writing client (desk), kept as one number; the initial stamp is 0. Later is greater:
--- the greater number, and with equal numbers the greater client (`stamp-order`, proofs/Stamp.antt).
+-- ---- Stamp: a number and a writing client (desk), kept as one number
 
+-- The initial stamp is 0. Later is greater: the greater number, and with equal numbers the greater
+-- client (`stamp-order`, proofs/Stamp.antt).
 abbrev pub stampOf : ℕ → ℕ → ℕ
 stampOf number client = number * 16 + client
 

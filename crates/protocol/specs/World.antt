@@ -1,6 +1,6 @@
--- A run of calls with provenance (document 01, 'Whole lists of calls'): the pile beside the tables,
--- each message with a label that the start gives and a delivery passes on, and the history of
--- accepted writes and of delivered prepares.
+-- A run of calls with provenance (document 01, 'Whole lists of calls'): the messages in flight
+-- beside the tables, each message with a label that the start gives and a delivery passes on, and
+-- the history of accepted writes and of delivered prepares.
 use mathlib.Core.Bool.{Bool, true, false, cond, not, _&&_, _||_}
 use mathlib.Core.List.{List, [], _∷_, _++_, map}
 use Prim.Native.Nat.{ℕ, suc}
@@ -8,17 +8,20 @@ use lib.Dec.{eqb}
 use lib.ListN.{getD}
 use Rattle.basics.specs.Lists.{without}
 use Rattle.protocol.specs.declared.Message.{Message}
-use Rattle.protocol.specs.declared.Message.the-variants.{Prepare, Prepared, Commit, Get, Got}
+use Rattle.protocol.specs.declared.Message.the-variants.{Commit}
 use Rattle.protocol.specs.declared.Answer.{Answer}
 use Rattle.protocol.specs.declared.Answer.the-variants.{Refused, Made, Started, Delivered}
 use Rattle.protocol.specs.declared.Answer.the-variants.{Shown}
-use Rattle.protocol.specs.Tables.{Tables, Sizes, fresh, writerOf}
+use Rattle.protocol.specs.Tables.{Tables, Sizes, WritePart, fresh}
+use Rattle.protocol.specs.Message.{isGet, isGot, itemOf}
 use Rattle.protocol.specs.Range.{Capacities}
-use Rattle.protocol.specs.Steps.{gets, prepares, joined, nextStamp, valueOf}
-use Rattle.protocol.specs.Calls.{Call, startRead, startWrite, deliver, show, refusal, effect}
-use Rattle.protocol.specs.Calls.{step}
+use Rattle.protocol.specs.Calls.{Call, refusal, Origin, nobody, starts, follows, Effects}
+use Rattle.protocol.specs.Calls.{effects, effect, step}
 
--- ---- Labels. A time is a number of calls: the first of a list is made at its world's time, each later one a unit later.
+-- ---- Labels
+
+-- A time is a number of calls: the first of a list is made at its world's time, each later one a unit
+-- later.
 
 -- whose message it is, the time of the start that it goes back to, and the time at which it joined
 pub record Label : Type 0 where
@@ -30,11 +33,9 @@ pub record Labelled : Type 0 where
   pub label : Label
   pub message : Message
 
--- an accepted write: its start's time, its client, the stamp that its start makes, its set and
--- values
+-- an accepted write: its start's time, the stamp that its start makes, its set and values
 pub record Write : Type 0 where
   pub start : ℕ
-  pub client : ℕ
   pub stamp : ℕ
   pub set : ℕ
   pub values : ℕ → ℕ
@@ -48,74 +49,61 @@ pub record Store : Type 0 where
 pub record World : Type 0 where
   pub time : ℕ
   pub tables : Tables
-  pub pile : List Labelled
+  pub inFlight : List Labelled
   pub writes : List Write
   pub stores : List Store
 
 -- freshly made tables, and nothing has happened
 abbrev pub begin : Sizes → World
-begin z = record { time = 0; tables = fresh z; pile = []; writes = []; stores = [] }
+begin z = record { time = 0; tables = fresh z; inFlight = []; writes = []; stores = [] }
 
 -- ---- What an accepted call makes join and leave, and what it adds to the history
-
-abbrev pub placed : World → ℕ → Labelled
-placed w i = getD (w .pile) i (record {
-  label = record { client = 0; start = 0; since = 0 };
-  message = Commit 0 0;
-})
 
 abbrev pub labelled : ℕ → ℕ → ℕ → Message → Labelled
 labelled client start since m = record
     { label = record { client = client; start = start; since = since }; message = m }
 
-unfoldable pub joining : World → Call → List Labelled
-joining w (startRead d s) = map (labelled d (w .time) (w .time)) (gets (w .tables) d s)
-joining w (startWrite d s bytes) =
-    map (labelled d (w .time) (w .time)) (prepares (w .tables) d s bytes)
-joining w (deliver i) =
+-- the message at a place, with its label
+abbrev pub placed : World → ℕ → Labelled
+placed w i = getD (w .inFlight) i (labelled 0 0 0 (Commit 0 0))
+
+-- the label of a message that joins
+abbrev pub labelFor : World → Origin → Label
+labelFor w nobody = record { client = 0; start = w .time; since = w .time }
+labelFor w (starts d) = record { client = d; start = w .time; since = w .time }
+labelFor w (follows i) =
     let l = placed w i .label in
-    map (labelled (l .client) (l .start) (w .time)) (joined (w .tables) (placed w i .message))
-joining w (show d output) = []
+    record { client = l .client; start = l .start; since = w .time }
+
+-- the elements without those at these places, which ascend
+unfoldable pub withoutAll : {A : Type 0} → List ℕ → List A → List A
+withoutAll [] xs = xs
+withoutAll (i ∷ is) xs = without i (withoutAll is xs)
+
+abbrev pub does : World → Call → Effects
+does w c = effects (w .tables) c
+
+unfoldable pub joining : World → Call → List Labelled
+joining w c =
+    let l = labelFor w (does w c .origin) in
+    map (labelled (l .client) (l .start) (l .since)) (does w c .joins)
 
 unfoldable pub leaving : World → Call → List Labelled
-leaving w (startRead d s) = []
-leaving w (startWrite d s bytes) = []
-leaving w (deliver i) = placed w i ∷ []
-leaving w (show d output) = []
+leaving w c = map (placed w) (does w c .leaves)
 
 unfoldable pub staying : World → Call → List Labelled
-staying w (startRead d s) = w .pile
-staying w (startWrite d s bytes) = w .pile
-staying w (deliver i) = without i (w .pile)
-staying w (show d output) = w .pile
+staying w c = withoutAll (does w c .leaves) (w .inFlight)
+
+abbrev pub writeAt : ℕ → WritePart → Write
+writeAt time p = record { start = time; stamp = p .stamp; set = p .set; values = p .values }
 
 unfoldable pub begun : World → Call → List Write
-begun w (startRead d s) = []
-begun w (startWrite d s bytes) =
-    record {
-      start = w .time;
-      client = d;
-      stamp = nextStamp (w .tables) d;
-      set = s;
-      values =
-          valueOf s bytes;
-    } ∷ []
-begun w (deliver i) = []
-begun w (show d output) = []
-
--- a prepare that is delivered stores its item
-unfoldable pub landed : ℕ → Label → Message → List Store
-landed time l (Prepare v) = record { start = l .start; item = v .item; time = time } ∷ []
-landed time l (Prepared k stamp) = []
-landed time l (Commit p stamp) = []
-landed time l (Get d k stamp) = []
-landed time l (Got d v latest) = []
+begun w c = map (writeAt (w .time)) (does w c .begins)
 
 unfoldable pub storing : World → Call → List Store
-storing w (startRead d s) = []
-storing w (startWrite d s bytes) = []
-storing w (deliver i) = landed (w .time) (placed w i .label) (placed w i .message)
-storing w (show d output) = []
+storing w c =
+    let l = labelFor w (does w c .origin) in
+    map (λ k. record { start = l .start; item = k; time = w .time }) (does w c .stores)
 
 -- ---- One call after another. A refused call takes its time and does nothing.
 
@@ -127,20 +115,20 @@ moved w c =
     record {
       time = suc (w .time);
       tables = effect (w .tables) c;
-      pile = staying w c ++ joining w c;
+      inFlight = staying w c ++ joining w c;
       writes = w .writes ++ begun w c;
       stores = w .stores ++ storing w c;
     }
 
 abbrev pub passed : World → World
-passed w = record {
-  time = suc (w .time);
-  tables = w .tables;
-  pile = w .pile;
-  writes =
-      w .writes;
-  stores = w .stores;
-}
+passed w =
+    record {
+      time = suc (w .time);
+      tables = w .tables;
+      inFlight = w .inFlight;
+      writes = w .writes;
+      stores = w .stores;
+    }
 
 unfoldable pub next : Capacities → World → Call → World
 next caps w c = cond (accepts caps w c) (moved w c) (passed w)
@@ -161,36 +149,6 @@ leavingOver caps w (c ∷ cs) = cond (accepts caps w c) (leaving w c) [] ++ leav
     (next caps w c) cs
 
 -- ---- Whose, and of which item
-
-unfoldable pub isGet : Message → Bool
-isGet (Prepare v) = false
-isGet (Prepared k stamp) = false
-isGet (Commit p stamp) = false
-isGet (Get d k stamp) = true
-isGet (Got d v latest) = false
-
-unfoldable pub isGot : Message → Bool
-isGot (Prepare v) = false
-isGot (Prepared k stamp) = false
-isGot (Commit p stamp) = false
-isGot (Get d k stamp) = false
-isGot (Got d v latest) = true
-
--- of a message that is about one item
-unfoldable pub itemOf : Message → ℕ
-itemOf (Prepare v) = v .item
-itemOf (Prepared k stamp) = k
-itemOf (Commit p stamp) = 0
-itemOf (Get d k stamp) = k
-itemOf (Got d v latest) = v .item
-
--- the client that a message's own fields name
-unfoldable pub ownerOf : Message → ℕ
-ownerOf (Prepare v) = writerOf (v .stamp)
-ownerOf (Prepared k stamp) = writerOf stamp
-ownerOf (Commit p stamp) = writerOf stamp
-ownerOf (Get d k stamp) = d
-ownerOf (Got d v latest) = d
 
 -- a request and a reply of client d, by its label
 abbrev pub isRequest : ℕ → Labelled → Bool
@@ -216,11 +174,13 @@ outcomeIn (Delivered kind n outcome) = outcome
 outcomeIn (Shown n) = 0
 
 -- the call delivers a message of client d
+abbrev pub isDelivery : World → ℕ → Origin → Bool
+isDelivery w d nobody = false
+isDelivery w d (starts e) = false
+isDelivery w d (follows i) = eqb (placed w i .label .client) d
+
 unfoldable pub delivers : World → ℕ → Call → Bool
-delivers w d (startRead e s) = false
-delivers w d (startWrite e s bytes) = false
-delivers w d (deliver i) = eqb (placed w i .label .client) d
-delivers w d (show e output) = false
+delivers w d c = isDelivery w d (does w c .origin)
 
 -- a delivery of a message of client d that answers 01 or 02 as outcome
 abbrev pub endsFor : Capacities → World → ℕ → Call → Bool
@@ -232,13 +192,16 @@ stays caps w d [] = true
 stays caps w d (c ∷ cs) = not (endsFor caps w d c) && stays caps (next caps w c) d cs
 
 -- the call starts a transaction of client d, once accepted
-unfoldable pub startsFor : ℕ → Call → Bool
-startsFor d (startRead e s) = eqb e d
-startsFor d (startWrite e s bytes) = eqb e d
-startsFor d (deliver i) = false
-startsFor d (show e output) = false
+abbrev pub isStart : ℕ → Origin → Bool
+isStart d nobody = false
+isStart d (starts e) = eqb e d
+isStart d (follows i) = false
+
+unfoldable pub startsFor : World → ℕ → Call → Bool
+startsFor w d c = isStart d (does w c .origin)
 
 -- no accepted call of the list is a start of client d
 unfoldable pub rests : Capacities → World → ℕ → List Call → Bool
 rests caps w d [] = true
-rests caps w d (c ∷ cs) = not (accepts caps w c && startsFor d c) && rests caps (next caps w c) d cs
+rests caps w d (c ∷ cs) = not (accepts caps w c && startsFor w d c)
+    && rests caps (next caps w c) d cs

@@ -22,15 +22,16 @@ use Rattle.protocol.specs.Tables.{Sizes, Tables, fresh, numberOf, writer
 use Rattle.protocol.specs.Range.{capacities, valid, inRange, stampInRange, sizesInRange}
 use Rattle.protocol.specs.Range.{entryInRange, versionInRange, messageInRange, endedInRange}
 use Rattle.protocol.specs.Range.{clientInRange, readPartInRange, writePartInRange}
-use Rattle.protocol.specs.Range.{arrived, total, load, occupied, isPrepare}
+use Rattle.protocol.specs.Range.{arrived, total, load, occupied}
 use Rattle.protocol.specs.Steps.{choice, stored, found, delivered, joined, touches}
 use Rattle.protocol.specs.Frame.{listed, frame}
 use Rattle.protocol.specs.Calls.{Call, Given, first, refusal, freshAnswer, unexpected}
-use Rattle.protocol.specs.Calls.{missing, isNothing, kindOf, outcomeOf, effect, reply}
+use Rattle.protocol.specs.Calls.{missing, isNothing, outcomeOf, effect, reply}
 use Rattle.protocol.specs.Calls.{written, lent, step, bytesOfAnswer}
 
--- ---- A line: a call, its answer's digits, and the digits of what its output keeps (past the frame shown; all of it after a refusal)
+-- ---- A line: a call, its answer's digits, and the digits of what its output keeps
 
+-- past the frame shown; after a refusal all of it
 pub record Line : Type 0 where
   pub call : Call
   pub answer : String
@@ -44,7 +45,7 @@ c ⇒ answer = record { call = c; answer = answer; kept = "" }
 abbrev pub _keeping_ : Line → String → Line
 l keeping kept = record { call = l .call; answer = l .answer; kept = kept }
 
--- ---- A row: a fresh start with its answer's digits, or tables, or several; then its lines, and a test of the tables after them
+-- ---- A row: a fresh start, or tables, with lines and a test of the tables after them
 
 pub data Start : Type 0 where
   freshly : Sizes → String → Start
@@ -63,12 +64,11 @@ anything t = true
 -- ---- What the definitions give
 
 unfoldable pub given : Tables → Call → Given
-unfolding step refusal first unexpected missing isNothing effect reply written lent kindOf outcomeOf
-    valid inRange sizesInRange stampInRange entryInRange versionInRange messageInRange endedInRange
-    clientInRange readPartInRange writePartInRange load arrived total occupied isPrepare choice
-    stored found delivered joined
-    touches listed frame every all counted without has upto remove ones onesIn bigEndian
-    numberAt
+unfolding step refusal first unexpected missing isNothing effect reply written lent outcomeOf valid
+    inRange sizesInRange stampInRange entryInRange versionInRange messageInRange endedInRange
+    clientInRange readPartInRange writePartInRange load arrived total occupied choice stored found
+    delivered joined touches listed frame every all counted without has upto remove ones onesIn
+    bigEndian numberAt
 given t c = step capacities t c
 
 unfoldable pub made : Sizes → Answer
@@ -134,11 +134,11 @@ same (x ∷ xs) [] = false
 same (x ∷ xs) (y ∷ ys) = eqb x y && same xs ys
 
 -- the messages have these fields
-abbrev pub pileIs : List Message → List (List ℕ) → Bool
-pileIs [] [] = true
-pileIs [] (f ∷ fs) = false
-pileIs (m ∷ ms) [] = false
-pileIs (m ∷ ms) (f ∷ fs) = same (fieldsOf m) f && pileIs ms fs
+abbrev pub messagesAre : List Message → List (List ℕ) → Bool
+messagesAre [] [] = true
+messagesAre [] (f ∷ fs) = false
+messagesAre (m ∷ ms) [] = false
+messagesAre (m ∷ ms) (f ∷ fs) = same (fieldsOf m) f && messagesAre ms fs
 
 -- the entry has this number, writing desk and write set
 abbrev pub entryIs : Entry → ℕ → ℕ → ℕ → Bool

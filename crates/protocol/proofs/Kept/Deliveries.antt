@@ -59,7 +59,8 @@ range-delivered t (Got d v latest) r h x =
     let entry = range-later z (t .view d k) latest (view k (h .item)) (h .latest) in
     let c = t .client d in
     let after : EntriesInRange z (put (t .view d) k (laterOf (t .view d k) latest)) =
-    λ j l. put-all (EntryInRange z) (t .view d) k (laterOf (t .view d k) latest) j entry (view j l) in
+    λ j l. put-all (EntryInRange z) (t .view d) k (laterOf (t .view d k) latest) j entry
+    (view j l) in
     range-both t r d (got c k (v .value)) _
     (range-got z c k (v .value) (r .client d (h .client)) (x .awaited) (h .value))
     (by-cond (EntriesInRange z) (isLast ofRead c k) _ _

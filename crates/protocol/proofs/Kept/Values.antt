@@ -1,6 +1,6 @@
 -- The stamps, entries and clients that a step makes are in range, where those that it makes them
 -- from are.
-use mathlib.Core.Bool.{true, false, not, _&&_, and-false}
+use mathlib.Core.Bool.{true, false, not, _&&_}
 use mathlib.Core.List.{List, [], _∷_}
 use mathlib.Core.Logic.{_≢_, inl, inr}
 use mathlib.Core.Path.{_≡_, refl, sym, _∙_, subst}
@@ -18,7 +18,7 @@ use Rattle.protocol.specs.declared.Entry.{Entry}
 use Rattle.protocol.specs.Tables.{Sizes, Tables, Client, ReadPart, Ended, read, write}
 use Rattle.protocol.specs.Tables.{ofRead, ofWrite}
 use Rattle.protocol.specs.Tables.{noRead, noWrite, laterOf, partitionOf, resting, put}
-use Rattle.protocol.specs.Steps.{alike, stored, found, struck, answered, isLast, ended}
+use Rattle.protocol.specs.Steps.{alike, stored, found, answered, isLast, ended}
 use Rattle.protocol.specs.Steps.{prepared, got, seen, committed}
 use Rattle.protocol.proofs.Each.{Each}
 use Rattle.protocol.proofs.Ranges.Values.{Stamped, StampInRange, EntryInRange}

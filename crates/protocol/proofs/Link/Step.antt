@@ -1,5 +1,5 @@
 -- Freshly made tables are linked to the empty history, and every call keeps the link.
-use mathlib.Core.Bool.{true, _||_}
+use mathlib.Core.Bool.{true, cond, _||_}
 use mathlib.Core.List.{List, [], _∷_, _++_, map, append-nil}
 use mathlib.Core.Logic.{_⊎_, inl, inr, ⊎-elim, _≢_}
 use mathlib.Core.Path.{_≡_, refl, sym, ap, ap₂, _∙_, subst}
@@ -18,20 +18,25 @@ use Rattle.itemset.proofs.Laws.{has-empty}
 use Rattle.protocol.specs.declared.Version.{Version}
 use Rattle.protocol.specs.declared.Message.{Message}
 use Rattle.protocol.specs.declared.Message.the-variants.{Prepare, Prepared, Commit, Get, Got}
-use Rattle.protocol.specs.Tables.{Sizes, Tables, Client, writerOf, put, ofRead, ofWrite}
+use Rattle.protocol.specs.Tables.{Sizes, Client, writerOf, put, ofRead, ofWrite}
+use Rattle.protocol.specs.Message.{isPrepare, itemOf, ownerOf}
 use Rattle.protocol.specs.Range.{Capacities, sizesInRange}
 use Rattle.protocol.specs.Steps.{delivered, joined, messageAt, stored, found, isLast, touches}
-use Rattle.protocol.specs.Steps.{gets, prepares, nextStamp, valueOf, writer, reader, prepared}
-use Rattle.protocol.specs.Steps.{got, asks, version}
-use Rattle.protocol.specs.Calls.{Call, startRead, startWrite, deliver, show, refusal, effect}
+use Rattle.protocol.specs.Steps.{gets, prepares, nextStamp, valueOf, writer, reader}
+use Rattle.protocol.specs.Steps.{asks, version}
+use Rattle.protocol.specs.Calls.{Call, startRead, startWrite, deliver, refusal, nobody}
+use Rattle.protocol.specs.Calls.{Effects, effect}
 use Rattle.protocol.specs.World.{World, Label, Labelled, Write, Store, begin, placed}
-use Rattle.protocol.specs.World.{labelled, landed, joining, staying, begun, storing, accepts}
-use Rattle.protocol.specs.World.{moved, passed, next, ownerOf}
+use Rattle.protocol.specs.World.{labelled, does, withoutAll, joining, leaving, staying, begun}
+use Rattle.protocol.specs.World.{storing, accepts}
+use Rattle.protocol.specs.World.{moved, passed, next}
 use Rattle.protocol.proofs.Each.{each-upto}
-use Rattle.protocol.proofs.Put.{put-every, put-same}
+use Rattle.protocol.proofs.Put.{put-same}
 use Rattle.protocol.proofs.Stored.{found-held}
 use Rattle.protocol.proofs.Ranges.Values.{IsClient}
-use Rattle.protocol.proofs.Refusals.{accepted-write, accepted-deliver}
+use Rattle.protocol.proofs.Sorts.{withViews, Apart, Sort, reads, writes, delivers, apart}
+use Rattle.protocol.proofs.Sorts.{sort}
+use Rattle.protocol.proofs.Keeps.{put-rises, delivered-rises}
 use Rattle.protocol.proofs.Sound.{Ledger, Good, Fits}
 use Rattle.protocol.proofs.Sound.Carry.{owner-client}
 use Rattle.protocol.proofs.Sound.Step.{blank, sound-fresh, sound-accepted, ledgerAfter}
@@ -113,11 +118,12 @@ begin-inv caps z ok =
     record {
       ledger = blank;
       sound = sound-fresh caps z ok;
-      pile = refl;
+      inFlight = refl;
       owners = λ l i. absurd i;
       unique = λ a b p q e. only-origin a p ∙ sym (only-origin b q);
       entered =
-          λ a p. subst (λ (x : Write). Entered blank (begin z .tables .client) x) (sym (only-origin a p))
+          λ a p. subst (λ (x : Write). Entered blank (begin z .tables .client) x)
+          (sym (only-origin a p))
           (record { set = refl; values = λ k e. refl; number = omega arith });
       stored = λ v i. absurd i;
       comes = λ l i. absurd i;
@@ -126,39 +132,38 @@ begin-inv caps z ok =
     only-origin : (a : Write) → In a (known []) → a ≡ origin
     only-origin a p = ⊎-elim (λ e. e) (λ x. absurd x) p
 
--- ---- counts only rise
+-- ---- a call apart makes nothing join or leave, begins and stores nothing
 
-put-rises : (client : ℕ → Client) (d : ℕ) (c′ : Client) → client d .count ≤ c′ .count → (e : ℕ)
-    → client e .count ≤ put client d c′ e .count
-put-rises client d c′ h = put-every
-    (λ (e : ℕ) (x : Client). client e .count ≤ x .count) client d c′ h
-    (λ e n. le-refl (client e .count))
+module _ (w : World) (c : Call) (a : Apart (w .tables) c) where
+  pub apart-tables : effect (w .tables) c ≡ withViews (w .tables) (a .view)
+  unfolding effect
+  apart-tables = ap (λ (x : Effects). x .tables) (a .does)
 
-delivered-rises : (t : Tables) (m : Message) (d : ℕ)
-    → t .client d .count ≤ delivered t m .client d .count
-unfolding delivered
-delivered-rises t (Prepare v) d = le-refl (t .client d .count)
-delivered-rises t (Prepared k s) d =
-    put-rises (t .client) (writerOf s) (prepared (t .client (writerOf s)) k)
-    (by-test (isLast ofWrite (t .client (writerOf s)) k)
-    (λ e. rw e (le-refl (t .client (writerOf s) .count)))
-    (λ e. rw e (le-refl (t .client (writerOf s) .count)))) d
-delivered-rises t (Commit p s) d = le-refl (t .client d .count)
-delivered-rises t (Get e k s) d = le-refl (t .client d .count)
-delivered-rises t (Got e v l) d =
-    put-rises (t .client) e (got (t .client e) (v .item) (v .value))
-    (by-test (isLast ofRead (t .client e) (v .item)) (λ f. rw f (le-refl (t .client e .count)))
-    (λ f. rw f (le-refl (t .client e .count)))) d
+  pub apart-origin : does w c .origin ≡ nobody
+  apart-origin = ap (λ (x : Effects). x .origin) (a .does)
 
-pub effect-rises : (t : Tables) (c : Call) (d : ℕ)
-    → t .client d .count ≤ effect t c .client d .count
-unfolding effect
-effect-rises t (startRead e s) d =
-    put-rises (t .client) e (reader t e s) (le-refl (t .client e .count)) d
-effect-rises t (startWrite e s bytes) d =
-    put-rises (t .client) e (writer t e s bytes) (le-suc (t .client e .count)) d
-effect-rises t (deliver i) d = delivered-rises t (messageAt t i) d
-effect-rises t (show e output) d = le-refl (t .client d .count)
+  pub apart-begins : does w c .begins ≡ []
+  apart-begins = ap (λ (x : Effects). x .begins) (a .does)
+
+  pub apart-joining : joining w c ≡ []
+  unfolding joining
+  apart-joining = rw (ap (λ (x : Effects). x .joins) (a .does)) refl
+
+  pub apart-leaving : leaving w c ≡ []
+  unfolding leaving
+  apart-leaving = rw (ap (λ (x : Effects). x .leaves) (a .does)) refl
+
+  pub apart-staying : staying w c ≡ w .inFlight
+  unfolding staying withoutAll
+  apart-staying = rw (ap (λ (x : Effects). x .leaves) (a .does)) refl
+
+  pub apart-begun : begun w c ≡ []
+  unfolding begun
+  apart-begun = rw apart-begins refl
+
+  pub apart-storing : storing w c ≡ []
+  unfolding storing
+  apart-storing = rw (ap (λ (x : Effects). x .stores) (a .does)) refl
 
 module _ (caps : Capacities) (w : World) (inv : Inv caps w) where
   abbrev L : Ledger
@@ -167,29 +172,30 @@ module _ (caps : Capacities) (w : World) (inv : Inv caps w) where
   -- the labelled message at a place is the tables' own
   pub placed-message : (i : ℕ) → placed w i .message ≡ messageAt (w .tables) i
   placed-message i =
-      sym (List·getD-map (λ (l : Labelled). l .message) (w .pile) i
+      sym (List·getD-map (λ (l : Labelled). l .message) (w .inFlight) i
       (record { label = record { client = 0; start = 0; since = 0 }; message = Commit 0 0 }))
-      ∙ ap (λ (ms : List Message). getD ms i (Commit 0 0)) (inv .pile)
+      ∙ ap (λ (ms : List Message). getD ms i (Commit 0 0)) (inv .inFlight)
 
-  pub length-pile : length (w .pile) ≡ length (w .tables .messages)
-  length-pile = sym (length-map (w .pile) (λ (l : Labelled). l .message)) ∙ ap length (inv .pile)
+  pub length-in-flight : length (w .inFlight) ≡ length (w .tables .messages)
+  length-in-flight = sym (length-map (w .inFlight) (λ (l : Labelled). l .message))
+      ∙ ap length (inv .inFlight)
 
-  pub in-message : (l : Labelled) → In l (w .pile) → In (l .message) (w .tables .messages)
-  in-message l i = subst (λ (ms : List Message). In (l .message) ms) (inv .pile)
-      (map-in (λ (x : Labelled). x .message) l (w .pile) i)
+  pub in-message : (l : Labelled) → In l (w .inFlight) → In (l .message) (w .tables .messages)
+  in-message l i = subst (λ (ms : List Message). In (l .message) ms) (inv .inFlight)
+      (map-in (λ (x : Labelled). x .message) l (w .inFlight) i)
 
-  pub fits : (l : Labelled) → In l (w .pile)
+  pub fits : (l : Labelled) → In l (w .inFlight)
       → Fits L (w .tables .versions) (w .tables .client (ownerOf (l .message))) (l .message)
   fits l i = inv .sound .fits (l .message) (in-message l i)
 
-  pub placed-in : (i : ℕ) → refusal caps (w .tables) (deliver i) ≡ 0 → In (placed w i) (w .pile)
-  placed-in i e =
-      in-getD (w .pile) i (record {
+  pub placed-here : (i : ℕ) → i < length (w .tables .messages) → In (placed w i) (w .inFlight)
+  placed-here i h =
+      in-getD (w .inFlight) i (record {
         label = record { client = 0; start = 0; since = 0 };
         message =
             Commit 0 0;
       })
-      (subst (λ (n : ℕ). i < n) (sym length-pile) (accepted-deliver caps (w .tables) i .0 e .place))
+      (subst (λ (n : ℕ). i < n) (sym length-in-flight) h)
 
   -- ---- the write of a good stamp
 
@@ -243,24 +249,26 @@ module _ (caps : Capacities) (w : World) (inv : Inv caps w) where
       record {
         ledger = L;
         sound = inv .sound;
-        pile = inv .pile;
+        inFlight = inv .inFlight;
         owners = inv .owners;
         unique = inv .unique;
         entered = inv .entered;
-        stored = λ v i. grow-stored w (passed w) (grows-self w) (v .stamp) (v .item) (inv .stored v i);
+        stored = λ v i.
+            grow-stored w (passed w) (grows-self w) (v .stamp) (v .item) (inv .stored v i);
         comes = inv .comes;
       }
 
-  -- ---- what an accepted call owes: the labels that join, the writes that begin, the versions that are stored
+  -- ---- what an accepted call owes: for labels that join, writes that begin, versions stored
 
   pub record Owes (c : Call) : Type 0 where
-    pub pile : map (λ l. l .message) (staying w c ++ joining w c) ≡ effect (w .tables) c .messages
-    pub stays : (l : Labelled) → In l (staying w c) → In l (w .pile)
+    pub inFlight : map (λ l. l .message) (staying w c ++ joining w c) ≡ effect
+        (w .tables) c .messages
+    pub stays : (l : Labelled) → In l (staying w c) → In l (w .inFlight)
     pub owners : (l : Labelled) → In l (joining w c) → l .label .client ≡ ownerOf (l .message)
     pub unique : (a b : Write) → In a (known (w .writes ++ begun w c))
         → In b (known (w .writes ++ begun w c)) → a .stamp ≡ b .stamp → a ≡ b
     pub entered : (a : Write) → In a (known (w .writes ++ begun w c))
-        → Entered (ledgerAfter L (w .tables) c) (effect (w .tables) c .client) a
+        → Entered (ledgerAfter L (does w c .begins)) (effect (w .tables) c .client) a
     pub stored : (v : Version) → In v (effect (w .tables) c .versions)
         → In v (w .tables .versions)
         ⊎ Landed (w .writes ++ begun w c) (w .stores ++ storing w c) (suc (w .time)) (v .stamp)
@@ -272,14 +280,21 @@ module _ (caps : Capacities) (w : World) (inv : Inv caps w) where
   pay c e o =
       let g : Grows w (moved w c) = moved-grows w c in
       record {
-        ledger = ledgerAfter L (w .tables) c;
+        ledger = ledgerAfter L (does w c .begins);
         sound = sound-accepted caps L (w .tables) (inv .sound) c e;
-        pile = o .pile;
-        owners = λ l i. ⊎-elim (λ p. inv .owners l (o .stays l p)) (λ p. o .owners l p) (in-append l (staying w c) (joining w c) i);
+        inFlight = o .inFlight;
+        owners = λ l i.
+            ⊎-elim (λ p. inv .owners l (o .stays l p)) (λ p. o .owners l p)
+            (in-append l (staying w c) (joining w c) i);
         unique = o .unique;
         entered = o .entered;
-        stored = λ v i. ⊎-elim (λ p. grow-stored w (moved w c) g (v .stamp) (v .item) (inv .stored v p)) (λ p. p) (o .stored v i);
-        comes = λ l i. ⊎-elim (λ p. grow-comes w (moved w c) g (l .label) (l .message) (inv .comes l (o .stays l p))) (λ p. o .comes l p) (in-append l (staying w c) (joining w c) i);
+        stored = λ v i.
+            ⊎-elim (λ p. grow-stored w (moved w c) g (v .stamp) (v .item) (inv .stored v p))
+            (λ p. p) (o .stored v i);
+        comes = λ l i.
+            ⊎-elim
+            (λ p. grow-comes w (moved w c) g (l .label) (l .message) (inv .comes l (o .stays l p)))
+            (λ p. o .comes l p) (in-append l (staying w c) (joining w c) i);
       }
 
   -- where no write begins and the ledger stays
@@ -309,26 +324,27 @@ module _ (caps : Capacities) (w : World) (inv : Inv caps w) where
       ap (λ (r : Labelled). r .label .client) (y .2) ∙ sym (own (y .0) (y .1))
       ∙ sym (ap (λ (r : Labelled). ownerOf (r .message)) (y .2))
 
-  joining-pile : (d a b : ℕ) (ls : List Labelled) (ms ns : List Message)
+  joining-messages : (d a b : ℕ) (ls : List Labelled) (ms ns : List Message)
       → map (λ l. l .message) ls ≡ ns
       → map (λ l. l .message) (ls ++ map (labelled d a b) ms) ≡ ns ++ ms
-  joining-pile d a b ls ms ns e =
+  joining-messages d a b ls ms ns e =
       map-append (λ (x : Labelled). x .message) ls (map (labelled d a b) ms)
       ∙ ap₂ (λ (x y : List Message). x ++ y) e (unlabelled d a b ms)
 
   read-owes : (d s : ℕ) → Owes (startRead d s)
-  unfolding effect joining staying begun storing Comes ownerOf
+  unfolding effect joining staying withoutAll begun storing Comes
   read-owes d s =
       record {
-        pile = joining-pile d (w .time) (w .time) (w .pile) (gets (w .tables) d s)
-            (w .tables .messages) (inv .pile);
+        inFlight = joining-messages d (w .time) (w .time) (w .inFlight) (gets (w .tables) d s)
+            (w .tables .messages) (inv .inFlight);
         stays = λ l i. i;
         owners = joining-owners d (w .time) (gets (w .tables) d s)
             (each-upto (λ m. ownerOf m ≡ d) (λ k. Get d k (asks (w .tables) d k))
             (w .tables .sizes .items) (has s) (λ k l e. refl));
         unique = same-unique;
         entered = same-entered (effect (w .tables) (startRead d s) .client)
-            (effect-rises (w .tables) (startRead d s));
+            (put-rises (w .tables .client) d (reader (w .tables) d s)
+            (le-refl (w .tables .client d .count)));
         stored = λ v i. inl i;
         comes = λ l i.
             let y = in-map (labelled d (w .time) (w .time)) l (gets (w .tables) d s) i in
@@ -340,17 +356,19 @@ module _ (caps : Capacities) (w : World) (inv : Inv caps w) where
             (y .0) (y .1));
       }
 
-  show-owes : (d : ℕ) (output : List ℕ) → Owes (show d output)
-  unfolding effect joining staying begun storing
-  show-owes d output =
+  -- a call apart owes nothing
+  apart-owes : (c : Call) → Apart (w .tables) c → Owes c
+  apart-owes c a =
       record {
-        pile = ap (map (λ (l : Labelled). l .message)) (append-nil (w .pile)) ∙ inv .pile;
-        stays = λ l i. i;
-        owners = λ l i. absurd i;
-        unique = same-unique;
-        entered = same-entered (w .tables .client) (λ d. le-refl (w .tables .client d .count));
-        stored = λ v i. inl i;
-        comes = λ l i. absurd i;
+        inFlight = rw (apart-staying w c a, apart-joining w c a, apart-tables w c a)
+            (ap (map (λ (l : Labelled). l .message)) (append-nil (w .inFlight)) ∙ inv .inFlight);
+        stays = λ l i. rw (apart-staying w c a) at i;
+        owners = λ l i. absurd (rw (apart-joining w c a) at i);
+        unique = rw (apart-begun w c a) same-unique;
+        entered = rw (apart-begun w c a, apart-begins w c a, apart-tables w c a)
+            (same-entered (w .tables .client) (λ d. le-refl (w .tables .client d .count)));
+        stored = λ v i. inl (rw (apart-tables w c a) at i);
+        comes = λ l i. absurd (rw (apart-joining w c a) at i);
       }
 
   -- ---- the start of a write
@@ -360,7 +378,7 @@ module _ (caps : Capacities) (w : World) (inv : Inv caps w) where
     stamp = nextStamp (w .tables) d
 
     abbrev new : Write
-    new = record { start = w .time; client = d; stamp = stamp; set = s; values = valueOf s bytes }
+    new = record { start = w .time; stamp = stamp; set = s; values = valueOf s bytes }
 
     abbrev L′ : Ledger
     L′ = entered L stamp s (valueOf s bytes)
@@ -395,7 +413,8 @@ module _ (caps : Capacities) (w : World) (inv : Inv caps w) where
     new-entered =
         record {
           set = sym (put-same (L .set) stamp s);
-          values = λ k e. sym (ap (λ (f : ℕ → ℕ). f k) (put-same (L .value) stamp (valueOf s bytes)));
+          values = λ k e.
+              sym (ap (λ (f : ℕ → ℕ). f k) (put-same (L .value) stamp (valueOf s bytes)));
           number = rw (writer-is, put-same (w .tables .client) d (writer (w .tables) d s bytes))
               (omega arith);
         }
@@ -422,11 +441,12 @@ module _ (caps : Capacities) (w : World) (inv : Inv caps w) where
     prepare k = Prepare (version k (valueOf s bytes k) stamp s)
 
     write-owes : Owes (startWrite d s bytes)
-    unfolding effect joining staying begun storing Comes ownerOf
+    unfolding effect joining staying withoutAll begun storing Comes
     write-owes =
         record {
-          pile = joining-pile d (w .time) (w .time) (w .pile) (prepares (w .tables) d s bytes)
-              (w .tables .messages) (inv .pile);
+          inFlight = joining-messages d (w .time) (w .time) (w .inFlight)
+              (prepares (w .tables) d s bytes)
+              (w .tables .messages) (inv .inFlight);
           stays = λ l i. i;
           owners = joining-owners d (w .time) (prepares (w .tables) d s bytes)
               (each-upto (λ m. ownerOf m ≡ d) prepare (w .tables .sizes .items) (has s)
@@ -454,12 +474,17 @@ module _ (caps : Capacities) (w : World) (inv : Inv caps w) where
 
   -- ---- a delivery
 
+  -- what the delivery of m stores, by its label
+  abbrev landed : Label → Message → List Store
+  landed l m = map (λ k. record { start = l .start; item = k; time = w .time })
+      (cond (isPrepare m) (itemOf m ∷ []) [])
+
   stored-after : (l : Label) (m : Message) → Comes (w .writes) (w .stores) l m → (v : Version)
       → In v (delivered (w .tables) m .versions)
       → In v (w .tables .versions)
-      ⊎ Landed (w .writes ++ []) (w .stores ++ landed (w .time) l m) (suc (w .time)) (v .stamp)
+      ⊎ Landed (w .writes ++ []) (w .stores ++ landed l m) (suc (w .time)) (v .stamp)
       (v .item)
-  unfolding delivered landed Comes
+  unfolding delivered Comes
   stored-after l (Prepare u) x v i =
       ⊎-elim (λ p. inl p)
       (⊎-elim
@@ -487,11 +512,12 @@ module _ (caps : Capacities) (w : World) (inv : Inv caps w) where
   stored-after l (Get d k s) x v i = inl i
   stored-after l (Got d u e) x v i = inl i
 
-  joins-come : (l : Label) (m : Message) → In (record { label = l; message = m }) (w .pile)
-      → (σs : List Store) → (j : Message) → In j (joined (w .tables) m)
+  joins-come : (l : Label) (m : Message)
+      → Fits L (w .tables .versions) (w .tables .client (ownerOf m)) m → (σs : List Store)
+      → (j : Message) → In j (joined (w .tables) m)
       → Comes (w .writes ++ []) (w .stores ++ σs)
       (record { client = l .client; start = l .start; since = w .time }) j
-  unfolding joined Comes Fits ownerOf
+  unfolding joined Comes Fits
   joins-come l (Prepare v) here σs j (inl e) =
       subst (λ (x : Message). Comes (w .writes ++ []) (w .stores ++ σs)
       (record { client = l .client; start = l .start; since = w .time }) x) (sym e) tt
@@ -506,8 +532,7 @@ module _ (caps : Capacities) (w : World) (inv : Inv caps w) where
       (λ e. absurd (rw e at i))
   joins-come l (Commit p s) here σs j i = absurd i
   joins-come l (Get d k s) here σs j (inl e) =
-      let x : WriteOf k s = write-of k s
-      (fits (record { label = l; message = Get d k s }) here .good) in
+      let x : WriteOf k s = write-of k s (here .good) in
       subst (λ (x : Message). Comes (w .writes ++ []) (w .stores ++ σs)
       (record { client = l .client; start = l .start; since = w .time }) x) (sym e)
       (record {
@@ -528,58 +553,56 @@ module _ (caps : Capacities) (w : World) (inv : Inv caps w) where
       (λ f. absurd (rw f at i))
 
   -- a write part under way is stamped by its client
-  own-stamp : (i : ℕ) → In (placed w i) (w .pile) → (d : ℕ) → ownerOf (placed w i .message) ≡ d
+  own-stamp : (m : Message) → In m (w .tables .messages) → (d : ℕ) → ownerOf m ≡ d
       → w .tables .client d .write .set ≢ 0
       → writerOf (w .tables .client d .write .stamp) ≡ d
-  own-stamp i here d e some =
+  own-stamp m here d e some =
       let is : IsClient (w .tables .sizes) d = subst (λ (x : ℕ). IsClient (w .tables .sizes) x) e
-      (owner-client caps (inv .ledger) (w .tables) (inv .sound) (placed w i .message)
-      (in-message (placed w i) here)) in
+      (owner-client caps (inv .ledger) (w .tables) (inv .sound) m here) in
       let small : d < 16 = omega (arith, inv .sound .valid .inRange .sizes .clients) in
       omega (arith, inv .sound .writes d is some .newest)
 
-  deliver-owes : (i : ℕ) → In (placed w i) (w .pile) → Owes (deliver i)
-  unfolding effect joining staying begun storing
+  deliver-owes : (i : ℕ) → In (placed w i) (w .inFlight) → Owes (deliver i)
+  unfolding effect joining staying withoutAll begun storing
   deliver-owes i here =
       let l : Label = placed w i .label in
-      let m : Message = placed w i .message in
+      let m : Message = messageAt (w .tables) i in
+      let same : placed w i .message ≡ m = placed-message i in
+      let in-flight : In m (w .tables .messages) =
+      subst (λ (x : Message). In x (w .tables .messages)) same (in-message (placed w i) here) in
       record {
-        pile = joining-pile (placed w i .label .client) (placed w i .label .start) (w .time)
-            (without i (w .pile)) (joined (w .tables) (placed w i .message))
-            (without i (w .tables .messages))
-            (map-without (λ (x : Labelled). x .message) i (w .pile) ∙ ap (without i) (inv .pile))
-            ∙ ap (λ (x : Message). without i (w .tables .messages) ++ joined (w .tables) x)
-            (placed-message i);
-        stays = λ x p. in-without x i (w .pile) p;
+        inFlight = joining-messages (l .client) (l .start) (w .time)
+            (without i (w .inFlight)) (joined (w .tables) m) (without i (w .tables .messages))
+            (map-without (λ (x : Labelled). x .message) i (w .inFlight)
+            ∙ ap (without i) (inv .inFlight));
+        stays = λ x p. in-without x i (w .inFlight) p;
         owners = λ x p.
-            let y = in-map (labelled (placed w i .label .client) (placed w i .label .start)
-            (w .time)) x (joined (w .tables) (placed w i .message)) p in
+            let y = in-map (labelled (l .client) (l .start) (w .time)) x (joined (w .tables) m) p in
             ap (λ (z : Labelled). z .label .client) (y .2) ∙ inv .owners (placed w i) here
-            ∙ sym (joined-owner (w .tables) (placed w i .message) (y .0) (own-stamp i here) (y .1))
+            ∙ ap ownerOf same
+            ∙ sym (joined-owner (w .tables) m (y .0) (own-stamp m in-flight) (y .1))
             ∙ sym (ap (λ (z : Labelled). ownerOf (z .message)) (y .2));
         unique = same-unique;
         entered = same-entered (effect (w .tables) (deliver i) .client)
-            (effect-rises (w .tables) (deliver i));
-        stored = λ v p. stored-after (placed w i .label) (placed w i .message) (inv .comes (placed w i) here) v
-            (subst (λ (x : Message). In v (delivered (w .tables) x .versions))
-            (sym (placed-message i)) p);
+            (delivered-rises (w .tables) m);
+        stored = λ v p. stored-after l m
+            (subst (λ (x : Message). Comes (w .writes) (w .stores) l x) same
+            (inv .comes (placed w i) here)) v p;
         comes = λ x p.
-            let y = in-map (labelled (placed w i .label .client) (placed w i .label .start)
-            (w .time)) x (joined (w .tables) (placed w i .message)) p in
-            subst (λ (z : Labelled). Comes (w .writes ++ [])
-            (w .stores ++ landed (w .time) (placed w i .label) (placed w i .message)) (z .label)
+            let y = in-map (labelled (l .client) (l .start) (w .time)) x (joined (w .tables) m) p in
+            subst (λ (z : Labelled). Comes (w .writes ++ []) (w .stores ++ landed l m) (z .label)
             (z .message)) (sym (y .2))
-            (joins-come (placed w i .label) (placed w i .message) here
-            (landed (w .time) (placed w i .label) (placed w i .message)) (y .0) (y .1));
+            (joins-come l m (inv .sound .fits m in-flight) (landed l m) (y .0) (y .1));
       }
 
+  sort-owes : {c : Call} → Sort caps (w .tables) c → Owes c
+  sort-owes (reads d s a) = read-owes d s
+  sort-owes (writes d s bytes a) = write-owes d s bytes (a .start .client)
+  sort-owes (delivers i a) = deliver-owes i (placed-here i (a .place))
+  sort-owes (apart c v a) = apart-owes c a
+
   pub moved-inv : (c : Call) → refusal caps (w .tables) c ≡ 0 → Inv caps (moved w c)
-  moved-inv (startRead d s) e = pay (startRead d s) e (read-owes d s)
-  moved-inv (startWrite d s bytes) e =
-      pay (startWrite d s bytes) e
-      (write-owes d s bytes (accepted-write caps (w .tables) d s bytes .0 e .start .client))
-  moved-inv (deliver i) e = pay (deliver i) e (deliver-owes i (placed-in i e))
-  moved-inv (show d output) e = pay (show d output) e (show-owes d output)
+  moved-inv c e = pay c e (sort-owes (sort caps (w .tables) c e))
 
   pub next-inv : (c : Call) → Inv caps (next caps w c)
   unfolding next

@@ -74,7 +74,10 @@ tells-read-part z p = (
         asked = λ k e. items k e .0;
         values = λ k e. items k e .1;
       },
-  λ r. simp parts (((r .set, r .awaited), λ k l. r .within k), λ k l e. (r .asked k e, r .values k e)),
+  λ r. simp parts (
+    ((r .set, r .awaited), λ k l. r .within k),
+    λ k l e. (r .asked k e, r .values k e),
+  ),
 )
 
 pub record WritePartInRange (z : Sizes) (p : WritePart) : Type 0 where

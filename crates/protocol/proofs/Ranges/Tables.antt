@@ -39,12 +39,15 @@ pub tells-tables : (t : Tables) → (inRange t ≡ true) ↔ InRange t
 unfolding inRange
 tells-tables t = (
   λ h.
-      let f = simp whole at h in
       let z = t .sizes in
+      let sizes : SizesInRange z = (simp (tells, tells-sizes) at h) .0 .0 .0 .0 .0 in
+      let f = simp whole at h in
       let view = each-client z (λ d. EntriesInRange z (t .view d)) (f .0 .0 .0 .1) in
       let client = each-client z (λ d. ClientInRange z (t .client d)) (f .0 .0 .1) in
       search,
-  λ r. simp whole (search (r .view, r .client, is-client)),
+  λ r.
+      let sizes : SizesInRange (t .sizes) = r .sizes in
+      simp whole (search (r .view, r .client, is-client)),
 )
 
 pub inRange-facts : (t : Tables) → inRange t ≡ true → InRange t

@@ -3,15 +3,16 @@
 -- (`.1`).
 use mathlib.Core.Bool.{true}
 use mathlib.Core.Logic.{_↔_, _≢_}
-use mathlib.Core.Path.{_≡_}
+use mathlib.Core.Path.{_≡_, refl}
 use Prim.Native.Nat.{ℕ, _^_, _≤_, _<_}
 use native.Mathlib.Omega.{arith}
+use lib.Pow.{pow-pos}
 use Rattle.itemset.specs.Set.{has}
 use Rattle.protocol.specs.declared.Version.{Version}
 use Rattle.protocol.specs.declared.Entry.{Entry}
 use Rattle.protocol.specs.declared.Message.{Message}
 use Rattle.protocol.specs.declared.Message.the-variants.{Prepare, Prepared, Commit, Get, Got}
-use Rattle.protocol.specs.Tables.{Sizes, numberOf, writerOf}
+use Rattle.protocol.specs.Tables.{Sizes, initial, numberOf, writerOf}
 use Rattle.protocol.specs.Range.{sizesInRange, stampInRange, entryInRange, versionInRange}
 use Rattle.protocol.specs.Range.{messageInRange}
 use Rattle.protocol.proofs.Tells.{tells}
@@ -122,12 +123,74 @@ MessageInRange z (Commit p stamp) = CommitInRange z p stamp
 MessageInRange z (Get d k stamp) = GetInRange z d k stamp
 MessageInRange z (Got d v latest) = GotInRange z d v latest
 
-pub tells-message : (z : Sizes) (m : Message) → (messageInRange z m ≡ true) ↔ MessageInRange z m
+-- what stands for the parts that a kind doesn't have is in range, where there is an item and a
+-- partition
+pub entry-initial : (z : Sizes) → EntryInRange z initial
+entry-initial z = record { stamp = λ n. absurd (n refl); set = pow-pos (z .items) }
+
+pub tells-message : (z : Sizes) (m : Message) → SizesInRange z → (messageInRange z m ≡ true)
+    ↔ MessageInRange z m
 unfolding messageInRange
-tells-message z (Prepare v) = tells-version z v
-tells-message z (Prepared k stamp) =
-    (λ h. let f = simp parts at h in search stamped, λ r. simp parts (search initial-not))
-tells-message z (Commit p stamp) =
-    (λ h. let f = simp parts at h in search stamped, λ r. simp parts (search initial-not))
-tells-message z (Get d k stamp) = (λ h. let f = simp parts at h in search, λ r. simp parts search)
-tells-message z (Got d v latest) = (λ h. let f = simp parts at h in search, λ r. simp parts search)
+tells-message z (Prepare v) s = (
+  λ h. let f = simp parts at h in
+      let later : v .stamp ≢ 0 = f .0 .1 (omega arith) in
+      let own : has (v .set) (v .item) ≡ true = f .1 refl in
+      search stamped,
+  λ r. simp parts (
+    (
+      (((((s .somePartition, r .item), r .value), λ n. r .stamp), r .set), entry-initial z),
+      λ l. initial-not z (v .stamp) (r .stamp),
+    ),
+    λ e. r .own,
+  ),
+)
+tells-message z (Prepared k stamp) s = (
+  λ h. let f = simp parts at h in
+      let later : stamp ≢ 0 = f .0 .1 (omega arith) in
+      search stamped,
+  λ r. simp parts (
+    (
+      (
+        ((((s .somePartition, r .item), omega arith), λ n. r .stamp), pow-pos (z .items)),
+        entry-initial z,
+      ),
+      λ l. initial-not z stamp (r .stamp),
+    ),
+    λ e. absurd (omega arith),
+  ),
+)
+tells-message z (Commit p stamp) s = (
+  λ h. let f = simp parts at h in
+      let later : stamp ≢ 0 = f .0 .1 (omega arith) in
+      search stamped,
+  λ r. simp parts (
+    (
+      (
+        ((((r .partition, s .someItem), omega arith), λ n. r .stamp), pow-pos (z .items)),
+        entry-initial z,
+      ),
+      λ l. initial-not z stamp (r .stamp),
+    ),
+    λ e. absurd (omega arith),
+  ),
+)
+tells-message z (Get d k stamp) s = (
+  λ h. let f = simp parts at h in search,
+  λ r. simp parts (
+    (
+      (((((r .client, r .item), omega arith), r .stamp), pow-pos (z .items)), entry-initial z),
+      λ l. absurd (omega arith),
+    ),
+    λ e. absurd (omega arith),
+  ),
+)
+tells-message z (Got d v e) s = (
+  λ h. let f = simp parts at h in search,
+  λ r. simp parts (
+    (
+      (((((r .client, r .item), r .value), r .stamp), pow-pos (z .items)), r .latest),
+      λ l. absurd (omega arith),
+    ),
+    λ e. absurd (omega arith),
+  ),
+)

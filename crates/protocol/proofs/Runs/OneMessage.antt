@@ -12,18 +12,18 @@ use Rattle.protocol.specs.declared.Message.{Message}
 use Rattle.protocol.specs.declared.Message.the-variants.{Prepare, Prepared, Commit, Get, Got}
 use Rattle.protocol.specs.Tables.{ofRead}
 use Rattle.protocol.specs.Range.{Capacities}
-use Rattle.protocol.specs.World.{World, Label, Labelled, ownerOf, itemOf, isGet, isGot}
+use Rattle.protocol.specs.World.{World, Label, Labelled}
 use Rattle.protocol.specs.World.{isReadMessage}
 use Rattle.protocol.proofs.Ranges.Values.{IsClient}
 use Rattle.protocol.proofs.Link.{Inv}
-use Rattle.protocol.proofs.Common.{isFor, ofSide}
+use Rattle.protocol.proofs.Common.{isFor}
 
 module _ (caps : Capacities) (v : World) (inv : Inv caps v) (d : ℕ)
     (is-client : IsClient (v .tables .sizes) d) where
   -- a message is for an item of the read part exactly where it is a get or a got of it
-  for-read : (k : ℕ) (l : Label) (m : Message) → In (record { label = l; message = m }) (v .pile)
+  for-read : (k : ℕ) (l : Label) (m : Message)
+      → In (record { label = l; message = m }) (v .inFlight)
       → isFor ofRead d k m ≡ isReadMessage d k (record { label = l; message = m })
-  unfolding ofSide ownerOf itemOf isGet isGot
   for-read k l (Prepare u) here = rw (and-false (eqb (l .client) d)) refl
   for-read k l (Prepared j s) here = rw (and-false (eqb (l .client) d)) refl
   for-read k l (Commit p s) here = rw (and-false (eqb (l .client) d)) refl
@@ -35,10 +35,10 @@ module _ (caps : Capacities) (v : World) (inv : Inv caps v) (d : ℕ)
       (by-test (eqb e d) (λ t. rw t refl) (λ t. rw t refl))
 
   pub one-message : (k : ℕ) → has (v .tables .client d .read .awaited) k ≡ true
-      → counted (isReadMessage d k) (v .pile) ≡ 1
+      → counted (isReadMessage d k) (v .inFlight) ≡ 1
   one-message k e =
-      sym (counted-ext (λ l. isFor ofRead d k (l .message)) (isReadMessage d k) (v .pile)
+      sym (counted-ext (λ l. isFor ofRead d k (l .message)) (isReadMessage d k) (v .inFlight)
       (λ l i. for-read k (l .label) (l .message) i))
-      ∙ sym (counted-map (λ (l : Labelled). l .message) (isFor ofRead d k) (v .pile))
-      ∙ ap (counted (isFor ofRead d k)) (inv .pile) ∙ inv .sound .one ofRead d k is-client
+      ∙ sym (counted-map (λ (l : Labelled). l .message) (isFor ofRead d k) (v .inFlight))
+      ∙ ap (counted (isFor ofRead d k)) (inv .inFlight) ∙ inv .sound .one ofRead d k is-client
       ∙ rw e refl

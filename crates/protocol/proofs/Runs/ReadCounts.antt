@@ -111,7 +111,8 @@ module _ (caps : Capacities) (w : World) (inv : Inv caps w) (d s : ℕ) (before 
   fewer : (x : World) (l : List Labelled) → Reading d s asked x l → counted (isReply d) l < count s
   fewer x l r =
       let some : count (x .tables .client d .read .awaited) ≡ 0 → ⊥ =
-      λ z. eqb-false (x .tables .client d .read .awaited) 0 (r .busy) (count-zero (x .tables .client d .read .awaited) z) in
+      λ z. eqb-false (x .tables .client d .read .awaited) 0 (r .busy)
+      (count-zero (x .tables .client d .read .awaited) z) in
       omega (arith, some, r .replied)
 
   -- ---- with one call more

@@ -15,10 +15,10 @@ use Rattle.basics.specs.Lists.{In}
 use Rattle.basics.proofs.Lists.{in-left}
 use Rattle.itemset.specs.Set.{has, count}
 use Rattle.itemset.proofs.Laws.{has-empty, has-below}
-use Rattle.protocol.specs.Tables.{Client, read, resting, numberOf, writerOf}
+use Rattle.protocol.specs.Tables.{read, resting, numberOf, writerOf}
 use Rattle.protocol.specs.Range.{Capacities}
 use Rattle.protocol.specs.Steps.{choice, nextStamp}
-use Rattle.protocol.specs.Calls.{Call, startRead, startWrite, show, step, reply, written}
+use Rattle.protocol.specs.Calls.{Call, startRead, startWrite, show, step, written}
 use Rattle.protocol.specs.World.{World, Labelled, Write, Store, leaving, begun, moved, next}
 use Rattle.protocol.specs.World.{after, isReplyFor, stays, rests}
 use Rattle.protocol.specs.Condition3.{UnderWay, EndedBy, StoredBefore, answeredAt, came}

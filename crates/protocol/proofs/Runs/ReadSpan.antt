@@ -19,11 +19,11 @@ use Rattle.protocol.specs.declared.Entry.{Entry}
 use Rattle.protocol.specs.declared.Message.{Message}
 use Rattle.protocol.specs.declared.Message.the-variants.{Got}
 use Rattle.protocol.specs.Tables.{Client, ofRead, noWrite, put}
+use Rattle.protocol.specs.Message.{ownerOf}
 use Rattle.protocol.specs.Range.{Capacities}
 use Rattle.protocol.specs.Steps.{answered}
 use Rattle.protocol.specs.Calls.{reply}
-use Rattle.protocol.specs.World.{World, Labelled, Write, placed, isGot, isReply, isReplyFor}
-use Rattle.protocol.specs.World.{itemOf, ownerOf}
+use Rattle.protocol.specs.World.{World, Labelled, Write, placed, isReply, isReplyFor}
 use Rattle.protocol.proofs.Ranges.Values.{IsClient}
 use Rattle.protocol.proofs.Put.{put-same, put-other}
 use Rattle.protocol.proofs.Sound.{Fits, FitsGot}
@@ -32,7 +32,7 @@ use Rattle.protocol.proofs.Sound.Delivery.{awaited-in}
 use Rattle.protocol.proofs.Link.{LandedBefore, FromAnswer, Comes, Inv}
 use Rattle.protocol.proofs.Link.Step.{Grows, grow-known, in-message, fits}
 use Rattle.protocol.proofs.Link.Asks.{answer-value}
-use Rattle.protocol.proofs.Common.{known, isFor, ofSide}
+use Rattle.protocol.proofs.Common.{known, isFor}
 
 -- item k has the value of the write asked for, brought by a reply among `left`, and that write had
 -- landed when the reply joined
@@ -100,7 +100,9 @@ undisturbed d s asked v v′ left more g same none r =
       set = ap (λ (c : Client). c .read .set) same ∙ r .set;
       asks = ap (λ (c : Client). c .read .asked) same ∙ r .asks;
       busy = ap (λ (c : Client). eqb (c .read .awaited) 0) same ∙ r .busy;
-      once = λ k. ap (λ (c : Client). counted (isReplyFor d k) (left ++ more) + cond (has (c .read .awaited) k) 1 0) same
+      once = λ k.
+          ap (λ (c : Client). counted (isReplyFor d k) (left ++ more) + cond
+          (has (c .read .awaited) k) 1 0) same
           ∙ ap (λ (n : ℕ). n + cond (has (v .tables .client d .read .awaited) k) 1 0) (same-for k)
           ∙ r .once k;
       replied = omega (
@@ -112,7 +114,8 @@ undisturbed d s asked v v′ left more g same none r =
         r .replied,
       );
       answered =
-          λ k e f. subst (λ (c : Client). Answer v′ d k (asked k) (c .read .values k) (left ++ more)) (sym same)
+          λ k e f. subst (λ (c : Client). Answer v′ d k (asked k) (c .read .values k) (left ++ more))
+          (sym same)
           (answer-grows v v′ d k (asked k) (v .tables .client d .read .values k) left more g
           (r .answered k e (sym (ap (λ (c : Client). has (c .read .awaited) k) same) ∙ f)));
     }
@@ -125,7 +128,7 @@ undisturbed d s asked v v′ left more g same none r =
 
 module _ (caps : Capacities) (v : World) (inv : Inv caps v) (d s : ℕ) (asked : ℕ → ℕ)
     (left : List Labelled)
-    (r : Reading d s asked v left) (i : ℕ) (here : In (placed v i) (v .pile))
+    (r : Reading d s asked v left) (i : ℕ) (here : In (placed v i) (v .inFlight))
     (u : Version) (latest : Entry) (is-got : placed v i .message ≡ Got d u latest) where
   abbrev c : Client
   c = v .tables .client d
@@ -134,7 +137,7 @@ module _ (caps : Capacities) (v : World) (inv : Inv caps v) (d s : ℕ) (asked :
   k = u .item
 
   fit : FitsGot (inv .ledger) (v .tables .versions) c u latest
-  unfolding Fits ownerOf
+  unfolding Fits
   fit = subst (λ (m : Message). Fits (inv .ledger) (v .tables .versions)
       (v .tables .client (ownerOf m)) m) is-got (fits caps v inv (placed v i) here)
 
@@ -144,25 +147,20 @@ module _ (caps : Capacities) (v : World) (inv : Inv caps v) (d s : ℕ) (asked :
       (inv .comes (placed v i) here)
 
   is-client : IsClient (v .tables .sizes) d
-  unfolding ownerOf
   is-client = subst (λ (m : Message). IsClient (v .tables .sizes) (ownerOf m)) is-got
       (owner-client caps (inv .ledger) (v .tables) (inv .sound) (placed v i .message)
       (in-message caps v inv (placed v i) here))
 
   label-client : placed v i .label .client ≡ d
-  unfolding ownerOf
   label-client = inv .owners (placed v i) here ∙ ap ownerOf is-got
 
   is-reply : isReply d (placed v i) ≡ true
-  unfolding isGot
   is-reply = rw (label-client, is-got, eqb-same d) refl
 
   is-reply-for : (j : ℕ) → isReplyFor d j (placed v i) ≡ eqb k j
-  unfolding isGot itemOf
   is-reply-for j = rw (label-client, is-got, eqb-same d) refl
 
   awaited-here : has (c .read .awaited) k ≡ true
-  unfolding ofSide ownerOf itemOf
   awaited-here = awaited-in caps (inv .ledger) (v .tables) (inv .sound) (placed v i .message)
       (in-message caps v inv (placed v i) here) ofRead d k is-client
       (rw (is-got, eqb-same d) (eqb-same k))
@@ -258,7 +256,9 @@ module _ (caps : Capacities) (v : World) (inv : Inv caps v) (d s : ℕ) (asked :
           r .replied,
         );
         answered =
-            λ j e q. subst (λ (x : Client). Answer v′ d j (asked j) (x .read .values j) (left ++ placed v i ∷ [])) (sym same)
+            λ j e q. subst
+            (λ (x : Client). Answer v′ d j (asked j) (x .read .values j) (left ++ placed v i ∷ []))
+            (sym same)
             (answered-after v′ g j e
             (sym (ap (λ (x : Client). has (x .read .awaited) j) same) ∙ q));
       }

@@ -14,17 +14,18 @@ use Rattle.protocol.specs.declared.Entry.{Entry}
 use Rattle.protocol.specs.declared.Message.{Message}
 use Rattle.protocol.specs.declared.Message.the-variants.{Got}
 use Rattle.protocol.specs.Tables.{Tables, Client, WritePart, ofRead, read, resting, put}
+use Rattle.protocol.specs.Message.{ownerOf}
 use Rattle.protocol.specs.Range.{Capacities}
 use Rattle.protocol.specs.Steps.{delivered, got, answered, isLast, messageAt}
-use Rattle.protocol.specs.Calls.{Call, startRead, startWrite, deliver, show, refusal, effect}
+use Rattle.protocol.specs.Calls.{Call, deliver, refusal, effect}
 use Rattle.protocol.specs.Calls.{step, outcomeOf}
 use Rattle.protocol.specs.World.{World, Labelled, placed, joining, leaving, accepts, moved}
-use Rattle.protocol.specs.World.{passed, next, isReply, isReplyFor, isRequest, ownerOf}
+use Rattle.protocol.specs.World.{passed, next, isReply, isReplyFor, isRequest}
 use Rattle.protocol.specs.World.{outcomeIn, delivers, endsFor, startsFor}
 use Rattle.protocol.proofs.Put.{put-same}
-use Rattle.protocol.proofs.Refusals.{accepted-read, accepted-write}
+use Rattle.protocol.proofs.Keeps.{keeps}
 use Rattle.protocol.proofs.Link.{Inv}
-use Rattle.protocol.proofs.Link.Step.{placed-message, placed-in, fits, moved-grows}
+use Rattle.protocol.proofs.Link.Step.{placed-message, fits, moved-grows}
 use Rattle.protocol.proofs.Link.Step.{grows-self}
 use Rattle.protocol.proofs.Runs.Touch.{refused-outcome, delivered-outcome, no-requests, Way}
 use Rattle.protocol.proofs.Runs.Touch.{quiet, starts, answers, way, answers-owner, got-of}
@@ -69,18 +70,10 @@ pub record Finished (caps : Capacities) (d s : ℕ) (asked : ℕ → ℕ) (v : W
 module _ (caps : Capacities) (v : World) (inv : Inv caps v) (d s : ℕ) (asked : ℕ → ℕ)
     (left : List Labelled)
     (r : Reading d s asked v left) where
-  not-started : (c : Call) → refusal caps (v .tables) c ≡ 0 → startsFor d c ≡ true → ⊥
+  not-started : (c : Call) → refusal caps (v .tables) c ≡ 0 → startsFor v d c ≡ true → ⊥
   unfolding startsFor
-  not-started (startRead e n) a t =
-      eqb-false (v .tables .client d .read .awaited) 0 (r .busy)
-      (subst (λ (x : ℕ). v .tables .client x .read .awaited ≡ 0) (eqb-true e d t)
-      (accepted-read caps (v .tables) e n .0 a .idle .read))
-  not-started (startWrite e n bytes) a t =
-      eqb-false (v .tables .client d .read .awaited) 0 (r .busy)
-      (subst (λ (x : ℕ). v .tables .client x .read .awaited ≡ 0) (eqb-true e d t)
-      (accepted-write caps (v .tables) e n bytes .0 a .start .idle .read))
-  not-started (deliver i) a t = not-both t refl
-  not-started (show e output) a t = not-both t refl
+  not-started c a t = eqb-false (v .tables .client d .read .awaited) 0 (r .busy)
+      (keeps caps (v .tables) c a .starter d t .1 .read)
 
   -- what an accepted call does to the read
   abbrev Ways : Call → Type 0
@@ -88,16 +81,11 @@ module _ (caps : Capacities) (v : World) (inv : Inv caps v) (d s : ℕ) (asked :
       × (counted (isRequest d) (joining v c) ≡ 0) × (endsFor caps v d c ≡ false))
       ⊎ ((endsFor caps v d c ≡ true) × Finished caps d s asked v c left)
 
-  accepted-here : (c : Call) → refusal caps (v .tables) c ≡ 0 → (i : ℕ) → c ≡ deliver i
-      → In (placed v i) (v .pile)
-  accepted-here c a i e = placed-in caps v inv i
-      (subst (λ (x : Call). refusal caps (v .tables) x ≡ 0) e a)
-
   -- the delivery of a message of the client delivers for it, sends no request, and ends by its
   -- outcome alone
-  delivers-reply : (i : ℕ) → In (placed v i) (v .pile) → {u : Version} {latest : Entry}
+  delivers-reply : (i : ℕ) → In (placed v i) (v .inFlight) → {u : Version} {latest : Entry}
       → placed v i .message ≡ Got d u latest → delivers v d (deliver i) ≡ true
-  unfolding delivers ownerOf
+  unfolding delivers
   delivers-reply i here e = eq-eqb (placed v i .label .client) d
       (inv .owners (placed v i) here ∙ ap ownerOf e)
 
@@ -110,7 +98,7 @@ module _ (caps : Capacities) (v : World) (inv : Inv caps v) (d s : ℕ) (asked :
   silent i o = rw o (and-false (delivers v d (deliver i)))
 
   -- the delivery of a got of the client
-  by-got : (i : ℕ) → refusal caps (v .tables) (deliver i) ≡ 0 → In (placed v i) (v .pile)
+  by-got : (i : ℕ) → refusal caps (v .tables) (deliver i) ≡ 0 → In (placed v i) (v .inFlight)
       → (u : Version) (latest : Entry) → placed v i .message ≡ Got d u latest → Ways (deliver i)
   unfolding leaving
   by-got i a here u latest is-got =
@@ -168,7 +156,7 @@ module _ (caps : Capacities) (v : World) (inv : Inv caps v) (d s : ℕ) (asked :
       by-got i a here (g .0) (g .1 .0) (g .1 .1)
 
   ways : (c : Call) → refusal caps (v .tables) c ≡ 0 → Ways c
-  ways c a = by-way c a (way caps v inv d c (accepted-here c a))
+  ways c a = by-way c a (way caps v inv d c a)
 
   pub read-goes-on : (c : Call) → endsFor caps v d c ≡ false
       → Reading d s asked (next caps v c) (left ++ cond (accepts caps v c) (leaving v c) [])

@@ -4,26 +4,18 @@ use mathlib.Core.Bool.{false, cond}
 use mathlib.Core.List.{List, [], _∷_, _++_, append-assoc}
 use mathlib.Core.Logic.{inl, inr}
 use mathlib.Core.Path.{_≡_, refl, sym, ap, _∙_}
-use Prim.Native.Nat.{ℕ, _≤_}
-use native.Mathlib.Nat.{le-refl, le-trans, le-of-lt}
-use lib.Dec.{ltb}
-use borrow.Author.Tests.{eqb-true, eq-eqb, ltb-true}
+use native.Mathlib.Nat.{le-refl, le-trans}
+use borrow.Author.Tests.{eqb-true, eq-eqb}
 use Rattle.basics.proofs.Cases.{by-test}
 use Rattle.basics.specs.Lists.{In}
 use Rattle.basics.proofs.Lists.{in-left}
-use Rattle.itemset.specs.Set.{has}
-use Rattle.protocol.specs.declared.Entry.{Entry}
-use Rattle.protocol.specs.declared.Message.{Message}
-use Rattle.protocol.specs.declared.Message.the-variants.{Prepare, Prepared, Commit, Get, Got}
-use Rattle.protocol.specs.Tables.{Tables, laterOf, writerOf, put, ofRead, ofWrite}
 use Rattle.protocol.specs.Range.{Capacities}
-use Rattle.protocol.specs.Steps.{delivered, seen, isLast, messageAt}
-use Rattle.protocol.specs.Calls.{Call, startRead, startWrite, deliver, show, refusal, effect}
+use Rattle.protocol.specs.Calls.{Call, refusal, effect}
 use Rattle.protocol.specs.World.{World, Labelled, Write, Store, begun, storing, accepts}
 use Rattle.protocol.specs.World.{moved, passed, next, after, joiningOver, leavingOver}
 use Rattle.protocol.specs.World.{joining, leaving}
-use Rattle.protocol.proofs.Delivered.{delivered-sizes}
-use Rattle.protocol.proofs.Put.{put-every}
+use Rattle.protocol.proofs.Sorts.{ViewGrows}
+use Rattle.protocol.proofs.Keeps.{keeps}
 use Rattle.protocol.proofs.Link.{Inv}
 use Rattle.protocol.proofs.Link.Step.{next-inv}
 use Rattle.protocol.proofs.Common.{known}
@@ -89,81 +81,26 @@ after-all caps R same on step w (c ∷ cs) =
 
 -- ---- sizes
 
-effect-sizes : (t : Tables) (c : Call) → effect t c .sizes ≡ t .sizes
-unfolding effect
-effect-sizes t (startRead d s) = refl
-effect-sizes t (startWrite d s bytes) = refl
-effect-sizes t (deliver i) = delivered-sizes t (messageAt t i)
-effect-sizes t (show d output) = refl
-
 pub after-sizes : (caps : Capacities) (w : World) (cs : List Call)
     → after caps w cs .tables .sizes ≡ w .tables .sizes
+unfolding effect
 after-sizes caps =
     after-all caps (λ (u v : World). v .tables .sizes ≡ u .tables .sizes) (λ w. refl)
     (λ u v w p q. q ∙ p)
     (λ w c. next-all caps (λ (v : World). v .tables .sizes ≡ w .tables .sizes) w c
-    (λ e. effect-sizes (w .tables) c) refl)
+    (λ e. keeps caps (w .tables) c e .sizes) refl)
 
 -- ---- views only grow
 
-later-ge : (a b : Entry) → a .stamp ≤ laterOf a b .stamp
-later-ge a b =
-    by-test (ltb (a .stamp) (b .stamp)) (λ e. rw e (le-of-lt (ltb-true (a .stamp) (b .stamp) e)))
-    (λ e. rw e (le-refl (a .stamp)))
-
-abbrev pub ViewGrows : Tables → Tables → Type 0
-ViewGrows t u = (d k : ℕ) → t .view d k .stamp ≤ u .view d k .stamp
-
-view-put : (t : Tables) (d : ℕ) (f : ℕ → Entry) → ((k : ℕ) → t .view d k .stamp ≤ f k .stamp)
-    → (e k : ℕ) → t .view e k .stamp ≤ put (t .view) d f e k .stamp
-view-put t d f h =
-    put-every (λ (e : ℕ) (g : ℕ → Entry). (k : ℕ) → t .view e k .stamp ≤ g k .stamp) (t .view) d f h
-    (λ e n k. le-refl (t .view e k .stamp))
-
-pub seen-ge : (view : ℕ → Entry) (s stamp k : ℕ) → view k .stamp ≤ seen view s stamp k .stamp
-seen-ge view s stamp k =
-    by-test (has s k) (λ e. rw e (later-ge (view k) (record { stamp = stamp; set = s })))
-    (λ e. rw e (le-refl (view k .stamp)))
-
-delivered-view : (t : Tables) (m : Message) → ViewGrows t (delivered t m)
-unfolding delivered
-delivered-view t (Prepare v) = λ d k. le-refl (t .view d k .stamp)
-delivered-view t (Prepared k s) =
-    let d = writerOf s in
-    let c = t .client d in
-    view-put t d (cond (isLast ofWrite c k) (seen (t .view d) (c .write .set) s) (t .view d))
-    (λ j. by-test (isLast ofWrite c k) (λ e. rw e (seen-ge (t .view d) (c .write .set) s j))
-    (λ e. rw e (le-refl (t .view d j .stamp))))
-delivered-view t (Commit p s) = λ d k. le-refl (t .view d k .stamp)
-delivered-view t (Get d₀ k₀ s) = λ d k. le-refl (t .view d k .stamp)
-delivered-view t (Got d v e) =
-    let c = t .client d in
-    let k = v .item in
-    let offered : ℕ → Entry = put (t .view d) k (laterOf (t .view d k) e) in
-    let grown : (j : ℕ) → t .view d j .stamp ≤ offered j .stamp =
-    put-every (λ (j : ℕ) (x : Entry). t .view d j .stamp ≤ x .stamp) (t .view d) k
-    (laterOf (t .view d k) e)
-    (later-ge (t .view d k) e) (λ j n. le-refl (t .view d j .stamp)) in
-    view-put t d (cond (isLast ofRead c k) (seen offered (c .write .set) (c .write .stamp)) offered)
-    (λ j. by-test (isLast ofRead c k)
-    (λ f. rw f (le-trans (grown j) (seen-ge offered (c .write .set) (c .write .stamp) j)))
-    (λ f. rw f (grown j)))
-
-effect-view : (t : Tables) (c : Call) → ViewGrows t (effect t c)
-unfolding effect
-effect-view t (startRead d₀ s) = λ d k. le-refl (t .view d k .stamp)
-effect-view t (startWrite d₀ s bytes) = λ d k. le-refl (t .view d k .stamp)
-effect-view t (deliver i) = delivered-view t (messageAt t i)
-effect-view t (show d₀ output) = λ d k. le-refl (t .view d k .stamp)
-
 pub after-view : (caps : Capacities) (w : World) (cs : List Call)
     → ViewGrows (w .tables) (after caps w cs .tables)
+unfolding effect
 after-view caps =
     after-all caps (λ (u v : World). ViewGrows (u .tables) (v .tables))
     (λ w d k. le-refl (w .tables .view d k .stamp))
     (λ u v w p q d k. le-trans (p d k) (q d k))
     (λ w c. next-all caps (λ (v : World). ViewGrows (w .tables) (v .tables)) w c
-    (λ e. effect-view (w .tables) c) (λ d k. le-refl (w .tables .view d k .stamp)))
+    (λ e. keeps caps (w .tables) c e .view) (λ d k. le-refl (w .tables .view d k .stamp)))
 
 -- ---- the history grows
 

@@ -19,16 +19,16 @@ use Rattle.protocol.specs.Range.{Capacities}
 use Rattle.protocol.specs.Steps.{reader, gets, asks}
 use Rattle.protocol.specs.Calls.{Call, startRead, refusal, effect}
 use Rattle.protocol.specs.World.{World, Labelled, labelled, placed, joining, leaving, accepts}
-use Rattle.protocol.specs.World.{moved, next, after, joiningOver, leavingOver, isGet}
-use Rattle.protocol.specs.World.{isRequest, ownerOf, delivers, endsFor, stays, startsFor}
+use Rattle.protocol.specs.World.{moved, next, after, joiningOver, leavingOver}
+use Rattle.protocol.specs.World.{isRequest, delivers, endsFor, stays, startsFor}
 use Rattle.protocol.specs.World.{rests}
 use Rattle.protocol.proofs.Put.{put-same}
 use Rattle.protocol.proofs.Refusals.{Idle, AcceptedStart, accepted-read}
 use Rattle.protocol.proofs.Link.{Inv}
-use Rattle.protocol.proofs.Link.Step.{placed-in, fits, next-inv, in-message}
+use Rattle.protocol.proofs.Link.Step.{next-inv, in-message}
 use Rattle.protocol.proofs.Runs.Run.{next-all}
 use Rattle.protocol.proofs.Runs.Touch.{refused-outcome, Way, quiet, starts, answers, way}
-use Rattle.protocol.proofs.Runs.Touch.{answers-owner, no-answer}
+use Rattle.protocol.proofs.Runs.Touch.{no-answer}
 use Rattle.protocol.proofs.Runs.ReadSpan.{Reading}
 use Rattle.protocol.proofs.Runs.ReadStep.{read-goes-on}
 
@@ -62,7 +62,7 @@ module _ (caps : Capacities) (w : World) (inv : Inv caps w) (d s : ℕ)
 
   -- one request for each item of its set
   pub read-requests : counted (isRequest d) (joining w (startRead d s)) ≡ count s
-  unfolding joining isGet
+  unfolding joining
   read-requests =
       counted-map (labelled d (w .time) (w .time)) (isRequest d) (gets (w .tables) d s)
       ∙ counted-map (λ k. Get d k (asks (w .tables) d k))
@@ -103,40 +103,38 @@ read-during caps v inv d s asked left r (c ∷ cs) e =
 module _ (caps : Capacities) (v : World) (inv : Inv caps v) (d : ℕ)
     (rested : Idle (v .tables .client d)) where
   rest-way : {c : Call} → refusal caps (v .tables) c ≡ 0
-      → (accepts caps v c && startsFor d c) ≡ false → Way caps v inv d c
+      → (accepts caps v c && startsFor v d c) ≡ false → Way caps v inv d c
       → effect (v .tables) c .client d ≡ v .tables .client d
   rest-way a f (quiet c q) = q .client
   rest-way a f (starts c t) = not-both
-      (and-both (accepts caps v c) (startsFor d c) (eq-eqb (refusal caps (v .tables) c) 0 a) t) f
+      (and-both (accepts caps v c) (startsFor v d c) (eq-eqb (refusal caps (v .tables) c) 0 a) t) f
   rest-way a f (answers i here t) =
       absurd (no-answer caps (inv .ledger) (v .tables) (inv .sound) (placed v i .message)
       (in-message caps v inv (placed v i) here) d t rested)
 
-  rest-step : (c : Call) → (accepts caps v c && startsFor d c) ≡ false
+  rest-step : (c : Call) → (accepts caps v c && startsFor v d c) ≡ false
       → next caps v c .tables .client d ≡ v .tables .client d
   rest-step c f =
       next-all caps (λ (x : World). x .tables .client d ≡ v .tables .client d) v c
-      (λ a. rest-way a f (way caps v inv d c
-      (λ i e. placed-in caps v inv i (subst (λ (x : Call). refusal caps (v .tables) x ≡ 0) e a))))
-      refl
+      (λ a. rest-way a f (way caps v inv d c a)) refl
 
 -- and no delivery reports an end of its
 rest-silent : (caps : Capacities) (v : World) → Inv caps v → (d : ℕ) → Idle (v .tables .client d)
     → (c : Call)
-    → (accepts caps v c && startsFor d c) ≡ false → endsFor caps v d c ≡ false
+    → (accepts caps v c && startsFor v d c) ≡ false → endsFor caps v d c ≡ false
 rest-silent caps v inv d m c f =
     by-test (accepts caps v c)
     (λ t. let a = eqb-true (refusal caps (v .tables) c) 0 t in
-    by-way a f (way caps v inv d c
-    (λ i e. placed-in caps v inv i (subst (λ (x : Call). refusal caps (v .tables) x ≡ 0) e a))))
+    by-way a f (way caps v inv d c a))
     (λ t. rw (refused-outcome caps v c t) (and-false (delivers v d c)))
   where
     by-way : {x : Call} → refusal caps (v .tables) x ≡ 0
-        → (accepts caps v x && startsFor d x) ≡ false → Way caps v inv d x
+        → (accepts caps v x && startsFor v d x) ≡ false → Way caps v inv d x
         → endsFor caps v d x ≡ false
     by-way a f (quiet x q) = q .ends
     by-way a f (starts x t) = not-both
-        (and-both (accepts caps v x) (startsFor d x) (eq-eqb (refusal caps (v .tables) x) 0 a) t) f
+        (and-both (accepts caps v x) (startsFor v d x) (eq-eqb (refusal caps (v .tables) x) 0 a) t)
+        f
     by-way a f (answers i here t) =
         absurd (no-answer caps (inv .ledger) (v .tables) (inv .sound) (placed v i .message)
         (in-message caps v inv (placed v i) here) d t m)
@@ -147,13 +145,13 @@ pub rest-stays : (caps : Capacities) (v : World) → Inv caps v → (d : ℕ) �
 unfolding stays rests
 rest-stays caps v inv d m [] e = refl
 rest-stays caps v inv d m (c ∷ cs) e =
-    let f : (accepts caps v c && startsFor d c) ≡ false =
-    not-true (accepts caps v c && startsFor d c)
-    (and-left (not (accepts caps v c && startsFor d c)) (rests caps (next caps v c) d cs) e) in
+    let f : (accepts caps v c && startsFor v d c) ≡ false =
+    not-true (accepts caps v c && startsFor v d c)
+    (and-left (not (accepts caps v c && startsFor v d c)) (rests caps (next caps v c) d cs) e) in
     let one = rest-step caps v inv d m c f in
     rw (rest-silent caps v inv d m c f)
     (rest-stays caps (next caps v c) (next-inv caps v inv c) d (subst Idle (sym one) m) cs
-    (and-right (not (accepts caps v c && startsFor d c)) (rests caps (next caps v c) d cs) e))
+    (and-right (not (accepts caps v c && startsFor v d c)) (rests caps (next caps v c) d cs) e))
 
 pub at-rest : (caps : Capacities) (v : World) → Inv caps v → (d : ℕ) → Idle (v .tables .client d)
     → (cs : List Call) → rests caps v d cs ≡ true
@@ -161,10 +159,10 @@ pub at-rest : (caps : Capacities) (v : World) → Inv caps v → (d : ℕ) → I
 unfolding after rests
 at-rest caps v inv d m [] e = refl
 at-rest caps v inv d m (c ∷ cs) e =
-    let f : (accepts caps v c && startsFor d c) ≡ false =
-    not-true (accepts caps v c && startsFor d c)
-    (and-left (not (accepts caps v c && startsFor d c)) (rests caps (next caps v c) d cs) e) in
+    let f : (accepts caps v c && startsFor v d c) ≡ false =
+    not-true (accepts caps v c && startsFor v d c)
+    (and-left (not (accepts caps v c && startsFor v d c)) (rests caps (next caps v c) d cs) e) in
     let one = rest-step caps v inv d m c f in
     at-rest caps (next caps v c) (next-inv caps v inv c) d (subst Idle (sym one) m) cs
-    (and-right (not (accepts caps v c && startsFor d c)) (rests caps (next caps v c) d cs) e)
+    (and-right (not (accepts caps v c && startsFor v d c)) (rests caps (next caps v c) d cs) e)
     ∙ one

@@ -17,21 +17,27 @@ use Rattle.protocol.specs.declared.Message.{Message}
 use Rattle.protocol.specs.declared.Message.the-variants.{Prepare, Prepared, Commit, Get, Got}
 use Rattle.protocol.specs.declared.Answer.the-variants.{Refused}
 use Rattle.protocol.specs.Tables.{Tables, Client, ofRead, ofWrite, writerOf}
+use Rattle.protocol.specs.Message.{isGet, isGot, ownerOf}
 use Rattle.protocol.specs.Range.{Capacities}
 use Rattle.protocol.specs.Steps.{delivered, joined, isLast, touches, gets, prepares, reader}
 use Rattle.protocol.specs.Steps.{writer, messageAt}
-use Rattle.protocol.specs.Calls.{Call, startRead, startWrite, deliver, show, refusal, effect}
+use Rattle.protocol.specs.Calls.{Call, startRead, startWrite, deliver, refusal, effect}
 use Rattle.protocol.specs.Calls.{step, reply, outcomeOf, pick}
-use Rattle.protocol.specs.World.{World, Labelled, labelled, placed, joining, leaving, isGet}
-use Rattle.protocol.specs.World.{isGot, isRequest, isReply, ownerOf, startsFor, accepts}
-use Rattle.protocol.specs.World.{outcomeIn, delivers, endsFor}
+use Rattle.protocol.specs.World.{World, Labelled, labelled, placed, joining, leaving}
+use Rattle.protocol.specs.World.{isRequest, isReply, startsFor, accepts}
+use Rattle.protocol.specs.World.{outcomeIn, isDelivery, delivers, endsFor}
 use Rattle.protocol.proofs.Refusals.{Idle}
+use Rattle.protocol.proofs.Sorts.{Apart, Sort, reads, writes, delivers as delivered-at}
+use Rattle.protocol.proofs.Sorts.{apart}
+use Rattle.protocol.proofs.Sorts.{sort}
 use Rattle.protocol.proofs.Put.{put-other}
 use Rattle.protocol.proofs.Sound.{Ledger, Fits, SoundBy}
 use Rattle.protocol.proofs.Sound.Delivery.{no-message}
 use Rattle.protocol.proofs.Common.{hasItem}
 use Rattle.protocol.proofs.Link.{Inv}
-use Rattle.protocol.proofs.Link.Step.{placed-message}
+use Rattle.protocol.proofs.Link.Step.{placed-message, placed-here, apart-tables}
+use Rattle.protocol.proofs.Link.Step.{apart-origin}
+use Rattle.protocol.proofs.Link.Step.{apart-joining, apart-leaving}
 
 -- a prepared reply or a got of client d
 unfoldable pub answersTo : ℕ → Message → Bool
@@ -54,7 +60,7 @@ delivered-client t (Got e′ v latest) d e =
 
 -- a delivery makes no get join
 joined-no-get : (t : Tables) (m j : Message) → In j (joined t m) → isGet j ≡ false
-unfolding joined isGet
+unfolding joined
 joined-no-get t (Prepare v) j (inl e) = ap isGet e
 joined-no-get t (Prepared k s) j i =
     by-test (isLast ofWrite (t .client (writerOf s)) k)
@@ -75,7 +81,7 @@ joined-no-get t (Got d v latest) j i =
 
 -- a got of client d is an answer to it
 got-answers : (m : Message) (d : ℕ) → isGot m ≡ true → ownerOf m ≡ d → answersTo d m ≡ true
-unfolding isGot ownerOf answersTo
+unfolding answersTo
 got-answers (Prepare v) d e o = not-both e refl
 got-answers (Prepared k s) d e o = not-both e refl
 got-answers (Commit p s) d e o = not-both e refl
@@ -105,7 +111,7 @@ delivered-outcome caps v i e = rw e refl
 -- a message of client d that is no answer to it has the outcome none
 no-outcome : (t : Tables) (m : Message) (d : ℕ) → ownerOf m ≡ d → answersTo d m ≡ false
     → outcomeOf t m ≡ 0
-unfolding ownerOf answersTo outcomeOf
+unfolding answersTo outcomeOf
 no-outcome t (Prepare v) d o f = refl
 no-outcome t (Prepared k s) d o f = not-both (eq-eqb (writerOf s) d o) f
 no-outcome t (Commit p s) d o f = refl
@@ -113,7 +119,7 @@ no-outcome t (Get e k s) d o f = refl
 no-outcome t (Got e v latest) d o f = not-both (eq-eqb e d o) f
 
 answers-item : (m : Message) (d : ℕ) → answersTo d m ≡ true → hasItem m ≡ true
-unfolding hasItem answersTo
+unfolding answersTo
 answers-item (Prepare v) d e = refl
 answers-item (Prepared k s) d e = refl
 answers-item (Commit p s) d e = not-both e refl
@@ -121,7 +127,7 @@ answers-item (Get c k s) d e = refl
 answers-item (Got c v latest) d e = refl
 
 pub answers-owner : (m : Message) (d : ℕ) → answersTo d m ≡ true → ownerOf m ≡ d
-unfolding ownerOf answersTo
+unfolding answersTo
 answers-owner (Prepare v) d e = not-both e refl
 answers-owner (Prepared k s) d e = eqb-true (writerOf s) d e
 answers-owner (Commit p s) d e = not-both e refl
@@ -148,13 +154,13 @@ module _ (caps : Capacities) (v : World) (inv : Inv caps v) (d : ℕ) where
   no-requests i =
       none-counted (isRequest d) (joining v (deliver i))
       (λ x p. let q = in-map (labelled (placed v i .label .client) (placed v i .label .start)
-      (v .time)) x (joined (v .tables) (placed v i .message)) p in
+      (v .time)) x (joined (v .tables) (messageAt (v .tables) i)) p in
       ap (isRequest d) (q .2)
       ∙ by-test (eqb (placed v i .label .client) d)
-      (λ t. rw t (joined-no-get (v .tables) (placed v i .message) (q .0) (q .1)))
+      (λ t. rw t (joined-no-get (v .tables) (messageAt (v .tables) i) (q .0) (q .1)))
       (λ t. rw t refl))
 
-  no-end : (i : ℕ) → In (placed v i) (v .pile) → answersTo d (placed v i .message) ≡ false
+  no-end : (i : ℕ) → In (placed v i) (v .inFlight) → answersTo d (placed v i .message) ≡ false
       → endsFor caps v d (deliver i) ≡ false
   unfolding delivers
   no-end i here f =
@@ -172,7 +178,8 @@ module _ (caps : Capacities) (v : World) (inv : Inv caps v) (d : ℕ) where
       rw none (and-false (eqb (placed v i .label .client) d)))
       (λ t. rw t refl)
 
-  quiet-delivery : (i : ℕ) → In (placed v i) (v .pile) → answersTo d (placed v i .message) ≡ false
+  quiet-delivery : (i : ℕ) → In (placed v i) (v .inFlight)
+      → answersTo d (placed v i .message) ≡ false
       → Quiet caps v (deliver i) d
   unfolding effect leaving
   quiet-delivery i here f =
@@ -195,16 +202,30 @@ module _ (caps : Capacities) (v : World) (inv : Inv caps v) (d : ℕ) where
             (λ z. absurd z) p;
       }
 
+  not-delivered : (c : Call) → Apart (v .tables) c → delivers v d c ≡ false
+  unfolding delivers
+  not-delivered c a = ap (isDelivery v d) (apart-origin v c a)
+
+  quiet-apart : (c : Call) → Apart (v .tables) c → Quiet caps v c d
+  quiet-apart c a =
+      record {
+        ends = rw (not-delivered c a) refl;
+        client = ap (λ (t : Tables). t .client d) (apart-tables v c a);
+        requests = ap (counted (isRequest d)) (apart-joining v c a)
+            ∙ none-counted (isRequest d) [] (λ x p. absurd p);
+        replies = λ l p. absurd (rw (apart-leaving v c a) at p);
+      }
+
   -- the three ways of an accepted call
   pub data Way : Call → Type 0 where
     quiet : (c : Call) → Quiet caps v c d → Way c
-    starts : (c : Call) → startsFor d c ≡ true → Way c
-    answers : (i : ℕ) → In (placed v i) (v .pile) → answersTo d (placed v i .message) ≡ true
+    starts : (c : Call) → startsFor v d c ≡ true → Way c
+    answers : (i : ℕ) → In (placed v i) (v .inFlight) → answersTo d (placed v i .message) ≡ true
         → Way (deliver i)
 
-  pub way : (c : Call) → ((i : ℕ) → c ≡ deliver i → In (placed v i) (v .pile)) → Way c
+  sort-way : {c : Call} → Sort caps (v .tables) c → Way c
   unfolding effect joining leaving startsFor delivers
-  way (startRead e s) here =
+  sort-way (reads e s a) =
       by-test (eqb e d)
       (λ t. starts (startRead e s) t)
       (λ f. quiet (startRead e s)
@@ -215,7 +236,7 @@ module _ (caps : Capacities) (v : World) (inv : Inv caps v) (d : ℕ) where
         requests = others-labelled d e (v .time) f (gets (v .tables) e s);
         replies = λ l p. absurd p;
       }))
-  way (startWrite e s bytes) here =
+  sort-way (writes e s bytes a) =
       by-test (eqb e d)
       (λ t. starts (startWrite e s bytes) t)
       (λ f. quiet (startWrite e s bytes)
@@ -226,21 +247,15 @@ module _ (caps : Capacities) (v : World) (inv : Inv caps v) (d : ℕ) where
         requests = others-labelled d e (v .time) f (prepares (v .tables) e s bytes);
         replies = λ l p. absurd p;
       }))
-  way (deliver i) here =
+  sort-way (delivered-at i a) =
+      let here = placed-here caps v inv i (a .place) in
       by-test (answersTo d (placed v i .message))
-      (λ t. answers i (here i refl) t)
-      (λ f. quiet (deliver i) (quiet-delivery i (here i refl) f))
-  way (show e output) here =
-      quiet (show e output) (record {
-        ends = refl;
-        client = refl;
-        requests = none-here;
-        replies =
-            λ l p. absurd p;
-      })
-    where
-      none-here : counted (isRequest d) [] ≡ 0
-      none-here = none-counted (isRequest d) [] (λ x p. absurd p)
+      (λ t. answers i here t)
+      (λ f. quiet (deliver i) (quiet-delivery i here f))
+  sort-way (apart c ok a) = quiet c (quiet-apart c a)
+
+  pub way : (c : Call) → refusal caps (v .tables) c ≡ 0 → Way c
+  way c e = sort-way (sort caps (v .tables) c e)
 
 -- ---- answers go to a client with the right part
 

@@ -6,7 +6,7 @@ use mathlib.Core.Logic.{_⊎_, inl, inr, ⊎-elim, _≢_}
 use mathlib.Core.Path.{_≡_, refl, sym, ap, _∙_, subst}
 use Prim.Native.Nat.{ℕ, _≤_}
 use native.Mathlib.Nat.{le-refl}
-use lib.Dec.{ltb, eqb}
+use lib.Dec.{ltb}
 use borrow.Author.Tests.{eqb-true, eq-eqb, ltb-false}
 use Rattle.basics.proofs.Cases.{by-test, not-both, and-left, and-right, not-true}
 use Rattle.itemset.specs.Set.{has}
@@ -15,18 +15,18 @@ use Rattle.protocol.specs.declared.Message.{Message}
 use Rattle.protocol.specs.declared.Message.the-variants.{Prepared}
 use Rattle.protocol.specs.Tables.{Tables, Client, ReadPart, noRead, ofWrite, writerOf}
 use Rattle.protocol.specs.Tables.{laterOf}
+use Rattle.protocol.specs.Message.{ownerOf}
 use Rattle.protocol.specs.Range.{Capacities}
 use Rattle.protocol.specs.Steps.{delivered, prepared, struck, seen, isLast, messageAt, writer}
 use Rattle.protocol.specs.Steps.{nextStamp}
-use Rattle.protocol.specs.Calls.{Call, startRead, startWrite, deliver, show, refusal, effect}
+use Rattle.protocol.specs.Calls.{Call, startWrite, deliver, refusal, effect}
 use Rattle.protocol.specs.Calls.{step, outcomeOf}
-use Rattle.protocol.specs.World.{World, placed, accepts, moved, passed, next, after, ownerOf}
+use Rattle.protocol.specs.World.{World, placed, accepts, moved, passed, next, after}
 use Rattle.protocol.specs.World.{outcomeIn, delivers, endsFor, stays, startsFor}
 use Rattle.protocol.proofs.Put.{put-same}
-use Rattle.protocol.proofs.Refusals.{accepted-read, accepted-write}
-use Rattle.protocol.proofs.Ranges.Values.{IsClient}
+use Rattle.protocol.proofs.Keeps.{keeps}
 use Rattle.protocol.proofs.Link.{Inv}
-use Rattle.protocol.proofs.Link.Step.{placed-message, placed-in, fits, next-inv}
+use Rattle.protocol.proofs.Link.Step.{placed-message, fits, next-inv}
 use Rattle.protocol.proofs.Runs.Touch.{refused-outcome, delivered-outcome, Way, quiet}
 use Rattle.protocol.proofs.Runs.Touch.{starts, answers, way, answers-owner, prepared-of}
 
@@ -79,23 +79,11 @@ module _ (t : Tables) (i k s : ℕ) (is-prepared : messageAt t i ≡ Prepared k 
 module _ (caps : Capacities) (v : World) (inv : Inv caps v) (d s stamp : ℕ)
     (r : Writing d s stamp v) where
   -- a client that starts awaits nothing, and one that writes does
-  started : (e : ℕ) → eqb e d ≡ true → IsClient (v .tables .sizes) e
-      → v .tables .client e .write .awaited ≡ 0 → ⊥
-  started e t is-client none =
-      inv .sound .valid .inRange .client e is-client .alone
-      (subst (λ (x : ℕ). v .tables .client x .write .set ≢ 0) (sym (eqb-true e d t)) (r .mode)) .1
-      none
-
-  not-started : (c : Call) → refusal caps (v .tables) c ≡ 0 → startsFor d c ≡ true → ⊥
+  not-started : (c : Call) → refusal caps (v .tables) c ≡ 0 → startsFor v d c ≡ true → ⊥
   unfolding startsFor
-  not-started (startRead e n) a t =
-      let s = accepted-read caps (v .tables) e n .0 a in
-      started e t (s .client) (s .idle .write)
-  not-started (startWrite e n bytes) a t =
-      let s = accepted-write caps (v .tables) e n bytes .0 a .start in
-      started e t (s .client) (s .idle .write)
-  not-started (deliver i) a t = not-both t refl
-  not-started (show e output) a t = not-both t refl
+  not-started c a t =
+      let start = keeps caps (v .tables) c a .starter d t in
+      inv .sound .valid .inRange .client d (start .0) .alone (r .mode) .1 (start .1 .write)
 
   abbrev Ways : Call → Type 0
   Ways c = (Writing d s stamp (moved v c) × (endsFor caps v d c ≡ false))
@@ -167,8 +155,7 @@ module _ (caps : Capacities) (v : World) (inv : Inv caps v) (d s stamp : ℕ)
 
   ways : (c : Call) → refusal caps (v .tables) c ≡ 0 → Ways c
   ways c a =
-      by-way a (way caps v inv d c
-      (λ i e. placed-in caps v inv i (subst (λ (x : Call). refusal caps (v .tables) x ≡ 0) e a)))
+      by-way a (way caps v inv d c a)
 
   write-goes-on : (c : Call) → endsFor caps v d c ≡ false → Writing d s stamp (next caps v c)
   unfolding next

@@ -1,14 +1,13 @@
 -- What is said of a stamp against a ledger and stored versions is said against others that carry
 -- the stamp.
-use mathlib.Core.Bool.{true, false, _&&_, _||_}
+use mathlib.Core.Bool.{Bool, true, false, _||_}
 use mathlib.Core.List.{List}
 use mathlib.Core.Logic.{_≢_}
 use mathlib.Core.Path.{_≡_, refl, sym, _∙_, subst}
 use Prim.Native.Nat.{ℕ, _≤_, _<_}
 use native.Mathlib.Nat.{le-trans}
 use lib.Dec.{eqb, ltb}
-use borrow.Author.Tests.{ne-eqb}
-use Rattle.basics.proofs.Cases.{by-test, not-both, or-left, or-right, eqb-same}
+use Rattle.basics.proofs.Cases.{by-test, or-left, or-right, eqb-same}
 use Rattle.basics.specs.Lists.{In}
 use Rattle.itemset.specs.Set.{has}
 use Rattle.protocol.specs.declared.Version.{Version}
@@ -17,13 +16,10 @@ use Rattle.protocol.specs.declared.Message.{Message}
 use Rattle.protocol.specs.declared.Message.the-variants.{Prepare, Prepared, Commit, Get, Got}
 use Rattle.protocol.specs.Tables.{Tables, Client, Ended, nothing, read, write, writerOf}
 use Rattle.protocol.specs.Tables.{laterOf}
-use Rattle.protocol.specs.Range.{Capacities, isWriting}
+use Rattle.protocol.specs.Message.{partsOf, ownerOf}
+use Rattle.protocol.specs.Range.{Capacities}
 use Rattle.protocol.specs.Steps.{stored}
-use Rattle.protocol.specs.World.{ownerOf}
-use Rattle.protocol.specs.Clear.{mentions, unused}
-use Rattle.protocol.proofs.Tells.{tells}
 use Rattle.protocol.proofs.Ranges.Values.{IsClient}
-use Rattle.protocol.proofs.Ranges.Tables.{each-client}
 use Rattle.protocol.proofs.Sound.{Ledger, Good, GoodEntry, Kept, Last, Writes, Fits, SoundBy}
 use Rattle.protocol.proofs.Common.{hasItem, Like}
 
@@ -40,6 +36,20 @@ carries-self L vs s = record { set = refl; value = λ k e. refl; keeps = λ k e.
 pub later-good : (L : Ledger) (vs : List Version) (k : ℕ) (a b : Entry) → GoodEntry L vs k a
     → GoodEntry L vs k b → GoodEntry L vs k (laterOf a b)
 later-good L vs k a b x y = by-test (ltb (a .stamp) (b .stamp)) (λ e. rw e y) (λ e. rw e x)
+
+-- the message holds stamp s
+unfoldable pub mentions : ℕ → Message → Bool
+mentions s m = eqb (partsOf m .stamp) s || eqb (partsOf m .latest .stamp) s
+
+mentions-own : (m : Message) → mentions (partsOf m .stamp) m ≡ true
+unfolding mentions
+mentions-own m = let s = partsOf m .stamp in
+    or-left (eqb s s) (eqb (partsOf m .latest .stamp) s) (eqb-same s)
+
+mentions-latest : (m : Message) → mentions (partsOf m .latest .stamp) m ≡ true
+unfolding mentions
+mentions-latest m = let s = partsOf m .latest .stamp in
+    or-right (eqb (partsOf m .stamp) s) (eqb s s) (eqb-same s)
 
 module _ (L L′ : Ledger) (vs vs′ : List Version) where
   pub carry-whole : (s : ℕ) → Carries L L′ vs vs′ s
@@ -78,10 +88,10 @@ module _ (L L′ : Ledger) (vs vs′ : List Version) where
       → stored vs′ (v .item) (v .stamp) ≡ false)
       → ((s : ℕ) → mentions s m ≡ true → Carries L L′ vs vs′ s)
       → Fits L vs c m → Fits L′ vs′ c′ m
-  unfolding Fits hasItem mentions
+  unfolding Fits
   carry-fits c c′ (Prepare v) like own keep carries x =
       let s : Like c c′ = like refl in
-      let a : Carries L L′ vs vs′ (v .stamp) = carries (v .stamp) (eqb-same (v .stamp)) in
+      let a : Carries L L′ vs vs′ (v .stamp) = carries (v .stamp) (mentions-own (Prepare v)) in
       record {
         mode = λ z. x .mode (sym (s .writes) ∙ z);
         stamp = s .stamp ∙ x .stamp;
@@ -96,14 +106,14 @@ module _ (L L′ : Ledger) (vs vs′ : List Version) where
         mode = λ z. x .mode (sym (s .writes) ∙ z);
         stamp = s .stamp ∙ x .stamp;
         isStored =
-            carries s₀ (eqb-same s₀) .keeps k (x .isStored);
+            carries s₀ (mentions-own (Prepared k s₀)) .keeps k (x .isStored);
       }
   carry-fits c c′ (Commit p s₀) like own keep carries x =
       record {
         item = x .item;
-        some = carries s₀ (eqb-same s₀) .keeps (x .item) (x .some);
+        some = carries s₀ (mentions-own (Commit p s₀)) .keeps (x .item) (x .some);
         whole =
-            carry-whole s₀ (carries s₀ (eqb-same s₀)) (x .whole);
+            carry-whole s₀ (carries s₀ (mentions-own (Commit p s₀))) (x .whole);
       }
   carry-fits c c′ (Get d k s₀) like own keep carries x =
       let s : Like c c′ = like refl in
@@ -111,16 +121,14 @@ module _ (L L′ : Ledger) (vs vs′ : List Version) where
         mode = λ z. x .mode (sym (s .reads) ∙ z);
         asked = s .asked k ∙ x .asked;
         good =
-            carry-good k s₀ (carries s₀ (eqb-same s₀)) (x .good);
+            carry-good k s₀ (carries s₀ (mentions-own (Get d k s₀))) (x .good);
       }
   carry-fits c c′ (Got d v e) like own keep carries x =
       let s : Like c c′ = like refl in
       let a : Carries L L′ vs vs′ (v .stamp) =
-      carries (v .stamp) (or-left (eqb (v .stamp) (v .stamp)) (eqb (e .stamp) (v .stamp))
-      (eqb-same (v .stamp))) in
+      carries (v .stamp) (mentions-own (Got d v e)) in
       let b : Carries L L′ vs vs′ (e .stamp) =
-      carries (e .stamp) (or-right (eqb (v .stamp) (e .stamp)) (eqb (e .stamp) (e .stamp))
-      (eqb-same (e .stamp))) in
+      carries (e .stamp) (mentions-latest (Got d v e)) in
       record {
         mode = λ z. x .mode (sym (s .reads) ∙ z);
         asked = s .asked (v .item) ∙ x .asked;
@@ -151,59 +159,10 @@ all-covered t = record {
       λ d i m. tt;
 }
 
-module _ (t : Tables) where
-  uses : (s : ℕ) → (unused t s ≡ true → ⊥) → unused t s ≡ false
-  uses s f = by-test (unused t s) (λ e. absurd (f e)) (λ e. e)
-
-  pub view-used : (d k : ℕ) → IsClient (t .sizes) d → k < t .sizes .items
-      → unused t (t .view d k .stamp) ≡ false
-  unfolding unused
-  view-used d k i l =
-      uses (t .view d k .stamp)
-      (λ e. let f = simp tells at e in
-      let g = each-client (t .sizes)
-      (λ b. (j : ℕ) → j < t .sizes .items → (t .view b j .stamp ≡ t .view d k .stamp) → ⊥)
-      (f .0 .0 .0) in
-      g d i k l refl)
-
-  pub latest-used : (k : ℕ) → k < t .sizes .items → unused t (t .latest k .stamp) ≡ false
-  unfolding unused
-  latest-used k l = uses (t .latest k .stamp) (λ e. let f = simp tells at e in f .0 .0 .1 k l refl)
-
-  pub message-used : (m : Message) → In m (t .messages) → (s : ℕ) → mentions s m ≡ true
-      → unused t s ≡ false
-  unfolding unused
-  message-used m i s e =
-      uses s (λ f. let g = simp tells at f in not-both e (g .0 .1 m i))
-
-  pub write-used : (d : ℕ) → IsClient (t .sizes) d → t .client d .write .set ≢ 0
-      → unused t (t .client d .write .stamp) ≡ false
-  unfolding unused
-  write-used d i m =
-      uses (t .client d .write .stamp)
-      (λ f. let h = simp tells at f in
-      let g = each-client (t .sizes)
-      (λ b. (isWriting (t .client b)
-      && eqb (t .client b .write .stamp) (t .client d .write .stamp)) ≡ false) (h .1) in
-      not-both {b = isWriting (t .client d)
-      && eqb (t .client d .write .stamp) (t .client d .write .stamp)}
-      (rw (ne-eqb (t .client d .write .set) 0 m, eqb-same (t .client d .write .stamp)) refl)
-      (g d i))
-
-  pub used-covered : Covers (λ s. unused t s ≡ false) t
-  used-covered = record {
-    view = view-used;
-    latest = latest-used;
-    message = message-used;
-    write =
-        write-used;
-  }
-
 -- ---- what changes neither place nor message is carried
 
 pub owner-client : (caps : Capacities) (L : Ledger) (t : Tables) → SoundBy caps L t → (m : Message)
     → In m (t .messages) → IsClient (t .sizes) (ownerOf m)
-unfolding ownerOf
 owner-client caps L t sound (Prepare v) i =
     sound .valid .inRange .messages (Prepare v) i .stamp .writer
 owner-client caps L t sound (Prepared k s) i =

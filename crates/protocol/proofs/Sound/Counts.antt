@@ -13,14 +13,13 @@ use Rattle.itemset.specs.Set.{has}
 use Rattle.protocol.specs.declared.Message.{Message}
 use Rattle.protocol.specs.declared.Message.the-variants.{Prepare, Prepared, Commit, Get, Got}
 use Rattle.protocol.specs.Tables.{Tables, numberOf, writerOf}
+use Rattle.protocol.specs.Message.{partsOf}
 use Rattle.protocol.specs.Range.{Capacities}
 use Rattle.protocol.specs.Steps.{stored, found}
-use Rattle.protocol.specs.World.{ownerOf}
-use Rattle.protocol.specs.Clear.{mentions}
 use Rattle.protocol.proofs.Stored.{found-held}
 use Rattle.protocol.proofs.Ranges.Values.{IsClient}
 use Rattle.protocol.proofs.Sound.{Ledger, Good, Counted, Fits, SoundBy}
-use Rattle.protocol.proofs.Sound.Carry.{Covers, owner-client}
+use Rattle.protocol.proofs.Sound.Carry.{mentions, Covers, owner-client}
 use Rattle.protocol.proofs.Sound.Staying.{write-number}
 
 module _ (caps : Capacities) (L : Ledger) (t : Tables) (sound : SoundBy caps L t) where
@@ -47,32 +46,39 @@ module _ (caps : Capacities) (L : Ledger) (t : Tables) (sound : SoundBy caps L t
       subst (λ (e : ℕ). numberOf (t .client d .write .stamp) ≤ t .client e .count) (sym writer)
       (write-number L (t .versions) d (t .client d) small w)
 
+  -- the stamps of a message: its own, and a got's latest
+  own-counted : (m : Message) → In m (t .messages) → Counted (t .client) (partsOf m .stamp)
+  unfolding Fits
+  own-counted (Prepare v) i =
+      let fit = sound .fits (Prepare v) i in
+      subst (Counted (t .client)) (fit .stamp)
+      (write-counted (writerOf (v .stamp)) (owner-client caps L t sound (Prepare v) i) (fit .mode))
+  own-counted (Prepared k r) i = stored-counted k r (sound .fits (Prepared k r) i .isStored)
+  own-counted (Commit p r) i =
+      let fit = sound .fits (Commit p r) i in stored-counted (fit .item) r (fit .some)
+  own-counted (Get d k r) i = good-counted k r (sound .fits (Get d k r) i .good)
+  own-counted (Got d v l) i =
+      good-counted (v .item) (v .stamp) (sound .fits (Got d v l) i .good)
+
+  latest-counted : (m : Message) → In m (t .messages)
+      → Counted (t .client) (partsOf m .latest .stamp)
+  unfolding Fits
+  latest-counted (Prepare v) i = zero-counted
+  latest-counted (Prepared k r) i = zero-counted
+  latest-counted (Commit p r) i = zero-counted
+  latest-counted (Get d k r) i = zero-counted
+  latest-counted (Got d v l) i =
+      good-counted (v .item) (l .stamp) (sound .fits (Got d v l) i .latest .good)
+
   message-counted : (m : Message) → In m (t .messages) → (s : ℕ) → mentions s m ≡ true
       → Counted (t .client) s
-  unfolding mentions Fits ownerOf
-  message-counted (Prepare v) i s e =
-      let fit = sound .fits (Prepare v) i in
-      subst (Counted (t .client)) (eqb-true (v .stamp) s e)
-      (subst (Counted (t .client)) (fit .stamp)
-      (write-counted (writerOf (v .stamp)) (owner-client caps L t sound (Prepare v) i)
-      (fit .mode)))
-  message-counted (Prepared k r) i s e =
-      subst (Counted (t .client)) (eqb-true r s e)
-      (stored-counted k r (sound .fits (Prepared k r) i .isStored))
-  message-counted (Commit p r) i s e =
-      let fit = sound .fits (Commit p r) i in
-      subst (Counted (t .client)) (eqb-true r s e) (stored-counted (fit .item) r (fit .some))
-  message-counted (Get d k r) i s e =
-      subst (Counted (t .client)) (eqb-true r s e)
-      (good-counted k r (sound .fits (Get d k r) i .good))
-  message-counted (Got d v l) i s e =
-      let fit = sound .fits (Got d v l) i in
-      ⊎-elim
-      (λ f. subst (Counted (t .client)) (eqb-true (v .stamp) s f)
-      (good-counted (v .item) (v .stamp) (fit .good)))
-      (λ f. subst (Counted (t .client)) (eqb-true (l .stamp) s f)
-      (good-counted (v .item) (l .stamp) (fit .latest .good)))
-      (or-cases (eqb (v .stamp) s) (eqb (l .stamp) s) e)
+  unfolding mentions
+  message-counted m i s e =
+      let own = partsOf m .stamp in
+      let latest = partsOf m .latest .stamp in
+      ⊎-elim (λ f. subst (Counted (t .client)) (eqb-true own s f) (own-counted m i))
+      (λ f. subst (Counted (t .client)) (eqb-true latest s f) (latest-counted m i))
+      (or-cases (eqb own s) (eqb latest s) e)
 
   pub counted-covered : Covers (Counted (t .client)) t
   counted-covered =

@@ -12,9 +12,9 @@ use Rattle.itemset.specs.Set.{has}
 use Rattle.protocol.specs.declared.Version.{Version}
 use Rattle.protocol.specs.declared.Message.the-variants.{Commit}
 use Rattle.protocol.specs.Tables.{Side, ofRead, ofWrite, awaitedOf, Tables, partitionOf}
+use Rattle.protocol.specs.Message.{ownerOf}
 use Rattle.protocol.specs.Range.{Capacities}
 use Rattle.protocol.specs.Steps.{delivered, joined, stored, found, committed}
-use Rattle.protocol.specs.World.{ownerOf}
 use Rattle.protocol.proofs.Each.{each-none, each-append}
 use Rattle.protocol.proofs.Stored.{found-held}
 use Rattle.protocol.proofs.Ranges.Values.{IsClient}
@@ -23,13 +23,13 @@ use Rattle.protocol.proofs.Sound.{Ledger, GoodEntry, Kept, FitsCommit, 
 use Rattle.protocol.proofs.Sound.Carry.{later-good}
 use Rattle.protocol.proofs.Sound.Delivery.{Taken}
 use Rattle.protocol.proofs.Sound.Staying.{afterDelivery, staying, same-clients}
-use Rattle.protocol.proofs.Common.{isFor, ofSide}
+use Rattle.protocol.proofs.Common.{isFor}
 
 module _ (caps : Capacities) (L : Ledger) (t : Tables) (sound : SoundBy caps L t) (i : ℕ) where
   module _ (p s : ℕ) (taken : Taken t i (Commit p s))
       (ok : Valid caps (afterDelivery t i (Commit p s))) where
     fit : FitsCommit L (t .versions) s
-    unfolding Fits ownerOf
+    unfolding Fits
     fit = sound .fits (Commit p s) (taken .isIn)
 
     -- what is stored of the stamp holds its set
@@ -64,7 +64,7 @@ module _ (caps : Capacities) (L : Ledger) (t : Tables) (sound : SoundBy caps L t
     one : (σ : Side) (d k : ℕ) → IsClient (t .sizes) d
         → counted (isFor σ d k) (without i (t .messages) ++ []) ≡ cond
         (has (awaitedOf σ (t .client d)) k) 1 0
-    unfolding ofSide counted
+    unfolding counted
     one ofRead d k h =
         counted-append (isFor ofRead d k) (without i (t .messages)) []
         ∙ omega (arith, taken .split (isFor ofRead d k)) ∙ sound .one ofRead d k h

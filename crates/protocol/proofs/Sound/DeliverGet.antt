@@ -10,29 +10,29 @@ use Rattle.itemset.specs.Set.{has}
 use Rattle.protocol.specs.declared.Message.{Message}
 use Rattle.protocol.specs.declared.Message.the-variants.{Get, Got}
 use Rattle.protocol.specs.Tables.{Side, ofRead, ofWrite, awaitedOf, Tables}
+use Rattle.protocol.specs.Message.{ownerOf}
 use Rattle.protocol.specs.Range.{Capacities}
 use Rattle.protocol.specs.Steps.{delivered, joined, found, version}
-use Rattle.protocol.specs.World.{ownerOf, itemOf}
 use Rattle.protocol.proofs.Each.{each-one, each-append}
 use Rattle.protocol.proofs.Ranges.Values.{IsClient}
 use Rattle.protocol.proofs.Ranges.Tables.{Valid}
 use Rattle.protocol.proofs.Sound.{Ledger, FitsGet, Fits, SoundBy}
 use Rattle.protocol.proofs.Sound.Delivery.{Taken}
 use Rattle.protocol.proofs.Sound.Staying.{afterDelivery, staying, same-clients, found-value}
-use Rattle.protocol.proofs.Common.{isFor, ofSide}
+use Rattle.protocol.proofs.Common.{isFor}
 
 module _ (caps : Capacities) (L : Ledger) (t : Tables) (sound : SoundBy caps L t) (i : ℕ) where
   module _ (d k s : ℕ) (taken : Taken t i (Get d k s))
       (ok : Valid caps (afterDelivery t i (Get d k s))) where
     fit : FitsGet L (t .versions) (t .client d) k s
-    unfolding Fits ownerOf
+    unfolding Fits
     fit = sound .fits (Get d k s) (taken .isIn)
 
     abbrev reply : Message
     reply = Got d (version k (found (t .versions) k s .value) s 0) (t .latest k)
 
     joins : Fits L (t .versions) (t .client (ownerOf reply)) reply
-    unfolding Fits ownerOf
+    unfolding Fits
     joins =
         record {
           mode = fit .mode;
@@ -46,7 +46,7 @@ module _ (caps : Capacities) (L : Ledger) (t : Tables) (sound : SoundBy caps L t
     one : (σ : Side) (e j : ℕ) → IsClient (t .sizes) e
         → counted (isFor σ e j) (without i (t .messages) ++ reply ∷ []) ≡ cond
         (has (awaitedOf σ (t .client e)) j) 1 0
-    unfolding ofSide itemOf ownerOf counted
+    unfolding counted
     one ofRead e j h =
         counted-append (isFor ofRead e j) (without i (t .messages)) (reply ∷ [])
         ∙ omega (arith, taken .split (isFor ofRead e j)) ∙ sound .one ofRead e j h

@@ -15,10 +15,10 @@ use Rattle.protocol.specs.declared.Message.{Message}
 use Rattle.protocol.specs.declared.Message.the-variants.{Got}
 use Rattle.protocol.specs.Tables.{Tables, Client, Side, ofRead, ofWrite, awaitedOf, resting}
 use Rattle.protocol.specs.Tables.{laterOf, put}
+use Rattle.protocol.specs.Message.{ownerOf}
 use Rattle.protocol.specs.Range.{Capacities}
 use Rattle.protocol.specs.Steps.{delivered, joined, stored, seen, commits, got, answered}
 use Rattle.protocol.specs.Steps.{ended, isLast}
-use Rattle.protocol.specs.World.{ownerOf, itemOf}
 use Rattle.protocol.proofs.Each.{Each, each-none, each-append}
 use Rattle.protocol.proofs.Put.{by-cond, put-every}
 use Rattle.protocol.proofs.Ranges.Values.{IsClient}
@@ -42,11 +42,10 @@ module _ (caps : Capacities) (L : Ledger) (t : Tables) (sound : SoundBy caps L t
   k = v .item
 
   fit : FitsGot L (t .versions) c v latest
-  unfolding Fits ownerOf
+  unfolding Fits
   fit = sound .fits (Got d v latest) (taken .isIn)
 
   is-client : IsClient (t .sizes) d
-  unfolding ownerOf
   is-client = owner-client caps L t sound (Got d v latest) (taken .isIn)
 
   abbrev last : Bool
@@ -147,12 +146,11 @@ module _ (caps : Capacities) (L : Ledger) (t : Tables) (sound : SoundBy caps L t
   mine : (τ : Side) → ((ofSide τ (Got d v latest) ≡ true)
       × (leftOf ofRead c k τ ≡ remove (awaitedOf τ c) k))
       ⊎ ((ofSide τ (Got d v latest) ≡ false) × (leftOf ofRead c k τ ≡ awaitedOf τ c))
-  unfolding ofSide
   mine ofRead = inl (refl, refl)
   mine ofWrite = inr (refl, refl)
 
   pub sound-got : SoundBy caps L (afterDelivery t i (Got d v latest))
-  unfolding delivered joined ownerOf itemOf
+  unfolding delivered joined
   sound-got =
       record {
         valid = ok;

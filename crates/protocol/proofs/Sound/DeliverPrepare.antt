@@ -16,9 +16,9 @@ use Rattle.protocol.specs.declared.Message.{Message}
 use Rattle.protocol.specs.declared.Message.the-variants.{Prepare, Prepared}
 use Rattle.protocol.specs.Tables.{Side, ofRead, ofWrite, awaitedOf, Tables, numberOf}
 use Rattle.protocol.specs.Tables.{writerOf}
+use Rattle.protocol.specs.Message.{ownerOf}
 use Rattle.protocol.specs.Range.{Capacities}
 use Rattle.protocol.specs.Steps.{delivered, joined, stored, alike}
-use Rattle.protocol.specs.World.{ownerOf, itemOf}
 use Rattle.protocol.proofs.Each.{each-one, each-append}
 use Rattle.protocol.proofs.Stored.{in-stored, stored-append, stored-more}
 use Rattle.protocol.proofs.Ranges.Values.{IsClient}
@@ -30,7 +30,7 @@ use Rattle.protocol.proofs.Sound.Carry.{fits-carried}
 use Rattle.protocol.proofs.Sound.Delivery.{Taken, not-again}
 use Rattle.protocol.proofs.Sound.Distinct.{distinct-append}
 use Rattle.protocol.proofs.Sound.Staying.{afterDelivery, write-number, small}
-use Rattle.protocol.proofs.Common.{isFor, ofSide, like-self}
+use Rattle.protocol.proofs.Common.{isFor, like-self}
 
 module _ (caps : Capacities) (L : Ledger) (t : Tables) (sound : SoundBy caps L t) (i : ℕ) where
   module _ (v : Version) (taken : Taken t i (Prepare v))
@@ -42,11 +42,10 @@ module _ (caps : Capacities) (L : Ledger) (t : Tables) (sound : SoundBy caps L t
     d = writerOf (v .stamp)
 
     fit : FitsPrepare L (t .versions) (t .client d) v
-    unfolding Fits ownerOf
+    unfolding Fits
     fit = sound .fits (Prepare v) (taken .isIn)
 
     is-client : IsClient (t .sizes) d
-    unfolding ownerOf
     is-client = owner-client caps L t sound (Prepare v) (taken .isIn)
 
     carries : (s : ℕ) → Any s → Carries L L (t .versions) vs′ s
@@ -70,7 +69,7 @@ module _ (caps : Capacities) (L : Ledger) (t : Tables) (sound : SoundBy caps L t
     unstored : (x : Message) → In x (without i (t .messages)) → (u : Version) → x ≡ Prepare u
         → stored (t .versions) (u .item) (u .stamp) ≡ false
         → stored vs′ (u .item) (u .stamp) ≡ false
-    unfolding stored ofSide ownerOf itemOf
+    unfolding stored
     unstored x p u e f =
         stored-append (t .versions) (v ∷ []) (u .item) (u .stamp)
         ∙ rw f
@@ -91,7 +90,7 @@ module _ (caps : Capacities) (L : Ledger) (t : Tables) (sound : SoundBy caps L t
     one : (σ : Side) (e k : ℕ) → IsClient (t .sizes) e
         → counted (isFor σ e k) (without i (t .messages) ++ Prepared (v .item) (v .stamp) ∷ [])
         ≡ cond (has (awaitedOf σ (t .client e)) k) 1 0
-    unfolding ofSide itemOf ownerOf counted
+    unfolding counted
     one ofRead e k h =
         counted-append (isFor ofRead e k) (without i (t .messages))
         (Prepared (v .item) (v .stamp) ∷ [])
@@ -103,7 +102,7 @@ module _ (caps : Capacities) (L : Ledger) (t : Tables) (sound : SoundBy caps L t
 
     joins : Fits L vs′ (t .client (ownerOf (Prepared (v .item) (v .stamp))))
         (Prepared (v .item) (v .stamp))
-    unfolding Fits ownerOf
+    unfolding Fits
     joins = record {
       mode = fit .mode;
       stamp = fit .stamp;

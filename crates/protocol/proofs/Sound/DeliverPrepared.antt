@@ -2,36 +2,34 @@
 use mathlib.Core.Bool.{true, false, cond, Bool}
 use mathlib.Core.List.{List, []}
 use mathlib.Core.Logic.{_≢_, _⊎_, inl, inr}
-use mathlib.Core.Path.{_≡_, refl, sym, ap, _∙_, subst}
+use mathlib.Core.Path.{_≡_, refl, sym, _∙_, subst}
 use Prim.Native.Nat.{ℕ, _≤_, _<_}
-use native.Mathlib.Nat.{le-refl, le-trans}
-use native.Mathlib.Omega.{arith}
+use native.Mathlib.Nat.{le-refl}
 use lib.Dec.{eqb}
 use borrow.Author.Tests.{eqb-true, eqb-false}
-use Rattle.basics.proofs.Cases.{by-test, or-right}
-use Rattle.basics.specs.Lists.{In, counted, without}
-use Rattle.basics.proofs.Lists.{in-map, none-counted}
-use Rattle.itemset.specs.Set.{has, remove, upto}
+use Rattle.basics.proofs.Cases.{by-test}
+use Rattle.basics.specs.Lists.{counted, without}
+use Rattle.itemset.specs.Set.{has, remove}
 use Rattle.itemset.proofs.Laws.{has-empty, has-remove-other}
 use Rattle.protocol.specs.declared.Entry.{Entry}
 use Rattle.protocol.specs.declared.Message.{Message}
-use Rattle.protocol.specs.declared.Message.the-variants.{Prepared, Commit}
+use Rattle.protocol.specs.declared.Message.the-variants.{Prepared}
 use Rattle.protocol.specs.Tables.{Tables, Client, Side, ofRead, ofWrite, awaitedOf, resting}
 use Rattle.protocol.specs.Tables.{writerOf, put}
+use Rattle.protocol.specs.Message.{ownerOf}
 use Rattle.protocol.specs.Range.{Capacities}
 use Rattle.protocol.specs.Steps.{delivered, joined, stored, prepared, struck, ended, seen}
 use Rattle.protocol.specs.Steps.{isLast, commits}
-use Rattle.protocol.specs.World.{ownerOf, itemOf}
 use Rattle.protocol.proofs.Each.{Each, each-none, each-append}
 use Rattle.protocol.proofs.Put.{by-cond, put-every}
 use Rattle.protocol.proofs.Ranges.Values.{IsClient}
 use Rattle.protocol.proofs.Ranges.Tables.{Valid}
-use Rattle.protocol.proofs.Sound.{Ledger, GoodEntry, Counted, Writes, Last, FitsPrepared}
+use Rattle.protocol.proofs.Sound.{Ledger, GoodEntry, Writes, Last, FitsPrepared}
 use Rattle.protocol.proofs.Sound.{Fits, SoundBy}
-use Rattle.protocol.proofs.Sound.Carry.{later-good, owner-client, recounted, last-recounted}
+use Rattle.protocol.proofs.Sound.Carry.{owner-client, recounted, last-recounted}
 use Rattle.protocol.proofs.Sound.End.{commits-for, ended-last, seen-good, commits-fit}
 use Rattle.protocol.proofs.Sound.Delivery.{Taken, one-after, likes}
-use Rattle.protocol.proofs.Sound.Staying.{afterDelivery, write-number, small, staying}
+use Rattle.protocol.proofs.Sound.Staying.{afterDelivery, staying}
 use Rattle.protocol.proofs.Common.{isFor, ofSide, by-side, leftOf, Like, struck-last}
 
 module _ (caps : Capacities) (L : Ledger) (t : Tables) (sound : SoundBy caps L t) (i : ℕ) (k s : ℕ)
@@ -44,11 +42,10 @@ module _ (caps : Capacities) (L : Ledger) (t : Tables) (sound : SoundBy caps L t
   c = t .client d
 
   fit : FitsPrepared (t .versions) c k s
-  unfolding Fits ownerOf
+  unfolding Fits
   fit = sound .fits (Prepared k s) (taken .isIn)
 
   is-client : IsClient (t .sizes) d
-  unfolding ownerOf
   is-client = owner-client caps L t sound (Prepared k s) (taken .isIn)
 
   writes : Writes L (t .versions) d c
@@ -157,12 +154,11 @@ module _ (caps : Capacities) (L : Ledger) (t : Tables) (sound : SoundBy caps L t
   mine : (τ : Side) → ((ofSide τ (Prepared k s) ≡ true)
       × (leftOf ofWrite c k τ ≡ remove (awaitedOf τ c) k))
       ⊎ ((ofSide τ (Prepared k s) ≡ false) × (leftOf ofWrite c k τ ≡ awaitedOf τ c))
-  unfolding ofSide
   mine ofRead = inr (refl, refl)
   mine ofWrite = inl (refl, refl)
 
   pub sound-prepared : SoundBy caps L (afterDelivery t i (Prepared k s))
-  unfolding delivered joined ownerOf itemOf
+  unfolding delivered joined
   sound-prepared =
       record {
         valid = ok;

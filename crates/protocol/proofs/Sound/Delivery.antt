@@ -10,16 +10,16 @@ use lib.ListN.{length}
 use borrow.Author.Tests.{eqb-true, eqb-false, ne-eqb}
 use Rattle.basics.proofs.Cases.{by-test, not-both, eqb-same}
 use Rattle.basics.specs.Lists.{In, counted, without}
-use Rattle.basics.proofs.Lists.{in-getD, in-without, counted-in, counted-none, counted-append}
+use Rattle.basics.proofs.Lists.{in-getD, counted-in, counted-none, counted-append}
 use Rattle.basics.proofs.Lists.{counted-without}
 use Rattle.itemset.specs.Set.{has, remove}
 use Rattle.itemset.proofs.Laws.{has-remove-same, has-remove-other}
 use Rattle.protocol.specs.declared.Message.{Message}
 use Rattle.protocol.specs.declared.Message.the-variants.{Commit}
 use Rattle.protocol.specs.Tables.{Tables, Client, Side, awaitedOf, put}
+use Rattle.protocol.specs.Message.{ownerOf, itemOf}
 use Rattle.protocol.specs.Range.{Capacities}
 use Rattle.protocol.specs.Steps.{isLast, messageAt}
-use Rattle.protocol.specs.World.{ownerOf, itemOf}
 use Rattle.protocol.proofs.Ranges.Values.{IsClient}
 use Rattle.protocol.proofs.Refusals.{Idle, idle-awaits}
 use Rattle.protocol.proofs.Sound.{Ledger, SoundBy}

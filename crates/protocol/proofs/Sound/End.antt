@@ -1,15 +1,15 @@
 -- What the end of a transaction does for its write part, whichever reply ends it: the entries that
 -- its items' views take are good, its commits fit and are for no item, and the ended write agrees
 -- with the ledger.
-use mathlib.Core.Bool.{true, false, cond, _&&_}
-use mathlib.Core.Path.{_≡_, refl, sym, ap, _∙_, subst}
+use mathlib.Core.Bool.{true, cond}
+use mathlib.Core.Path.{_≡_, refl, sym, ap, subst}
 use mathlib.Core.Logic.{_≢_}
 use Prim.Native.Nat.{ℕ, zero, suc, _≤_}
 use native.Mathlib.Nat.{le-trans}
 use lib.Dec.{eqb}
 use borrow.Author.Tests.{eqb-false}
 use Rattle.basics.proofs.Cases.{by-test, not-both, and-left, or-right}
-use Rattle.basics.specs.Lists.{In, counted}
+use Rattle.basics.specs.Lists.{counted}
 use Rattle.basics.proofs.Lists.{in-map, none-counted}
 use Rattle.itemset.specs.Set.{has, upto}
 use Rattle.itemset.proofs.Laws.{has-empty}
@@ -17,15 +17,15 @@ use Rattle.protocol.specs.declared.Entry.{Entry}
 use Rattle.protocol.specs.declared.Message.{Message}
 use Rattle.protocol.specs.declared.Message.the-variants.{Commit}
 use Rattle.protocol.specs.Tables.{Tables, Client, Side, ofRead, ofWrite, read, write}
-use Rattle.protocol.specs.Tables.{numberOf, writerOf}
+use Rattle.protocol.specs.Tables.{writerOf}
 use Rattle.protocol.specs.Range.{Capacities}
 use Rattle.protocol.specs.Steps.{stored, seen, commits, touches}
 use Rattle.protocol.proofs.Each.{Each, each-upto}
 use Rattle.protocol.proofs.Ranges.Values.{IsClient}
-use Rattle.protocol.proofs.Sound.{Ledger, GoodEntry, Writes, Last, Fits, SoundBy}
+use Rattle.protocol.proofs.Sound.{Ledger, GoodEntry, Last, Fits, SoundBy}
 use Rattle.protocol.proofs.Sound.Carry.{later-good}
 use Rattle.protocol.proofs.Sound.Counts.{write-counted}
-use Rattle.protocol.proofs.Common.{isFor, ofSide, by-side}
+use Rattle.protocol.proofs.Common.{isFor, by-side}
 
 -- a partition touched has an item of the set
 touches-some : (t : Tables) (s p n : ℕ) → touches t s p n ≡ true → (j : ℕ) × (has s j ≡ true)
@@ -43,7 +43,6 @@ has-some s j e z = not-both e (rw z (has-empty j))
 -- commits are for no item
 pub commits-for : (t : Tables) (s stamp : ℕ) (σ : Side) (e j : ℕ)
     → counted (isFor σ e j) (commits t s stamp) ≡ 0
-unfolding ofSide
 commits-for t s stamp =
     by-side (λ σ. (e j : ℕ) → counted (isFor σ e j) (commits t s stamp) ≡ 0)
     (λ e j. none-counted (isFor ofRead e j) (commits t s stamp)
@@ -110,7 +109,8 @@ module _ (caps : Capacities) (L : Ledger) (t : Tables) (sound : SoundBy caps L t
           → Each (λ x. Fits L (t .versions) (of x) x) (commits t (c .write .set) stamp)
       unfolding Fits
       commits-fit of =
-          each-upto (λ x. Fits L (t .versions) (of x) x) (λ p. Commit p stamp) (t .sizes .partitions)
+          each-upto (λ x. Fits L (t .versions) (of x) x) (λ p. Commit p stamp)
+          (t .sizes .partitions)
           (λ p. touches t (c .write .set) p (t .sizes .items))
           (λ p l e. let q = touches-some t (c .write .set) p (t .sizes .items) e in
           record {

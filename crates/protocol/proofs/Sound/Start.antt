@@ -9,17 +9,17 @@ use native.Mathlib.Omega.{arith}
 use native.Mathlib.Nat.{le-trans}
 use lib.Dec.{eqb}
 use borrow.Author.Tests.{eqb-true, eqb-false, eq-eqb, ne-eqb}
-use Rattle.basics.proofs.Cases.{by-test, not-both, and-left, and-right, or-right, eqb-same}
+use Rattle.basics.proofs.Cases.{by-test, or-right}
 use Rattle.basics.specs.Lists.{In, counted}
 use Rattle.basics.proofs.Lists.{counted-append, counted-map, counted-ext, none-counted}
 use Rattle.itemset.specs.Set.{has, members}
 use Rattle.itemset.proofs.Laws.{has-empty}
 use Rattle.protocol.specs.declared.Version.{Version}
 use Rattle.protocol.specs.declared.Message.{Message}
-use Rattle.protocol.specs.Tables.{Tables, Client, Side, ofRead, ofWrite, awaitedOf, Ended}
+use Rattle.protocol.specs.Tables.{Tables, Client, Side, awaitedOf, Ended}
 use Rattle.protocol.specs.Tables.{nothing, read, write, withClient, withMessages}
+use Rattle.protocol.specs.Message.{ownerOf, itemOf}
 use Rattle.protocol.specs.Range.{Capacities}
-use Rattle.protocol.specs.World.{ownerOf, itemOf}
 use Rattle.protocol.proofs.Each.{each-append}
 use Rattle.protocol.proofs.Put.{put-every}
 use Rattle.protocol.proofs.Ranges.Values.{IsClient}
@@ -28,9 +28,9 @@ use Rattle.protocol.proofs.Ranges.Tables.{Valid}
 use Rattle.protocol.proofs.Sound.{Ledger, Kept, Counted, Writes, Last, Fits, SoundBy}
 use Rattle.protocol.proofs.Sound.Carry.{Carries, view-carried, latest-carried}
 use Rattle.protocol.proofs.Sound.Carry.{writes-carried, fits-carried}
-use Rattle.protocol.proofs.Sound.Delivery.{awaited-in, no-message}
+use Rattle.protocol.proofs.Sound.Delivery.{no-message}
 use Rattle.protocol.proofs.Sound.Counts.{counted-covered}
-use Rattle.protocol.proofs.Common.{isFor, hasItem, ofSide, side-of, Like, like-self}
+use Rattle.protocol.proofs.Common.{isFor, hasItem, ofSide, Like, like-self}
 use Rattle.protocol.proofs.Common.{members-once}
 
 abbrev pub afterStart : Tables → ℕ → Client → List Message → Tables

@@ -5,7 +5,6 @@ use mathlib.Core.Logic.{⊎-elim}
 use mathlib.Core.Path.{_≡_, refl, sym, subst, _∙_}
 use Prim.Native.Nat.{ℕ, _^_, _<_}
 use native.Mathlib.Nat.{le-refl}
-use native.Mathlib.Omega.{arith}
 use lib.Dec.{eqb}
 use Rattle.basics.proofs.Cases.{or-right, not-both}
 use Rattle.basics.specs.Lists.{counted}
@@ -13,10 +12,10 @@ use Rattle.itemset.specs.Set.{has}
 use Rattle.itemset.proofs.Laws.{has-below, has-empty}
 use Rattle.protocol.specs.declared.Entry.{Entry}
 use Rattle.protocol.specs.declared.Message.the-variants.{Get}
-use Rattle.protocol.specs.Tables.{Tables, Side, ofRead, ofWrite, awaitedOf, put}
+use Rattle.protocol.specs.Tables.{Tables, ofRead, ofWrite, awaitedOf, put}
+use Rattle.protocol.specs.Message.{ownerOf}
 use Rattle.protocol.specs.Range.{Capacities}
 use Rattle.protocol.specs.Steps.{choice, asks, reader, startedRead, gets}
-use Rattle.protocol.specs.World.{ownerOf, itemOf}
 use Rattle.protocol.proofs.Each.{each-upto}
 use Rattle.protocol.proofs.Put.{put-same}
 use Rattle.protocol.proofs.Refusals.{Idle}
@@ -26,7 +25,7 @@ use Rattle.protocol.proofs.Ranges.Tables.{Valid}
 use Rattle.protocol.proofs.Sound.{Ledger, Good, GoodEntry, Fits, SoundBy}
 use Rattle.protocol.proofs.Sound.Carry.{carries-self}
 use Rattle.protocol.proofs.Sound.Start.{begin-sound, part-counted, part-uncounted, none-due}
-use Rattle.protocol.proofs.Common.{isFor, ofSide, by-side}
+use Rattle.protocol.proofs.Common.{isFor, by-side}
 
 -- the stamp chosen from a view of good entries is good
 module _ (L : Ledger) (t : Tables) (view : ℕ → Entry) (n : ℕ)
@@ -55,7 +54,7 @@ module _ (L : Ledger) (t : Tables) (view : ℕ → Entry) (n : ℕ)
 module _ (caps : Capacities) (L : Ledger) (t : Tables) (sound : SoundBy caps L t) (d s : ℕ) where
   pub sound-read : IsClient (t .sizes) d → Idle (t .client d) → s < 2 ^ t .sizes .items
       → Valid caps (startedRead t d s) → SoundBy caps L (startedRead t d s)
-  unfolding ofSide ownerOf itemOf Fits
+  unfolding Fits
   sound-read is-client rests below ok =
       begin-sound caps L t sound L (λ r e. carries-self L (t .versions) r) d (reader t d s)
       (gets t d s) is-client rests

@@ -12,12 +12,12 @@ use Rattle.basics.specs.Lists.{counted}
 use Rattle.itemset.proofs.Laws.{has-empty}
 use Rattle.itemset.specs.Set.{has}
 use Rattle.protocol.specs.declared.Message.the-variants.{Prepare}
-use Rattle.protocol.specs.Tables.{Tables, Side, ofRead, ofWrite, awaitedOf, numberOf}
+use Rattle.protocol.specs.Tables.{Tables, ofRead, ofWrite, awaitedOf, numberOf}
 use Rattle.protocol.specs.Tables.{writerOf, put}
+use Rattle.protocol.specs.Message.{ownerOf}
 use Rattle.protocol.specs.Range.{Capacities}
 use Rattle.protocol.specs.Steps.{writer, version, valueOf, nextStamp, startedWrite, stored}
 use Rattle.protocol.specs.Steps.{prepares}
-use Rattle.protocol.specs.World.{ownerOf, itemOf}
 use Rattle.protocol.proofs.Each.{each-upto}
 use Rattle.protocol.proofs.Refusals.{Idle}
 use Rattle.protocol.proofs.Put.{put-same, put-other}
@@ -27,7 +27,7 @@ use Rattle.protocol.proofs.Sound.{Ledger, Counted, Fits, SoundBy}
 use Rattle.protocol.proofs.Sound.Carry.{Carries}
 use Rattle.protocol.proofs.Sound.Counts.{stored-counted}
 use Rattle.protocol.proofs.Sound.Start.{begin-sound, part-counted, part-uncounted, none-due}
-use Rattle.protocol.proofs.Common.{isFor, ofSide, by-side}
+use Rattle.protocol.proofs.Common.{isFor, by-side}
 
 -- the ledger with one more stamp
 abbrev pub entered : Ledger → ℕ → ℕ → (ℕ → ℕ) → Ledger
@@ -65,7 +65,9 @@ module _ (caps : Capacities) (L : Ledger) (t : Tables) (sound : SoundBy caps L t
   carries r c =
       record {
         set = put-other (L .set) stamp s r (stamp-new r c);
-        value = λ k e. ap (λ (f : ℕ → ℕ). f k) (put-other (L .value) stamp (valueOf s bytes) r (stamp-new r c));
+        value = λ k e.
+            ap (λ (f : ℕ → ℕ). f k)
+            (put-other (L .value) stamp (valueOf s bytes) r (stamp-new r c));
         keeps = λ k e. e;
       }
 
@@ -84,7 +86,7 @@ module _ (caps : Capacities) (L : Ledger) (t : Tables) (sound : SoundBy caps L t
 
   pub sound-write : Idle (t .client d) → s < 2 ^ t .sizes .items
       → Valid caps (startedWrite t d s bytes) → SoundBy caps L′ (startedWrite t d s bytes)
-  unfolding ofSide ownerOf itemOf Fits
+  unfolding Fits
   sound-write rests below ok =
       begin-sound caps L t sound L′ carries d (writer t d s bytes)
       (prepares t d s bytes) is-client rests

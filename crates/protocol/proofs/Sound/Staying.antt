@@ -13,11 +13,10 @@ use Rattle.basics.proofs.Lists.{in-without}
 use Rattle.itemset.specs.Set.{has}
 use Rattle.protocol.specs.declared.Version.{Version}
 use Rattle.protocol.specs.declared.Message.{Message}
-use Rattle.protocol.specs.declared.Message.the-variants.{Get}
-use Rattle.protocol.specs.Tables.{Tables, Client, write, numberOf, stampOf, withMessages}
+use Rattle.protocol.specs.Tables.{Tables, Client, numberOf, stampOf, withMessages}
+use Rattle.protocol.specs.Message.{ownerOf}
 use Rattle.protocol.specs.Range.{Capacities}
 use Rattle.protocol.specs.Steps.{delivered, joined, stored, found}
-use Rattle.protocol.specs.World.{ownerOf}
 use Rattle.protocol.proofs.Each.{Each}
 use Rattle.protocol.proofs.Stored.{found-held, not-found}
 use Rattle.protocol.proofs.Ranges.Values.{IsClient}

@@ -1,11 +1,10 @@
 -- Freshly made tables are sound, every call keeps them so, and no delivery from sound tables is
 -- refused.
 use mathlib.Core.Bool.{true, cond}
-use mathlib.Core.List.{[]}
+use mathlib.Core.List.{List, [], _∷_}
 use mathlib.Core.Logic.{⊎-elim}
-use mathlib.Core.Path.{_≡_, refl}
+use mathlib.Core.Path.{_≡_, refl, sym, subst}
 use Prim.Native.Nat.{ℕ, zero, suc, _<_}
-use native.Mathlib.Omega.{arith}
 use lib.Dec.{eqb}
 use lib.ListN.{length}
 use borrow.Author.Tests.{eqb-true}
@@ -16,15 +15,16 @@ use Rattle.itemset.proofs.Laws.{has-empty}
 use Rattle.protocol.specs.declared.Message.{Message}
 use Rattle.protocol.specs.declared.Message.the-variants.{Prepare, Prepared, Commit, Get, Got}
 use Rattle.protocol.specs.Tables.{Sizes, Tables, ofRead, ofWrite, initial, fresh, writerOf}
-use Rattle.protocol.specs.Tables.{awaitedOf, resting, nothing}
+use Rattle.protocol.specs.Tables.{WritePart, awaitedOf, resting, nothing}
 use Rattle.protocol.specs.Range.{Capacities, sizesInRange}
-use Rattle.protocol.specs.Steps.{messageAt, nextStamp, valueOf}
-use Rattle.protocol.specs.Calls.{Call, startRead, startWrite, deliver, show, refusal, effect}
-use Rattle.protocol.specs.Calls.{pick, step}
-use Rattle.protocol.specs.World.{ownerOf, itemOf}
-use Rattle.protocol.proofs.Refusals.{Expected, accepted-read, accepted-write}
+use Rattle.protocol.specs.Steps.{messageAt}
+use Rattle.protocol.specs.Calls.{Call, deliver, refusal, Effects, effects, effect, pick, step}
+use Rattle.protocol.proofs.Refusals.{Expected}
 use Rattle.protocol.proofs.Refusals.{accepted-deliver}
-use Rattle.protocol.proofs.Valid.{valid-kept, valid-fresh}
+use Rattle.protocol.proofs.Sorts.{withViews, Apart, Sort, reads, writes, delivers, apart}
+use Rattle.protocol.proofs.Sorts.{sort}
+use Rattle.protocol.proofs.Keeps.{valid-views, keeps}
+use Rattle.protocol.proofs.Valid.{valid-fresh}
 use Rattle.protocol.proofs.Ranges.Values.{IsClient}
 use Rattle.protocol.proofs.Ranges.Tables.{Valid, valid-facts}
 use Rattle.protocol.proofs.Sound.{Ledger, GoodEntry, Fits, Sound, SoundBy, distinct}
@@ -38,7 +38,7 @@ use Rattle.protocol.proofs.Sound.DeliverGet.{sound-get}
 use Rattle.protocol.proofs.Sound.DeliverGot.{sound-got}
 use Rattle.protocol.proofs.Sound.StartRead.{sound-read}
 use Rattle.protocol.proofs.Sound.StartWrite.{entered, sound-write}
-use Rattle.protocol.proofs.Common.{isFor, ofSide, by-side}
+use Rattle.protocol.proofs.Common.{isFor, by-side}
 
 -- ---- fresh tables
 
@@ -76,11 +76,10 @@ sound-fresh caps z ok =
 
 -- ---- a call
 
-abbrev pub ledgerAfter : Ledger → Tables → Call → Ledger
-ledgerAfter L t (startRead d s) = L
-ledgerAfter L t (startWrite d s bytes) = entered L (nextStamp t d) s (valueOf s bytes)
-ledgerAfter L t (deliver i) = L
-ledgerAfter L t (show d output) = L
+-- each write that begins enters the ledger
+abbrev pub ledgerAfter : Ledger → List WritePart → Ledger
+ledgerAfter L [] = L
+ledgerAfter L (p ∷ ps) = entered (ledgerAfter L ps) (p .stamp) (p .set) (p .values)
 
 module _ (caps : Capacities) (L : Ledger) (t : Tables) (sound : SoundBy caps L t) where
   delivery : (i : ℕ) (m : Message) → Taken t i m → Valid caps (afterDelivery t i m)
@@ -91,21 +90,42 @@ module _ (caps : Capacities) (L : Ledger) (t : Tables) (sound : SoundBy caps L t
   delivery i (Get d k s) taken ok = sound-get caps L t sound i d k s taken ok
   delivery i (Got d v latest) taken ok = sound-got caps L t sound i d v latest taken ok
 
+  -- what the rules ask of a view holds of each entry that a client has
+  sound-views : (c : Call) (a : Apart t c) → SoundBy caps L (withViews t (a .view))
+  sound-views c a =
+      record {
+        valid = valid-views caps t c (sound .valid) a;
+        noSet = sound .noSet;
+        noValue = sound .noValue;
+        view = λ d k i l.
+            let from = a .taken d k i l in
+            subst (GoodEntry L (t .versions) k) (sym (from .2))
+            (sound .view (from .0) k (from .1) l);
+        latest = sound .latest;
+        versions = sound .versions;
+        distinct = sound .distinct;
+        writes = sound .writes;
+        last = sound .last;
+        one = sound .one;
+        fits = sound .fits;
+      }
+
+  sort-sound : {c : Call} → Sort caps t c → Valid caps (effects t c .tables)
+      → SoundBy caps (ledgerAfter L (effects t c .begins)) (effects t c .tables)
+  sort-sound (reads d s a) ok =
+      sound-read caps L t sound d s (a .client) (a .idle) (a .set) ok
+  sort-sound (writes d s bytes a) ok =
+      let start = a .start in
+      sound-write caps L t sound d s bytes (start .client) (start .idle) (start .set) ok
+  sort-sound (delivers i a) ok = delivery i (messageAt t i) (taken t i (a .place)) ok
+  sort-sound (apart c v a) ok =
+      subst (λ (x : Effects). SoundBy caps (ledgerAfter L (x .begins)) (x .tables)) (sym (a .does))
+      (sound-views c a)
+
   pub sound-accepted : (c : Call) → refusal caps t c ≡ 0
-      → SoundBy caps (ledgerAfter L t c) (effect t c)
+      → SoundBy caps (ledgerAfter L (effects t c .begins)) (effect t c)
   unfolding effect
-  sound-accepted (startRead d s) e =
-      let a = accepted-read caps t d s .0 e in
-      sound-read caps L t sound d s (a .client) (a .idle) (a .set)
-      (valid-kept caps t (startRead d s) e)
-  sound-accepted (startWrite d s bytes) e =
-      let a = accepted-write caps t d s bytes .0 e .start in
-      sound-write caps L t sound d s bytes (a .client) (a .idle) (a .set)
-      (valid-kept caps t (startWrite d s bytes) e)
-  sound-accepted (deliver i) e =
-      delivery i (messageAt t i) (taken t i (accepted-deliver caps t i .0 e .place))
-      (valid-kept caps t (deliver i) e)
-  sound-accepted (show d output) e = sound
+  sound-accepted c e = sort-sound (sort caps t c e) (keeps caps t c e .valid)
 
   -- every call, accepted or refused, keeps them passing
   pub sound-step : (c : Call) → Sound caps (step caps t c .tables)
@@ -113,13 +133,13 @@ module _ (caps : Capacities) (L : Ledger) (t : Tables) (sound : SoundBy caps L t
   sound-step c = at (refusal caps t c) refl
     where
       at : (n : ℕ) → refusal caps t c ≡ n → Sound caps (pick n (effect t c) t)
-      at zero e = (ledgerAfter L t c, sound-accepted c e)
+      at zero e = (ledgerAfter L (effects t c .begins), sound-accepted c e)
       at (suc n) e = (L, sound)
 
   -- ---- no delivery is refused by 11 or 12
 
   expected : (m : Message) → In m (t .messages) → Expected t m
-  unfolding Fits ofSide ownerOf itemOf
+  unfolding Fits
   expected (Prepare v) here = sound .fits (Prepare v) here .unstored
   expected (Prepared k s) here =
       let fit = sound .fits (Prepared k s) here in
@@ -132,7 +152,8 @@ module _ (caps : Capacities) (L : Ledger) (t : Tables) (sound : SoundBy caps L t
   expected (Commit p s) here = tt
   expected (Get d k s) here =
       let good = sound .fits (Get d k s) here .good in
-      λ n. ⊎-elim (λ e. absurd (n (eqb-true s 0 e))) (λ e. good .whole k e) (or-cases (eqb s 0) (has (L .set s) k) (good .mine))
+      λ n. ⊎-elim (λ e. absurd (n (eqb-true s 0 e))) (λ e. good .whole k e)
+      (or-cases (eqb s 0) (has (L .set s) k) (good .mine))
   expected (Got d v latest) here =
       let fit = sound .fits (Got d v latest) here in
       record {

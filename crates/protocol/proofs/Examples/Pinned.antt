@@ -1,0 +1,207 @@
+-- Rows that each refuse a wrong definition which the theorems let pass (docs/pinned_store.md).
+use mathlib.Core.Bool.{Bool, false, _&&_}
+use mathlib.Core.List.{List, [], _∷_}
+use Prim.Native.Nat.{ℕ, _+_, _^_}
+use lib.Dec.{eqb}
+use lib.ListN.{replicate}
+use Rattle.protocol.specs.declared.Message.the-variants.{Commit, Get, Got}
+use Rattle.protocol.specs.Tables.{Tables, Client, Ended, nothing, read, write}
+use Rattle.protocol.specs.Tables.{fresh, initial, resting, stampOf, put}
+use Rattle.protocol.specs.Tables.{withClient, withLatest, withVersions, withMessages}
+use Rattle.protocol.specs.Calls.{startRead, startWrite, deliver, show}
+use Rattle.protocol.proofs.Examples.Table.{Row, freshly, on, onEach, _⇒_, _keeping_}
+use Rattle.protocol.proofs.Examples.Table.{anything, messagesAre, entryIs}
+use Rattle.protocol.proofs.Examples.Begin.{sizes, entry, version, reader, writer, loaded}
+use Rattle.protocol.proofs.Examples.Begin.{seeing, spent}
+
+-- an output of n bytes
+abbrev room : ℕ → List ℕ
+room n = replicate n 0xee
+
+-- this client, but with this transaction as its last
+abbrev having : Client → Ended → Client
+having c last = record { count = c .count; read = c .read; write = c .write; last = last }
+
+-- fresh tables of two clients, partitions and items, with client 2 like this
+abbrev withSecond : Client → Tables
+withSecond c = withClient (fresh (sizes 2 2 2)) 2 c
+
+-- ---- Choice of stamps
+
+-- Line 0's entry counts for line 1 though only line 1 is read.
+abbrev asksOutsideTheSet : Row
+asksOutsideTheSet =
+    record {
+      start = on (seeing (entry 2 1 3) initial);
+      lines = startRead 3 2 ⇒ "000001" ∷ [];
+      after = λ t. messagesAre (t .messages) ((4 ∷ 3 ∷ 1 ∷ 2 ∷ 1 ∷ []) ∷ []);
+    }
+
+-- ---- Load and its limits
+
+-- 126 messages, and a reading desk to which one of its two replies has come: that one counts for
+-- nothing, so two lines fit.
+abbrev readersReply : Row
+readersReply =
+    record {
+      start = on (withMessages (withSecond (reader 3 2 0 0))
+          (replicate 126 (Commit 0 (stampOf 1 1))));
+      lines = startRead 1 3 ⇒ "000080" ∷ [];
+      after = anything;
+    }
+
+-- Load 128: 3 and 5 come before 8.
+abbrev fullAndWrong : Row
+fullAndWrong =
+    record {
+      start = on (loaded 100);
+      lines = startRead 8 1 ⇒ "08" ∷ startRead 8 0 ⇒ "05" ∷ startRead 8 16 ⇒ "05"
+          ∷ startRead 9 1 ⇒ "03" ∷ [];
+      after = anything;
+    }
+
+-- A busy desk's showing is refused for that, whatever the room; a write brings exactly four bytes a
+-- line; a desk at the greatest count may read.
+abbrev busyShows : Row
+busyShows =
+    record {
+      start = on (withSecond (having (reader 1 1 0 0) (write 1 (stampOf 1 2) (λ k. 7))));
+      lines = show 2 (room 0) ⇒ "04"
+          ∷ show 2 (room 18) ⇒ "04" keeping "eeeeeeeeeeeeeeeeeeeeeeeeeeeeeeeeeeee" ∷ [];
+      after = anything;
+    }
+
+abbrev valueBytes : Row
+valueBytes =
+    record {
+      start = freshly (sizes 2 2 2) "00";
+      lines =
+          startWrite 1 1 (replicate 8 0) ⇒ "06"
+          ∷ startWrite 1 1 (replicate 5 0) ⇒ "06"
+          ∷ startWrite 1 1 (replicate 3 0) ⇒ "06"
+          ∷ startWrite 1 1 (1 ∷ 2 ∷ 3 ∷ 4 ∷ []) ⇒ "000001"
+          ∷ [];
+      after = λ t. messagesAre (t .messages) ((1 ∷ 0 ∷ 0x01020304 ∷ 1 ∷ 1 ∷ 1 ∷ []) ∷ []);
+    }
+
+abbrev spentReads : Row
+spentReads = record { start = on spent; lines = startRead 1 1 ⇒ "000001" ∷ []; after = anything }
+
+-- ---- Messages and versions
+
+-- A get is answered whatever its desk does.
+abbrev idleGet : Row
+idleGet =
+    record {
+      start = on (withMessages (fresh (sizes 2 2 2)) (Get 2 1 0 ∷ []));
+      lines = deliver 0 ⇒ "0004000100" ∷ [];
+      after = λ t. messagesAre (t .messages) ((5 ∷ 2 ∷ 1 ∷ 0 ∷ 0 ∷ 0 ∷ 0 ∷ 0 ∷ 0 ∷ []) ∷ []);
+    }
+
+-- Of two versions alike a commit takes the first one's set.
+abbrev firstAlikeCommitted : Row
+firstAlikeCommitted =
+    record {
+      start = on (withMessages (withVersions (fresh (sizes 2 1 2))
+          (version 0 7 1 1 1 ∷ version 0 7 1 1 3 ∷ []))
+          (Commit 0 (stampOf 1 1) ∷ []));
+      lines = deliver 0 ⇒ "0003000000" ∷ [];
+      after = λ t. entryIs (t .latest 0) 1 1 1 && entryIs (t .latest 1) 0 0 0;
+    }
+
+-- ---- The last ended transaction
+
+abbrev isWrite : Ended → ℕ → ℕ → ℕ → Bool
+isWrite nothing set stamp value = false
+isWrite (read s stamps values) set stamp value = false
+isWrite (write s stamp₀ values) set stamp value =
+    eqb s set && eqb stamp₀ stamp && eqb (values 0) value
+
+abbrev isRead : Ended → ℕ → ℕ → ℕ → Bool
+isRead nothing set stamp value = false
+isRead (read s stamps values) set stamp value =
+    eqb s set && eqb (stamps 0) stamp && eqb (values 0) value
+isRead (write s stamp₀ values) set stamp value = false
+
+-- It is kept while the next one is under way, up to that one's end.
+abbrev lastKept : Row
+lastKept =
+    record {
+      start = on (withClient (withSecond (resting 0 (read 1 (λ k. 17) (λ k. 8)))) 1
+          (resting 1 (write 1 17 (λ k. 7))));
+      lines = startRead 1 2 ⇒ "000001" ∷ startWrite 2 2 (replicate 4 0) ⇒ "000002"
+          ∷ deliver 0 ⇒ "0004000200" ∷ deliver 0 ⇒ "0001000200" ∷ [];
+      after = λ t. isWrite (t .client 1 .last) 1 17 7 && isRead (t .client 2 .last) 1 17 8;
+    }
+
+-- ---- In range all the same
+
+-- a writing desk with the initial stamp, with another's, with a number over its count; a latest
+-- whose set is empty or lacks its line
+abbrev oddButInRange : Row
+oddButInRange =
+    record {
+      start = onEach
+          (withSecond (writer 2 2 0 7) ∷ withSecond (writer 2 2 (stampOf 1 1) 7)
+          ∷ withSecond (writer 2 2 (stampOf 6 2) 7)
+          ∷ withLatest (fresh (sizes 2 2 2)) (put (λ k. initial) 0 (entry 1 1 0))
+          ∷ withLatest (fresh (sizes 2 2 2)) (put (λ k. initial) 0 (entry 1 1 2)) ∷ []);
+      lines = startRead 1 1 ⇒ "000001" ∷ deliver 0 ⇒ "0004000100" ∷ [];
+      after = anything;
+    }
+
+-- a got of the initial stamp with a value
+abbrev oddReply : Row
+oddReply =
+    record {
+      start = on (withMessages (withSecond (reader 1 1 0 0))
+          (Got 2 (version 0 5 0 0 0) initial ∷ []));
+      lines = deliver 0 ⇒ "0005000001"
+          ∷ show 2 (room 19) ⇒ "0021020000000000000001000000000000000005" ∷ [];
+      after = anything;
+    }
+
+-- ---- Log frames
+
+abbrev shownEmpty : Row
+shownEmpty =
+    record {
+      start = on (withSecond (resting 0 (read 0 (λ k. 0) (λ k. 0))));
+      lines = show 2 (room 9) ⇒ "0e" keeping "eeeeeeeeeeeeeeeeee"
+          ∷ show 2 (room 10) ⇒ "0021020000000000000000" ∷ [];
+      after = anything;
+    }
+
+-- all four bytes of a number and of a value, the first and the last of 64 lines
+abbrev wide : ℕ
+wide = 1 + 2 ^ 63
+
+abbrev wideFrames : Row
+wideFrames =
+    record {
+      start = on (withClient (withClient (fresh (sizes 8 8 64)) 2
+          (resting 0 (write wide (stampOf 0x01020304 2) (λ k. 0x05060708 + k)))) 8
+          (resting 0 (read wide (λ k. stampOf 0x01020304 8) (λ k. 0x05060708 + k))));
+      lines =
+          show 2 (room 22) ⇒ "0020028000000000000001010203040506070805060747"
+          ∷ show 8 (room 28) ⇒ "0021088000000000000001010203040805060708010203040805060747"
+          ∷ [];
+      after = anything;
+    }
+
+abbrev pub pinned : List Row
+pinned =
+    asksOutsideTheSet
+    ∷ readersReply
+    ∷ fullAndWrong
+    ∷ busyShows
+    ∷ valueBytes
+    ∷ spentReads
+    ∷ idleGet
+    ∷ firstAlikeCommitted
+    ∷ lastKept
+    ∷ oddButInRange
+    ∷ oddReply
+    ∷ shownEmpty
+    ∷ wideFrames
+    ∷ []

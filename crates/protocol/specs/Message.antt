@@ -1,0 +1,65 @@
+-- What a message is (document 01, 'Tables' and 'Steps'): its parts, said once for each kind. All
+-- that is asked of a message as such goes by them.
+use mathlib.Core.Bool.{Bool, cond}
+use Prim.Native.Nat.{ℕ}
+use lib.Dec.{eqb, leb}
+use Rattle.protocol.specs.declared.Entry.{Entry}
+use Rattle.protocol.specs.declared.Message.{Message}
+use Rattle.protocol.specs.declared.Message.the-variants.{Prepare, Prepared, Commit, Get, Got}
+use Rattle.protocol.specs.Tables.{initial, writerOf}
+
+pub record Parts : Type 0 where
+  pub kind : ℕ
+  -- the client of a get or got, the partition of a commit
+  pub place : ℕ
+  pub item : ℕ
+  pub value : ℕ
+  pub stamp : ℕ
+  pub set : ℕ
+  pub latest : Entry
+
+abbrev pub parts : (kind place item value stamp set : ℕ) → Entry → Parts
+parts kind place item value stamp set latest =
+    record {
+      kind = kind;
+      place = place;
+      item = item;
+      value = value;
+      stamp = stamp;
+      set = set;
+      latest = latest;
+    }
+
+-- a part that a kind doesn't have is 0
+abbrev pub partsOf : Message → Parts
+partsOf (Prepare v) = parts 1 0 (v .item) (v .value) (v .stamp) (v .set) initial
+partsOf (Prepared k stamp) = parts 2 0 k 0 stamp 0 initial
+partsOf (Commit p stamp) = parts 3 p 0 0 stamp 0 initial
+partsOf (Get d k stamp) = parts 4 d k 0 stamp 0 initial
+partsOf (Got d v e) = parts 5 d (v .item) (v .value) (v .stamp) 0 e
+
+abbrev pub kindOf : Message → ℕ
+kindOf m = partsOf m .kind
+
+abbrev pub isPrepare : Message → Bool
+isPrepare m = eqb (kindOf m) 1
+
+abbrev pub isCommit : Message → Bool
+isCommit m = eqb (kindOf m) 3
+
+abbrev pub isGet : Message → Bool
+isGet m = eqb (kindOf m) 4
+
+abbrev pub isGot : Message → Bool
+isGot m = eqb (kindOf m) 5
+
+-- of a message that is about one item: any but a commit
+abbrev pub itemOf : Message → ℕ
+itemOf m = partsOf m .item
+
+-- a get or got names its client; any other message is its stamp's client's
+abbrev pub namesClient : Message → Bool
+namesClient m = leb 4 (kindOf m)
+
+abbrev pub ownerOf : Message → ℕ
+ownerOf m = cond (namesClient m) (partsOf m .place) (writerOf (partsOf m .stamp))
