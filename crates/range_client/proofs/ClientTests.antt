@@ -17,7 +17,8 @@ use Rattle.protocol.specs.Range.{fits, each, stampInRange, endedInRange, client
 use Rattle.protocol.specs.Range.{isIdle}
 use Rattle.protocol.proofs.Tells.{tells-and}
 use Rattle.layout.specs.Layout.{at, scalars, asked, values, lastStamps, lastValues, modeAt, setAt}
-use Rattle.layout.specs.Layout.{stampAt, lastKindAt, lastSetAt, lastStampAt, itemAt}
+use Rattle.layout.specs.Layout.{countAt, awaitedAt, stampAt, lastKindAt, lastSetAt, lastStampAt}
+use Rattle.layout.specs.Layout.{itemAt}
 use Rattle.layout.specs.Decode.{within, modeOf, endedOf, clientIn}
 use Rattle.gather.specs.Sized.{sized}
 use Rattle.range_client.specs.Clients.{askedInRange, lastRead, lastWrite, lastTest, stateTest}
@@ -106,6 +107,15 @@ regroup mode count own await mask inside rest stamp stamps worth kind ended h =
 module _ (b : List ℕ) (d clients items : ℕ) where
   abbrev z : Sizes
   z = sized clients items
+
+  -- mode, count, set and awaited items
+  pub state-tests : {mode count s awaited : ℕ} {own await : Bool} → mode ≡ at b scalars (modeAt d)
+      → count ≡ at b scalars (countAt d) → s ≡ at b scalars (setAt d)
+      → awaited ≡ at b scalars (awaitedAt d) → own ≡ allBelow s items
+      → await ≡ allBelow awaited items
+      → (ltb mode 3 && ltb count (2 ^ 32) && own && await && eqb (bitAnd awaited s) awaited
+      && Bool·beq (eqb mode 0) (eqb awaited 0)) ≡ stateTest b d items
+  state-tests m n s a p q = rw (p, q, m, n, s, a)
 
   -- the stamps of the transaction under way: of a write, of any other
   pub asked-write : {stamp : ℕ} {ok : Bool} → ok ≡ stampInRange (sized clients 0) stamp
