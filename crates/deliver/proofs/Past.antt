@@ -12,29 +12,30 @@ use Rattle.protocol.specs.declared.Message.{Message}
 use Rattle.protocol.specs.declared.Message.the-variants.{Prepare, Prepared, Commit, Get, Got}
 use Rattle.protocol.specs.Tables.{writerOf}
 use Rattle.protocol.proofs.Put.{by-cond}
-use Rattle.layout.specs.Layout.{scalars, latest, views, values, versions, messages, base, at}
-use Rattle.layout.specs.Layout.{messagesAt, awaitedAt, latestAt, viewAt, itemAt, messageAt}
+use Rattle.layout.specs.Layout.{mostMessages, messageWords, scalars, latest, views, values}
+use Rattle.layout.specs.Layout.{versions, messages, base, at, messagesAt, awaitedAt, latestAt}
+use Rattle.layout.specs.Layout.{viewAt, itemAt, messageAt}
 use Rattle.layout.specs.Decode.{versionIn}
 use Rattle.layout.specs.Store.{takeOut}
 use Rattle.slots.proofs.Runs.{run-length, run-behind}
 use Rattle.ends.proofs.Past.{SamePast, past-none, past-trans, past-when, past-each, past-store}
 use Rattle.ends.proofs.Past.{past-entry, past-keep, past-send, past-scalar, past-read-ended}
 use Rattle.ends.proofs.Past.{past-write-ended}
+use Rattle.slots.specs.Room.{keep}
 use Rattle.deliver.specs.declared.Counts.{Counts}
 use Rattle.deliver.specs.Tests.{Bounded}
-use Rattle.ends.specs.Room.{keep}
 use Rattle.deliver.specs.Deliver.{prepareDelivered, preparedDelivered, commitVersion}
 use Rattle.deliver.specs.Deliver.{commitDelivered, getDelivered, answered, gotDelivered}
 use Rattle.deliver.specs.Deliver.{messageDelivered}
 
-past-take-out : (b : List ℕ) (n i : ℕ) → i < n → n ≤ 128 → SamePast b (takeOut b n i)
+past-take-out : (b : List ℕ) (n i : ℕ) → i < n → n ≤ mostMessages → SamePast b (takeOut b n i)
 unfolding takeOut
 past-take-out b n i l h =
     let from = base messages + messageAt i 0 in
-    let moved = take (8 * (n - (i + 1))) (drop (from + 8) b) in
+    let moved = take (messageWords * (n - (i + 1))) (drop (from + messageWords) b) in
     record {
       long = run-length b from moved messagesAt (n - 1) 0;
-      past = λ j g. run-behind b from moved messagesAt (n - 1) 0 j (omega (arith, length-take (8 * (n - (i + 1))) (drop (from + 8) b))) (omega arith);
+      past = λ j g. run-behind b from moved messagesAt (n - 1) 0 j (omega (arith, length-take (messageWords * (n - (i + 1))) (drop (from + messageWords) b))) (omega arith);
     }
 
 -- ---- messages
@@ -73,7 +74,7 @@ past-work b n value (Got d v entry) h r =
 
 -- of n messages the one at place i
 pub past-deliver : (b : List ℕ) (n i : ℕ) (counts : Counts) (value : ℕ) (m : Message) → i < n
-    → n ≤ 128 → counts .items ≤ 64 → Bounded m
+    → n ≤ mostMessages → counts .items ≤ 64 → Bounded m
     → SamePast b (messageDelivered (takeOut b n i) counts value m)
 past-deliver b n i counts value m l h items r =
     past-trans (past-take-out b n i l h) (past-work (takeOut b n i) counts value m items r)

@@ -16,7 +16,7 @@ use Rattle.protocol.specs.declared.Message.the-variants.{Prepared}
 use Rattle.protocol.specs.Tables.{Tables, Client, write, writerOf, resting, put, withClient}
 use Rattle.protocol.specs.Tables.{withView, withMessages}
 use Rattle.protocol.specs.Steps.{struck, isLast, seen, delivered, touches, commits, joined}
-use Rattle.layout.specs.Layout.{scalars, at, store, awaitedAt}
+use Rattle.layout.specs.Layout.{mostMessages, scalars, at, store, awaitedAt}
 use Rattle.layout.specs.Encodes.{Encodes, HoldsClient}
 use Rattle.layout.proofs.Room.{HasRoom, narrow-below}
 use Rattle.layout.proofs.ClientWords.{wordsOf}
@@ -68,7 +68,7 @@ module _ {b : List ℕ} (t : Tables) (ms : List Message) (k stamp : ℕ)
       (narrow-resting (c .count) (write (c .set) (c .stamp) (c .values))
       (narrow-below (c .set) (t .sizes .items) set (r .items)))
 
-  ends : length (ms ++ commits t (c .set) stamp) ≤ 128
+  ends : length (ms ++ commits t (c .set) stamp) ≤ mostMessages
       → Encodes (writeEnded b (t .sizes .partitions) (t .sizes .items) d stamp)
       (withMessages over (ms ++ commits t (c .set) stamp))
   unfolding writeEnded
@@ -102,7 +102,7 @@ module _ {b : List ℕ} (t : Tables) (ms : List Message) (k stamp : ℕ)
       (held .values)))
       (λ e p q j g. by-test (eqb e d) (λ x. rw (x, eqb-true e d x) refl) (λ x. rw x refl)))
 
-  pub encodes-prepared : length (ms ++ joined t (Prepared k stamp)) ≤ 128
+  pub encodes-prepared : length (ms ++ joined t (Prepared k stamp)) ≤ mostMessages
       → Encodes (preparedDelivered b (t .sizes .partitions) (t .sizes .items) k stamp)
       (withMessages (delivered t (Prepared k stamp)) (ms ++ joined t (Prepared k stamp)))
   unfolding preparedDelivered delivered joined

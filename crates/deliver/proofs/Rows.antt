@@ -9,7 +9,7 @@ use Rattle.protocol.specs.declared.Entry.{Entry}
 use Rattle.protocol.specs.Tables.{writerOf}
 use Rattle.layout.specs.Layout.{scalars, at, store, awaitedAt}
 use Rattle.ends.specs.Ends.{readEnded, writeEnded}
-use Rattle.ends.proofs.Chosen.{when, unless}
+use Rattle.slots.proofs.Chosen.{when, unless}
 use Rattle.deliver.specs.Deliver.{answered, preparedDelivered, gotDelivered}
 
 module _ (b y : List ℕ) (partitions items k stamp awaited rest : ℕ)

@@ -17,11 +17,12 @@ use Rattle.protocol.proofs.Refusals.{Expected}
 use Rattle.layout.specs.Decode.{latestIn}
 use Rattle.layout.specs.Encodes.{Encodes}
 use Rattle.layout.proofs.Room.{HasRoom}
+use Rattle.slots.specs.Room.{send}
+use Rattle.slots.proofs.EncodesRoom.{encodes-keep, encodes-send}
+use Rattle.layout.specs.Layout.{mostVersions, mostMessages}
 use Rattle.deliver.specs.declared.Counts.{Counts}
-use Rattle.ends.specs.Room.{send}
 use Rattle.deliver.specs.Deliver.{prepareDelivered, commitDelivered, getDelivered}
 use Rattle.deliver.specs.Deliver.{gotDelivered, messageDelivered}
-use Rattle.ends.proofs.Send.{encodes-keep, encodes-send}
 use Rattle.deliver.proofs.Committed.{latest-held, encodes-committed}
 use Rattle.deliver.proofs.Replied.{encodes-prepared}
 use Rattle.deliver.proofs.Got.{encodes-got}
@@ -44,8 +45,8 @@ countsOf t = record {
 
 module _ {b : List ℕ} (t : Tables) (ms : List Message) (n : Encodes b (withMessages t ms))
     (r : HasRoom (withMessages t ms)) where
-  encodes-prepare : (v : Version) → length (t .versions ++ v ∷ []) ≤ 512
-      → length (ms ++ Prepared (v .item) (v .stamp) ∷ []) ≤ 128
+  encodes-prepare : (v : Version) → length (t .versions ++ v ∷ []) ≤ mostVersions
+      → length (ms ++ Prepared (v .item) (v .stamp) ∷ []) ≤ mostMessages
       → Encodes (prepareDelivered b v)
       (withMessages (withVersions t (t .versions ++ v ∷ []))
       (ms ++ Prepared (v .item) (v .stamp) ∷ []))
@@ -65,7 +66,7 @@ module _ {b : List ℕ} (t : Tables) (ms : List Message) (n : Encodes b (withMes
 
   encodes-get : (d k stamp value : ℕ) → k < t .sizes .items
       → value ≡ found (t .versions) k stamp .value
-      → length (ms ++ Got d (version k value stamp 0) (t .latest k) ∷ []) ≤ 128
+      → length (ms ++ Got d (version k value stamp 0) (t .latest k) ∷ []) ≤ mostMessages
       → Encodes (getDelivered b value d k stamp)
       (withMessages t (ms ++ Got d (version k (found (t .versions) k stamp .value) stamp 0)
       (t .latest k) ∷ []))
@@ -84,7 +85,7 @@ module _ {b : List ℕ} (t : Tables) (ms : List Message) (n : Encodes b (withMes
 
   pub encodes-work : (m : Message) (value : ℕ) → InRange t → MessageInRange (t .sizes) m
       → Expected t m → value ≡ answerOf t m
-      → length (delivered t m .versions) ≤ 512 → length (ms ++ joined t m) ≤ 128
+      → length (delivered t m .versions) ≤ mostVersions → length (ms ++ joined t m) ≤ mostMessages
       → Encodes (messageDelivered b (countsOf t) value m)
       (withMessages (delivered t m) (ms ++ joined t m))
   unfolding messageDelivered delivered joined answerOf
@@ -103,8 +104,8 @@ module _ {b : List ℕ} (t : Tables) (ms : List Message) (n : Encodes b (withMes
       encodes-get d k stamp value (i .item) same (gets messages)
     where
       gets : length (ms ++ Got d (version k (found (t .versions) k stamp .value) stamp 0)
-          (t .latest k) ∷ []) ≤ 128
-          → length (ms ++ Got d (version k value stamp 0) (t .latest k) ∷ []) ≤ 128
+          (t .latest k) ∷ []) ≤ mostMessages
+          → length (ms ++ Got d (version k value stamp 0) (t .latest k) ∷ []) ≤ mostMessages
       gets l =
           omega (
             arith,

@@ -15,9 +15,9 @@ use Rattle.layout.specs.Layout.{header, scalars, values, at, store, partitionsA
 use Rattle.layout.specs.Layout.{versionsAt, messagesAt, awaitedAt, itemAt}
 use Rattle.layout.specs.Decode.{latestIn, viewIn, versionIn, messageIn}
 use Rattle.layout.specs.Store.{storeLatest, storeView, takeOut}
+use Rattle.slots.specs.Room.{keep, send}
 use Rattle.deliver.specs.declared.Counts.{Counts}
 use Rattle.deliver.specs.Tests.{testedIn}
-use Rattle.ends.specs.Room.{keep, send}
 use Rattle.ends.specs.Ends.{readEnded, writeEnded}
 
 -- ---- Prepare: the version is stored, the reply joins

@@ -3,6 +3,7 @@ ghost use mathlib.Core.Path.{_≡_};
 ghost use Prim.Native.Nat.{_≤_, _<_};
 ghost use Rattle.basics.specs.Fold.{upTo};
 ghost use Rattle.deliver.specs.Deliver.{commitItem, commitVersion, commitDelivered};
+ghost use Rattle.layout.specs.Layout.{mostVersions};
 use layout::entry::latest;
 use layout::entry::put_latest;
 use protocol::Entry;
@@ -28,7 +29,7 @@ fn commit_item(b: &mut [u64], partitions: u64, p: u64, v: Version)
 
 // Version `i`, if it has the stamp.
 fn commit_version(b: &mut [u64], partitions: u64, p: u64, stamp: u64, i: u64)
-    requires { ⌜ (1 ≤ partitions) × (i < 512) ⌝ }
+    requires { ⌜ (1 ≤ partitions) × (i < mostVersions) ⌝ }
     ensures { λ _. ⌜ now (b .exit) ≡ commitVersion partitions p stamp (now (b .entry)) i ⌝ }
 {
     if stamp_of(b, i) == stamp {
@@ -38,7 +39,7 @@ fn commit_version(b: &mut [u64], partitions: u64, p: u64, stamp: u64, i: u64)
 
 // A commit of this stamp to partition `p`, with so many stored versions.
 pub fn commit(b: &mut [u64], partitions: u64, versions: u64, p: u64, stamp: u64)
-    requires { ⌜ (1 ≤ partitions) × (versions ≤ 512) ⌝ }
+    requires { ⌜ (1 ≤ partitions) × (versions ≤ mostVersions) ⌝ }
     ensures { λ _. ⌜ now (b .exit) ≡ commitDelivered (now (b .entry)) partitions versions p stamp ⌝ }
 {
     let mut i = 0;

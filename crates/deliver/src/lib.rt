@@ -3,7 +3,7 @@
 ghost use mathlib.Core.Path.{_≡_};
 ghost use Prim.Native.Nat.{_≤_, _<_};
 ghost use lib.ListN.{length};
-ghost use Rattle.layout.specs.Layout.{needed};
+ghost use Rattle.layout.specs.Layout.{mostVersions, mostMessages, needed};
 ghost use Rattle.layout.specs.Store.{takeOut};
 ghost use Rattle.deliver.specs.Tests.{Bounded};
 ghost use Rattle.deliver.specs.Deliver.{messageDelivered};
@@ -32,7 +32,7 @@ pub struct Tested {
 
 // The work of message `m`, taken out before; a get is answered with `value`.
 fn work(b: &mut [u64], counts: Counts, value: u64, m: Message)
-    requires { ⌜ (1 ≤ counts .partitions) × (counts .partitions ≤ 8) × (counts .items ≤ 64) × (counts .versions ≤ 512) × Bounded m ⌝ }
+    requires { ⌜ (1 ≤ counts .partitions) × (counts .partitions ≤ 8) × (counts .items ≤ 64) × (counts .versions ≤ mostVersions) × Bounded m ⌝ }
     ensures { λ _. ⌜ now (b .exit) ≡ messageDelivered (now (b .entry)) counts value m ⌝ }
 {
     match m {
@@ -66,8 +66,8 @@ fn work(b: &mut [u64], counts: Counts, value: u64, m: Message)
 
 // Of `n` messages the one at place `i`, which is `m`, is delivered; a get is answered with `value`.
 pub fn deliver_message(b: &mut [u64], n: u64, i: u64, counts: Counts, value: u64, m: Message)
-    requires { ⌜ (i < n) × (n ≤ 128) × (needed ≤ length (now b)) ⌝ }
-    requires { ⌜ (1 ≤ counts .partitions) × (counts .partitions ≤ 8) × (counts .items ≤ 64) × (counts .versions ≤ 512) × Bounded m ⌝ }
+    requires { ⌜ (i < n) × (n ≤ mostMessages) × (needed ≤ length (now b)) ⌝ }
+    requires { ⌜ (1 ≤ counts .partitions) × (counts .partitions ≤ 8) × (counts .items ≤ 64) × (counts .versions ≤ mostVersions) × Bounded m ⌝ }
     ensures { λ _. ⌜ now (b .exit) ≡ messageDelivered (takeOut (now (b .entry)) n i) counts value m ⌝ }
 {
     take_out(b, n, i);

@@ -2,11 +2,11 @@
 ghost use mathlib.Core.Path.{_≡_};
 ghost use Prim.Native.Nat.{_<_};
 ghost use Rattle.deliver.specs.Deliver.{prepareDelivered, getDelivered};
-use ends::room::keep;
-use ends::room::send;
 use layout::entry::latest;
 use protocol::Message;
 use protocol::Version;
+use slots::room::keep;
+use slots::room::send;
 
 // The version is stored, and the reply joins.
 pub fn prepare(b: &mut [u64], v: Version)

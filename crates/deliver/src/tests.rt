@@ -7,6 +7,7 @@ ghost use Rattle.basics.specs.Lists.{table};
 ghost use Rattle.protocol.specs.Steps.{stored, found};
 ghost use Rattle.layout.specs.Decode.{versionIn};
 ghost use Rattle.deliver.specs.Tests.{Bounded, told, replyTested, testedIn};
+ghost use Rattle.layout.specs.Layout.{mostVersions};
 use crate::Tested;
 use itemset::has;
 use itemset::remove;
@@ -41,7 +42,7 @@ fn reply(b: &[u64], d: u64, kind: u64, item: u64, right: bool) -> Tested
 
 // A get of `item`, of exactly this stamp, among `n` stored versions: one search tells whether it is stored, and its value.
 fn get(b: &[u64], n: u64, item: u64, stamp: u64) -> Tested
-    requires { ⌜ n ≤ 512 ⌝ }
+    requires { ⌜ n ≤ mostVersions ⌝ }
     ensures { λ r. ⌜ r ≡ told (cond (eqb stamp 0 || stored (table n (versionIn (now (b .entry)))) item stamp) 0 12) 0 (found (table n (versionIn (now (b .entry)))) item stamp .value) ⌝ }
 {
     let place = find(b, n, item, stamp);
@@ -61,7 +62,7 @@ fn get(b: &[u64], n: u64, item: u64, stamp: u64) -> Tested
 
 // Message `m`, with `n` stored versions.
 pub fn tested(b: &[u64], n: u64, m: Message) -> Tested
-    requires { ⌜ (n ≤ 512) × Bounded m ⌝ }
+    requires { ⌜ (n ≤ mostVersions) × Bounded m ⌝ }
     ensures { λ r. ⌜ r ≡ testedIn (now (b .entry)) n m ⌝ }
 {
     match m {

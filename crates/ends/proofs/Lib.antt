@@ -1,9 +1,7 @@
 -- The laws of the ends of transactions: each change of the block is a change of the tables that it
 -- holds.
-pub mod Chosen
 pub mod Rows
 pub mod Same
-pub mod Send
 pub mod Seen
 pub mod Copied
 pub mod Rests

@@ -14,16 +14,18 @@ use Rattle.itemset.specs.Set.{has}
 use Rattle.protocol.specs.declared.Version.{Version}
 use Rattle.protocol.specs.declared.Entry.{Entry}
 use Rattle.protocol.specs.declared.Message.{Message}
-use Rattle.protocol.specs.declared.Message.the-variants.{Prepare, Prepared, Commit, Get, Got}
+use Rattle.protocol.specs.declared.Message.the-variants.{Commit}
 use Rattle.protocol.proofs.Put.{by-cond}
-use Rattle.layout.specs.Layout.{Section, header, scalars, views, lastStamps, lastValues, versions}
-use Rattle.layout.specs.Layout.{messages, base, needed, at, store, versionsAt, messagesAt, scalarAt}
-use Rattle.layout.specs.Layout.{setAt, viewAt, itemAt, versionAt, messageAt}
+use Rattle.layout.specs.Layout.{mostVersions, mostMessages, clientWords, Section, header, scalars}
+use Rattle.layout.specs.Layout.{views, lastStamps, lastValues, versions, messages, base, needed, at}
+use Rattle.layout.specs.Layout.{store, versionsAt, messagesAt, scalarAt, setAt, viewAt, itemAt}
+use Rattle.layout.specs.Layout.{versionAt, messageAt}
 use Rattle.layout.specs.Store.{storeEntry, wordsOfVersion, wordsOfMessage, storeVersion}
 use Rattle.layout.specs.Store.{storeMessage, appendVersion, appendMessage}
 use Rattle.layout.proofs.At.{length-store}
+use Rattle.slots.specs.Room.{keep, send}
 use Rattle.slots.proofs.Runs.{run-length, run-behind}
-use Rattle.ends.specs.Room.{keep, send}
+use Rattle.slots.proofs.EncodesAppend.{length-words}
 use Rattle.ends.specs.Ends.{ended, keepAnswer, keepValue, seeItem, sendCommit, touched}
 use Rattle.ends.specs.Ends.{readEnded, writeKept, writeEnded}
 
@@ -69,30 +71,23 @@ unfolding keep appendVersion storeVersion
 past-keep b v =
     let n = at b header versionsAt in
     let from = base versions + versionAt n 0 in
-    by-cond (SamePast b) (ltb n 512) (appendVersion b n v) b
+    by-cond (SamePast b) (ltb n mostVersions) (appendVersion b n v) b
     (λ e.
-    let l : n < 512 = ltb-true n 512 e in
+    let l : n < mostVersions = ltb-true n mostVersions e in
     record {
       long = run-length b from (wordsOfVersion v) versionsAt (n + 1) 0;
       past = λ j g. run-behind b from (wordsOfVersion v) versionsAt (n + 1) 0 j (omega arith) (omega arith);
     })
     (λ e. past-none b)
 
-length-words : (m : Message) → length (wordsOfMessage m) ≡ 8
-length-words (Prepare v) = refl
-length-words (Prepared k stamp) = refl
-length-words (Commit p stamp) = refl
-length-words (Get d k stamp) = refl
-length-words (Got d v e) = refl
-
 pub past-send : (b : List ℕ) (m : Message) → SamePast b (send b m)
 unfolding send appendMessage storeMessage
 past-send b m =
     let n = at b header messagesAt in
     let from = base messages + messageAt n 0 in
-    by-cond (SamePast b) (ltb n 128) (appendMessage b n m) b
+    by-cond (SamePast b) (ltb n mostMessages) (appendMessage b n m) b
     (λ e.
-    let l : n < 128 = ltb-true n 128 e in
+    let l : n < mostMessages = ltb-true n mostMessages e in
     record {
       long = run-length b from (wordsOfMessage m) messagesAt (n + 1) 0;
       past = λ j g. run-behind b from (wordsOfMessage m) messagesAt (n + 1) 0 j (omega (arith, length-words m)) (omega arith);
@@ -102,7 +97,8 @@ past-send b m =
 -- ---- ends of transactions
 
 module _ (d : ℕ) (first : 1 ≤ d) (last : d ≤ 8) where
-  pub past-scalar : (b : List ℕ) (f v : ℕ) → f < 8 → SamePast b (store b scalars (scalarAt d f) v)
+  pub past-scalar : (b : List ℕ) (f v : ℕ) → f < clientWords
+      → SamePast b (store b scalars (scalarAt d f) v)
   past-scalar b f v l = past-store b scalars (scalarAt d f) v (omega arith)
 
   past-ended : (b : List ℕ) (kind s : ℕ) → SamePast b (ended b d kind s)

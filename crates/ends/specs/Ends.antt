@@ -10,7 +10,7 @@ use Rattle.layout.specs.Layout.{scalars, asked, values, lastStamps, lastValues,
 use Rattle.layout.specs.Layout.{setAt, awaitedAt, lastKindAt, lastSetAt, lastStampAt, itemAt}
 use Rattle.layout.specs.Decode.{viewIn}
 use Rattle.layout.specs.Store.{storeView}
-use Rattle.ends.specs.Room.{send}
+use Rattle.slots.specs.Room.{send}
 
 -- ---- either kind: the last ended transaction takes kind (1 a read, 2 a write) and set, the client is idle, with no set
 

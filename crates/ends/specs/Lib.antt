@@ -1,3 +1,2 @@
 -- Ends of transactions on the block: what they write.
-pub mod Room
 pub mod Ends

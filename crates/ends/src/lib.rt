@@ -1,4 +1,4 @@
-// Ends of transactions on the block: what the last reply does, and how versions and messages join.
+// Ends of transactions on the block: what the last reply does.
 ghost use mathlib.Core.Path.{_≡_};
 ghost use Prim.Native.Nat.{_≤_};
 ghost use Rattle.ends.specs.Ends.{ended};
@@ -9,7 +9,6 @@ use layout::client::put_mode;
 use layout::client::put_set;
 
 pub mod read;
-pub mod room;
 pub mod write;
 
 // A transaction of client `d` with set `s` ends: a read (1) or a write (2). The client is idle, with no set.

@@ -5,7 +5,6 @@ ghost use Prim.Native.Nat.{_≤_, _<_};
 ghost use Rattle.basics.specs.Fold.{upTo};
 ghost use Rattle.ends.specs.Ends.{seeItem, keepValue, touchItem, touched, sendCommit, writeKept, writeEnded};
 use crate::end;
-use crate::room::send;
 use itemset::has;
 use itemset::insert;
 use layout::client::put_last_stamp;
@@ -16,6 +15,7 @@ use layout::entry::put_view;
 use layout::entry::view;
 use protocol::Entry;
 use protocol::Message;
+use slots::room::send;
 
 // The view entry of item `k` of set `s` becomes the later of itself and this write.
 fn see_item(b: &mut [u64], d: u64, s: u64, stamp: u64, k: u64)

@@ -5,9 +5,8 @@ use Prim.Native.Nat.{ℕ, _≤_, _<_}
 use native.Mathlib.Omega.{arith}
 use lib.ListN.{length}
 use Rattle.protocol.specs.Tables.{Tables, Client, withClient}
-use Rattle.layout.specs.Layout.{clientWords}
-use Rattle.layout.specs.Layout.{scalars, asked, values, lastStamps, lastValues, store, needed}
-use Rattle.layout.specs.Layout.{scalarAt, itemAt}
+use Rattle.layout.specs.Layout.{clientWords, scalars, asked, values, lastStamps, lastValues}
+use Rattle.layout.specs.Layout.{store, needed, scalarAt, itemAt}
 use Rattle.layout.specs.Encodes.{Encodes}
 use Rattle.layout.proofs.Room.{HasRoom, NarrowClient}
 use Rattle.layout.proofs.ClientWords.{Words, wordsOf, HasWords, has-words, putScalar}

@@ -9,9 +9,8 @@ use lib.Dec.{eqb}
 use borrow.Author.Tests.{eqb-true, eqb-false}
 use Rattle.protocol.specs.Tables.{put}
 use Rattle.protocol.proofs.Put.{by-cond}
-use Rattle.layout.specs.Layout.{clientWords}
-use Rattle.layout.specs.Layout.{Section, scalars, asked, values, lastStamps, lastValues, base}
-use Rattle.layout.specs.Layout.{at, store, needed, scalarAt, itemAt}
+use Rattle.layout.specs.Layout.{clientWords, Section, scalars, asked, values, lastStamps}
+use Rattle.layout.specs.Layout.{lastValues, base, at, store, needed, scalarAt, itemAt}
 use Rattle.layout.proofs.At.{at-store, at-store-other}
 
 -- ---- a row of words: word n of the row stands at place n of the section
@@ -105,7 +104,8 @@ pub has-words-beside : {d : ℕ} {b : List ℕ} {w : Words} (s : Section) (i v :
     → Beside d (base s + i) → HasWords d b w → HasWords d (store b s i v) w
 has-words-beside {d} {b} {w} s i v n h =
     record {
-      scalar = row-other scalars clientWords (scalarAt d) b (w .scalar) s i v (n .scalar) (h .scalar);
+      scalar = row-other scalars clientWords (scalarAt d) b (w .scalar) s i v (n .scalar)
+          (h .scalar);
       asked = row-other asked 64 (itemAt d) b (w .asked) s i v (n .asked) (h .asked);
       values = row-other values 64 (itemAt d) b (w .values) s i v (n .values) (h .values);
       lastStamps = row-other lastStamps 64 (itemAt d) b (w .lastStamps) s i v (n .lastStamps)
@@ -177,7 +177,8 @@ module _ {d : ℕ} {b : List ℕ} {w : Words} (first : 1 ≤ d) (last : d ≤ 8)
       → HasWords d (store b scalars (scalarAt d f) v) (putScalar w f v)
   has-words-scalar f v g =
       record {
-        scalar = row-put scalars clientWords (scalarAt d) b (w .scalar) f v (omega arith) (λ n a. omega arith)
+        scalar = row-put scalars clientWords (scalarAt d) b (w .scalar) f v (omega arith)
+            (λ n a. omega arith)
             (h .scalar);
         asked = row-other asked 64 (itemAt d) b (w .asked) scalars (scalarAt d f) v (omega arith)
             (h .asked);
@@ -193,7 +194,8 @@ module _ {d : ℕ} {b : List ℕ} {w : Words} (first : 1 ≤ d) (last : d ≤ 8)
       → HasWords d (store b asked (itemAt d k) v) (putAsked w k v)
   has-words-asked k v g =
       record {
-        scalar = row-other scalars clientWords (scalarAt d) b (w .scalar) asked (itemAt d k) v (omega arith)
+        scalar = row-other scalars clientWords (scalarAt d) b (w .scalar) asked (itemAt d k) v
+            (omega arith)
             (h .scalar);
         asked = row-put asked 64 (itemAt d) b (w .asked) k v (omega arith) (λ n a. omega arith)
             (h .asked);
@@ -209,7 +211,8 @@ module _ {d : ℕ} {b : List ℕ} {w : Words} (first : 1 ≤ d) (last : d ≤ 8)
       → HasWords d (store b values (itemAt d k) v) (putValue w k v)
   has-words-value k v g =
       record {
-        scalar = row-other scalars clientWords (scalarAt d) b (w .scalar) values (itemAt d k) v (omega arith)
+        scalar = row-other scalars clientWords (scalarAt d) b (w .scalar) values (itemAt d k) v
+            (omega arith)
             (h .scalar);
         asked = row-other asked 64 (itemAt d) b (w .asked) values (itemAt d k) v (omega arith)
             (h .asked);

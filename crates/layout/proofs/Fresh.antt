@@ -8,10 +8,9 @@ use lib.ListN.{length, length-set}
 use Rattle.basics.proofs.Cases.{not-both}
 use Rattle.itemset.proofs.Laws.{has-empty}
 use Rattle.protocol.specs.Tables.{Sizes, fresh, initial, resting, nothing}
-use Rattle.layout.specs.Layout.{clientWords}
-use Rattle.layout.specs.Layout.{Section, header, scalars, latest, views, base, needed, at}
-use Rattle.layout.specs.Layout.{store, clientsAt, partitionsAt, itemsAt, versionsAt}
-use Rattle.layout.specs.Layout.{messagesAt, scalarAt, latestAt, viewAt}
+use Rattle.layout.specs.Layout.{clientWords, Section, header, scalars, latest, views, base}
+use Rattle.layout.specs.Layout.{needed, at, store, clientsAt, partitionsAt, itemsAt}
+use Rattle.layout.specs.Layout.{versionsAt, messagesAt, scalarAt, latestAt, viewAt}
 use Rattle.layout.specs.Store.{storeSizes, blank, freshBlock}
 use Rattle.layout.specs.Encodes.{Encodes, HoldsEntry, HoldsClient}
 use Rattle.layout.proofs.Blank.{length-blank, blank-zero}

@@ -9,9 +9,8 @@ use Rattle.protocol.specs.declared.Version.{Version}
 use Rattle.protocol.specs.declared.Entry.{Entry}
 use Rattle.protocol.specs.declared.Message.{Message}
 use Rattle.protocol.specs.declared.Message.the-variants.{Prepare, Prepared, Commit, Get, Got}
-use Rattle.layout.specs.Layout.{mostVersions, mostMessages, messageWords}
-use Rattle.layout.specs.Layout.{Section, versions, messages, base, size, at, store, versionAt}
-use Rattle.layout.specs.Layout.{messageAt}
+use Rattle.layout.specs.Layout.{mostVersions, mostMessages, messageWords, Section, versions}
+use Rattle.layout.specs.Layout.{messages, base, size, at, store, versionAt, messageAt}
 use Rattle.layout.specs.Encodes.{HoldsEntry, HoldsVersion, HoldsMessage}
 use Rattle.layout.proofs.At.{at-store-other}
 

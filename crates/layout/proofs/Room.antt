@@ -51,7 +51,8 @@ narrow-ended z h nothing r = tt
 narrow-ended z h (read s stamps vs) r = narrow-below s (z .items) (r .set) h
 narrow-ended z h (write s stamp vs) r = narrow-below s (z .items) (r .set) h
 
-pub narrow-client : (z : Sizes) → z .items ≤ mostItems → (c : Client) → ClientInRange z c → NarrowClient c
+pub narrow-client : (z : Sizes) → z .items ≤ mostItems → (c : Client) → ClientInRange z c
+    → NarrowClient c
 narrow-client z h c r = record {
   set = narrow-below (c .set) (z .items) (r .set) h;
   last =

@@ -6,10 +6,9 @@ use mathlib.Core.Path.{_≡_, refl, _∙_}
 use Prim.Native.Nat.{ℕ, _+_, _≤_, _<_}
 use native.Mathlib.Omega.{arith}
 use lib.ListN.{length}
-use Rattle.layout.specs.Layout.{clientWords}
-use Rattle.layout.specs.Layout.{Section, header, scalars, latest, views, asked, values}
-use Rattle.layout.specs.Layout.{lastStamps, lastValues, versions, messages, base, size, store}
-use Rattle.layout.specs.Layout.{scalarAt, itemAt}
+use Rattle.layout.specs.Layout.{clientWords, Section, header, scalars, latest, views, asked}
+use Rattle.layout.specs.Layout.{values, lastStamps, lastValues, versions, messages, base}
+use Rattle.layout.specs.Layout.{size, store, scalarAt, itemAt}
 use Rattle.layout.proofs.At.{length-store}
 use Rattle.layout.proofs.Kept.{Kept, kept-trans, kept-store}
 use Rattle.layout.proofs.ClientWords.{has-words, has-words-trans, Beside, has-words-beside}

@@ -16,12 +16,12 @@ use Rattle.protocol.specs.Tables.{nothing, read, write, initial, resting}
 use Rattle.protocol.specs.Steps.{version}
 use Rattle.protocol.specs.Range.{capacities, valid, sizesInRange, isClient, isItem, isWriting}
 use Rattle.protocol.specs.Range.{everyClient}
-use Rattle.layout.specs.Layout.{mostVersions, mostMessages}
-use Rattle.layout.specs.Layout.{header, scalars, latest, views, asked, values, lastStamps}
-use Rattle.layout.specs.Layout.{lastValues, versions, messages, needed, at, clientsAt}
-use Rattle.layout.specs.Layout.{partitionsAt, itemsAt, versionsAt, messagesAt, modeAt}
-use Rattle.layout.specs.Layout.{countAt, setAt, awaitedAt, stampAt, lastKindAt, lastSetAt}
-use Rattle.layout.specs.Layout.{lastStampAt, latestAt, viewAt, itemAt, versionAt, messageAt}
+use Rattle.layout.specs.Layout.{mostVersions, mostMessages, header, scalars, latest, views}
+use Rattle.layout.specs.Layout.{asked, values, lastStamps, lastValues, versions, messages}
+use Rattle.layout.specs.Layout.{needed, at, clientsAt, partitionsAt, itemsAt, versionsAt}
+use Rattle.layout.specs.Layout.{messagesAt, modeAt, countAt, setAt, awaitedAt, stampAt}
+use Rattle.layout.specs.Layout.{lastKindAt, lastSetAt, lastStampAt, latestAt, viewAt, itemAt}
+use Rattle.layout.specs.Layout.{versionAt, messageAt}
 
 -- ---- numbers of modes, kinds and ended transactions
 

@@ -9,10 +9,10 @@ use Rattle.protocol.specs.declared.Version.{Version}
 use Rattle.protocol.specs.declared.Entry.{Entry}
 use Rattle.protocol.specs.declared.Message.{Message}
 use Rattle.protocol.specs.declared.Message.the-variants.{Prepare, Prepared, Commit, Get, Got}
-use Rattle.layout.specs.Layout.{messageWords}
-use Rattle.layout.specs.Layout.{Section, header, latest, views, versions, messages, base}
-use Rattle.layout.specs.Layout.{needed, store, clientsAt, partitionsAt, itemsAt, versionsAt}
-use Rattle.layout.specs.Layout.{messagesAt, latestAt, viewAt, versionAt, messageAt}
+use Rattle.layout.specs.Layout.{messageWords, Section, header, latest, views, versions}
+use Rattle.layout.specs.Layout.{messages, base, needed, store, clientsAt, partitionsAt}
+use Rattle.layout.specs.Layout.{itemsAt, versionsAt, messagesAt, latestAt, viewAt, versionAt}
+use Rattle.layout.specs.Layout.{messageAt}
 
 -- ---- sizes
 
@@ -70,4 +70,5 @@ appendMessage b n m = store (storeMessage b n m) header messagesAt (n + 1)
 unfoldable pub takeOut : List ℕ → ℕ → ℕ → List ℕ
 takeOut b n i =
     let from = base messages + messageAt i 0 in
-    store (sets b from (take (messageWords * (n - (i + 1))) (drop (from + messageWords) b))) header messagesAt (n - 1)
+    store (sets b from (take (messageWords * (n - (i + 1))) (drop (from + messageWords) b))) header
+    messagesAt (n - 1)

@@ -9,8 +9,8 @@ use Rattle.protocol.specs.declared.Version.{Version}
 use Rattle.protocol.specs.declared.Message.{Message}
 use Rattle.protocol.specs.declared.Message.the-variants.{Prepare, Prepared, Commit, Get, Got}
 use Rattle.protocol.specs.Tables.{Tables, withVersions, withMessages}
-use Rattle.layout.specs.Layout.{versions, messages, base, needed, at, versionsAt, messagesAt}
-use Rattle.layout.specs.Layout.{versionAt, messageAt}
+use Rattle.layout.specs.Layout.{mostVersions, mostMessages, messageWords, versions, messages, base}
+use Rattle.layout.specs.Layout.{needed, at, versionsAt, messagesAt, versionAt, messageAt}
 use Rattle.layout.specs.Store.{wordsOfVersion, wordsOfMessage, storeVersion, storeMessage}
 use Rattle.layout.specs.Store.{appendVersion, appendMessage}
 use Rattle.layout.specs.Encodes.{Encodes, HoldsVersion, HoldsMessage, word}
@@ -23,7 +23,8 @@ use Rattle.slots.proofs.SameLists.{same-lists}
 
 -- ---- versions
 
-module _ (b : List ℕ) (n : ℕ) (v : Version) (long : needed ≤ length b) (room : n < 512) where
+module _ (b : List ℕ) (n : ℕ) (v : Version) (long : needed ≤ length b)
+    (room : n < mostVersions) where
   appended-version-word : (f : ℕ) → f < 4
       → at (appendVersion b n v) versions (versionAt n f) ≡ getD (wordsOfVersion v) f 0
   unfolding appendVersion storeVersion
@@ -42,7 +43,7 @@ module _ (b : List ℕ) (n : ℕ) (v : Version) (long : needed ≤ length b) (ro
       }
 
 pub encodes-append-version : {b : List ℕ} {t : Tables} (n : ℕ) (v : Version) → Encodes b t
-    → HasRoom t → n ≡ length (t .versions) → n < 512
+    → HasRoom t → n ≡ length (t .versions) → n < mostVersions
     → Encodes (appendVersion b n v) (withVersions t (t .versions ++ v ∷ []))
 unfolding appendVersion storeVersion
 encodes-append-version {b} {t} n v e r k h =
@@ -67,15 +68,15 @@ encodes-append-version {b} {t} n v e r k h =
 
 -- ---- messages
 
-length-words : (m : Message) → length (wordsOfMessage m) ≡ 8
+pub length-words : (m : Message) → length (wordsOfMessage m) ≡ messageWords
 length-words (Prepare v) = refl
 length-words (Prepared k stamp) = refl
 length-words (Commit p stamp) = refl
 length-words (Get d k stamp) = refl
 length-words (Got d v e) = refl
 
-module _ (b : List ℕ) (n : ℕ) (long : needed ≤ length b) (room : n < 128) where
-  appended-word : (m : Message) (f : ℕ) → f < 8
+module _ (b : List ℕ) (n : ℕ) (long : needed ≤ length b) (room : n < mostMessages) where
+  appended-word : (m : Message) (f : ℕ) → f < messageWords
       → word (appendMessage b n m) n f ≡ getD (wordsOfMessage m) f 0
   unfolding appendMessage storeMessage
   appended-word m f l =
@@ -105,7 +106,7 @@ module _ (b : List ℕ) (n : ℕ) (long : needed ≤ length b) (room : n < 128) 
       )
 
 pub encodes-append-message : {b : List ℕ} {t : Tables} (n : ℕ) (m : Message) → Encodes b t
-    → HasRoom t → n ≡ length (t .messages) → n < 128
+    → HasRoom t → n ≡ length (t .messages) → n < mostMessages
     → Encodes (appendMessage b n m) (withMessages t (t .messages ++ m ∷ []))
 unfolding appendMessage storeMessage
 encodes-append-message {b} {t} n m e r k h =

@@ -9,8 +9,8 @@ use lib.Seq.{length-take-le, getD-take, getD-drop}
 use Rattle.basics.specs.Lists.{without}
 use Rattle.basics.proofs.Lists.{length-without}
 use Rattle.protocol.specs.Tables.{Tables, withMessages}
-use Rattle.layout.specs.Layout.{versions, messages, base, versionsAt, messagesAt, versionAt}
-use Rattle.layout.specs.Layout.{messageAt, needed}
+use Rattle.layout.specs.Layout.{mostMessages, messageWords, versions, messages, base, versionsAt}
+use Rattle.layout.specs.Layout.{messagesAt, versionAt, messageAt, needed}
 use Rattle.layout.specs.Store.{takeOut}
 use Rattle.layout.specs.Encodes.{Encodes, HoldsMessage, word}
 use Rattle.layout.proofs.Room.{HasRoom}
@@ -22,27 +22,31 @@ use Rattle.slots.proofs.SameLists.{same-lists}
 
 -- the words that move: those of the messages after message i, of n
 abbrev later : List ℕ → ℕ → ℕ → List ℕ
-later b n i = take (8 * (n - (i + 1))) (drop (base messages + messageAt i 0 + 8) b)
+later b n i = take (messageWords * (n - (i + 1)))
+    (drop (base messages + messageAt i 0 + messageWords) b)
 
-module _ (b : List ℕ) (n i : ℕ) (long : needed ≤ length b) (some : i < n) (room : n ≤ 128) where
-  length-later : length (later b n i) ≡ 8 * (n - (i + 1))
+module _ (b : List ℕ) (n i : ℕ) (long : needed ≤ length b) (some : i < n)
+    (room : n ≤ mostMessages) where
+  length-later : length (later b n i) ≡ messageWords * (n - (i + 1))
   length-later =
-      length-take-le (8 * (n - (i + 1))) (drop (base messages + messageAt i 0 + 8) b)
-      (omega (arith, length-drop (base messages + messageAt i 0 + 8) b))
+      length-take-le (messageWords * (n - (i + 1)))
+      (drop (base messages + messageAt i 0 + messageWords) b)
+      (omega (arith, length-drop (base messages + messageAt i 0 + messageWords) b))
 
-  moved-word : (j f : ℕ) → i ≤ j → suc j < n → f < 8 → word (takeOut b n i) j f ≡ word b (suc j) f
+  moved-word : (j f : ℕ) → i ≤ j → suc j < n → f < messageWords
+      → word (takeOut b n i) j f ≡ word b (suc j) f
   unfolding takeOut
   moved-word j f l h g =
       let from = base messages + messageAt i 0 in
-      let k = 8 * (j - i) + f in
+      let k = messageWords * (j - i) + f in
       run-within b from (later b n i) messagesAt (n - 1) 0 (base messages + messageAt j f) k
       (omega arith) (omega (arith, length-later)) (omega (arith, length-later)) (omega arith)
-      ∙ getD-take (8 * (n - (i + 1))) (drop (from + 8) b) k 0 (omega arith)
-      ∙ getD-drop (from + 8) b k 0
+      ∙ getD-take (messageWords * (n - (i + 1))) (drop (from + messageWords) b) k 0 (omega arith)
+      ∙ getD-drop (from + messageWords) b k 0
       ∙ ap (λ (m : ℕ). getD b m 0) (omega arith)
 
 pub encodes-take-out : {b : List ℕ} {t : Tables} (n i : ℕ) → Encodes b t → HasRoom t
-    → n ≡ length (t .messages) → i < n → n ≤ 128
+    → n ≡ length (t .messages) → i < n → n ≤ mostMessages
     → Encodes (takeOut b n i) (withMessages t (without i (t .messages)))
 unfolding takeOut
 encodes-take-out {b} {t} n i e r k some room =

@@ -7,4 +7,6 @@ pub mod Each
 pub mod SameLists
 pub mod EncodesAppend
 pub mod EncodesTakeOut
+pub mod Chosen
+pub mod EncodesRoom
 pub mod ReadBack

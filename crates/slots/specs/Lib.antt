@@ -1,2 +1,4 @@
--- Stored versions and messages in flight: what a search among the versions finds.
+-- Stored versions and messages in flight: what a search among the versions finds, and how one
+-- more joins.
 pub mod Found
+pub mod Room

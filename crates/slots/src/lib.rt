@@ -3,9 +3,11 @@ ghost use mathlib.Core.Path.{_≡_};
 ghost use mathlib.Core.List.{[], _∷_};
 ghost use Prim.Native.Nat.{_<_};
 ghost use lib.Seq.{sets};
+ghost use Rattle.layout.specs.Layout.{needed};
 use layout::put_word;
 
 pub mod message;
+pub mod room;
 pub mod version;
 
 // What a search finds: a place, or nothing.
@@ -16,7 +18,7 @@ pub enum Found {
 
 // Four words from `place` on.
 fn put_four(b: &mut [u64], place: u64, first: u64, second: u64, third: u64, fourth: u64)
-    requires { ⌜ place < 8000 ⌝ }
+    requires { ⌜ place < needed ⌝ }
     ensures { λ _. ⌜ now (b .exit) ≡ sets (now (b .entry)) place (first ∷ second ∷ third ∷ fourth ∷ []) ⌝ }
 {
     let at = place as usize;

@@ -4,30 +4,29 @@ ghost use mathlib.Core.List.{[], _∷_};
 ghost use Prim.Native.Nat.{_+_, _≤_, _<_};
 ghost use lib.ListN.{length, take, drop};
 ghost use lib.Seq.{sets};
-ghost use Rattle.layout.specs.Layout.{needed, at, store, base, header, messages, messagesAt, messageAt};
+ghost use Rattle.layout.specs.Layout.{mostMessages, messageWords, needed, at, store, base, header, messages, messagesAt, messageAt};
 ghost use Rattle.layout.specs.Decode.{kindIn, messageIn, messageOf};
 ghost use Rattle.layout.specs.Store.{appendMessage, takeOut};
 use crate::put_four;
+use layout::MESSAGE_WORDS;
+use layout::MESSAGES;
 use layout::put_message_count;
 use layout::word;
 use protocol::Entry;
 use protocol::Message;
 use protocol::Version;
 
-// Where the messages start.
-const MESSAGES: u64 = 5328;
-
 // Word `f` of the eight of message `i`.
 fn part(b: &[u64], i: u64, f: u64) -> u64
-    requires { ⌜ (i < 128) × (f < 8) ⌝ }
+    requires { ⌜ (i < mostMessages) × (f < messageWords) ⌝ }
     ensures { λ r. ⌜ r ≡ at (now (b .entry)) messages (messageAt i f) ⌝ }
 {
-    word(b, (MESSAGES + (8 * i + f)) as usize)
+    word(b, (MESSAGES + (MESSAGE_WORDS * i + f)) as usize)
 }
 
 // The kind of the message at place `i`, 1 to 5.
 pub fn kind(b: &[u64], i: u64) -> u64
-    requires { ⌜ i < 128 ⌝ }
+    requires { ⌜ i < mostMessages ⌝ }
     ensures { λ r. ⌜ r ≡ kindIn (now (b .entry)) i ⌝ }
 {
     part(b, i, 0)
@@ -81,7 +80,7 @@ fn of_kind(
 
 // The message at place `i`.
 pub fn message(b: &[u64], i: u64) -> Message
-    requires { ⌜ i < 128 ⌝ }
+    requires { ⌜ i < mostMessages ⌝ }
     ensures { λ r. ⌜ r ≡ messageIn (now (b .entry)) i ⌝ }
 {
     of_kind(
@@ -111,13 +110,20 @@ fn join(
     latest_stamp: u64,
     latest_set: u64,
 )
-    requires { ⌜ n < 128 ⌝ }
+    requires { ⌜ n < mostMessages ⌝ }
     ensures { λ _. ⌜ now (b .exit) ≡ store (sets (now (b .entry)) (base messages + messageAt n 0) (kind ∷ who ∷ item ∷ value ∷ stamp ∷ set ∷ «latest_stamp» ∷ «latest_set» ∷ [])) header messagesAt (n + 1) ⌝ }
 {
-    put_four(b, MESSAGES + (8 * n + 0), kind, who, item, value);
     put_four(
         b,
-        MESSAGES + (8 * n + 4),
+        MESSAGES + (MESSAGE_WORDS * n + 0),
+        kind,
+        who,
+        item,
+        value,
+    );
+    put_four(
+        b,
+        MESSAGES + (MESSAGE_WORDS * n + 4),
         stamp,
         set,
         latest_stamp,
@@ -128,7 +134,7 @@ fn join(
 
 // Message `m` joins the `n` that are there, at the end; words that its kind doesn't use are 0.
 pub fn append(b: &mut [u64], n: u64, m: Message)
-    requires { ⌜ n < 128 ⌝ }
+    requires { ⌜ n < mostMessages ⌝ }
     ensures { λ _. ⌜ now (b .exit) ≡ appendMessage (now (b .entry)) n m ⌝ }
 {
     match m {
@@ -159,27 +165,30 @@ pub fn append(b: &mut [u64], n: u64, m: Message)
     }
 }
 
-// The `count` words that begin eight words after `from` move to `from`.
+// The words of a message, as a distance in the block.
+const APART: usize = MESSAGE_WORDS as usize;
+
+// The `count` words that begin one message after `from` move to `from`.
 fn move_up(b: &mut [u64], from: usize, count: usize)
-    requires { ⌜ from + 8 + count ≤ length (now b) ⌝ }
-    ensures { λ _. ⌜ now (b .exit) ≡ sets (now (b .entry)) from (take count (drop (from + 8) (now (b .entry)))) ⌝ }
+    requires { ⌜ from + messageWords + count ≤ length (now b) ⌝ }
+    ensures { λ _. ⌜ now (b .exit) ≡ sets (now (b .entry)) from (take count (drop (from + messageWords) (now (b .entry)))) ⌝ }
 {
     let mut k = 0;
     while k < count {
-        b[from + k] = b[from + 8 + k];
+        b[from + k] = b[from + APART + k];
         k += 1;
     }
 }
 
 // Of `n` messages the one at place `i` is taken out, and later ones move up by one.
 pub fn take_out(b: &mut [u64], n: u64, i: u64)
-    requires { ⌜ (i < n) × (n ≤ 128) × (needed ≤ length (now b)) ⌝ }
+    requires { ⌜ (i < n) × (n ≤ mostMessages) × (needed ≤ length (now b)) ⌝ }
     ensures { λ _. ⌜ now (b .exit) ≡ takeOut (now (b .entry)) n i ⌝ }
 {
     move_up(
         b,
-        (MESSAGES + (8 * i + 0)) as usize,
-        (8 * (n - (i + 1))) as usize,
+        (MESSAGES + (MESSAGE_WORDS * i + 0)) as usize,
+        (MESSAGE_WORDS * (n - (i + 1))) as usize,
     );
     put_message_count(b, n - 1);
 }

@@ -2,31 +2,30 @@
 ghost use mathlib.Core.Path.{_≡_};
 ghost use Prim.Native.Nat.{_≤_, _<_};
 ghost use Rattle.basics.specs.Lists.{table};
-ghost use Rattle.layout.specs.Layout.{at, versions, versionAt};
+ghost use Rattle.layout.specs.Layout.{mostVersions, versionWords, at, versions, versionAt};
 ghost use Rattle.layout.specs.Decode.{versionIn};
 ghost use Rattle.layout.specs.Store.{appendVersion};
 ghost use Rattle.protocol.specs.Steps.{alike, stored as storedIn, found as foundIn};
 ghost use Rattle.slots.specs.Found.{firstAlike};
 use crate::Found;
 use crate::put_four;
+use layout::VERSION_WORDS;
+use layout::VERSIONS;
 use layout::put_version_count;
 use layout::word;
 use protocol::Version;
 
-// Where the versions start.
-const VERSIONS: u64 = 3280;
-
 // Word `f` of the four of version `i`.
 fn part(b: &[u64], i: u64, f: u64) -> u64
-    requires { ⌜ (i < 512) × (f < 4) ⌝ }
+    requires { ⌜ (i < mostVersions) × (f < versionWords) ⌝ }
     ensures { λ r. ⌜ r ≡ at (now (b .entry)) versions (versionAt i f) ⌝ }
 {
-    word(b, (VERSIONS + (4 * i + f)) as usize)
+    word(b, (VERSIONS + (VERSION_WORDS * i + f)) as usize)
 }
 
 // The version at place `i`.
 pub fn version(b: &[u64], i: u64) -> Version
-    requires { ⌜ i < 512 ⌝ }
+    requires { ⌜ i < mostVersions ⌝ }
     ensures { λ r. ⌜ r ≡ versionIn (now (b .entry)) i ⌝ }
 {
     Version {
@@ -39,7 +38,7 @@ pub fn version(b: &[u64], i: u64) -> Version
 
 // Its stamp alone.
 pub fn stamp_of(b: &[u64], i: u64) -> u64
-    requires { ⌜ i < 512 ⌝ }
+    requires { ⌜ i < mostVersions ⌝ }
     ensures { λ r. ⌜ r ≡ versionIn (now (b .entry)) i .stamp ⌝ }
 {
     part(b, i, 2)
@@ -47,16 +46,23 @@ pub fn stamp_of(b: &[u64], i: u64) -> u64
 
 // Version `v` joins the `n` that are there, at the end.
 pub fn append(b: &mut [u64], n: u64, v: Version)
-    requires { ⌜ n < 512 ⌝ }
+    requires { ⌜ n < mostVersions ⌝ }
     ensures { λ _. ⌜ now (b .exit) ≡ appendVersion (now (b .entry)) n v ⌝ }
 {
-    put_four(b, VERSIONS + (4 * n + 0), v.item, v.value, v.stamp, v.set);
+    put_four(
+        b,
+        VERSIONS + (VERSION_WORDS * n + 0),
+        v.item,
+        v.value,
+        v.stamp,
+        v.set,
+    );
     put_version_count(b, n + 1);
 }
 
 // Whether version `i` is of `item` with exactly this `stamp`: most differ in the stamp.
 fn is_alike(b: &[u64], i: u64, item: u64, stamp: u64) -> bool
-    requires { ⌜ i < 512 ⌝ }
+    requires { ⌜ i < mostVersions ⌝ }
     ensures { λ r. ⌜ r ≡ alike item stamp (versionIn (now (b .entry)) i) ⌝ }
 {
     if part(b, i, 2) == stamp {
@@ -68,7 +74,7 @@ fn is_alike(b: &[u64], i: u64, item: u64, stamp: u64) -> bool
 
 // The place of the first of `n` versions of `item` with exactly this `stamp`.
 pub fn find(b: &[u64], n: u64, item: u64, stamp: u64) -> Found
-    requires { ⌜ n ≤ 512 ⌝ }
+    requires { ⌜ n ≤ mostVersions ⌝ }
     ensures { λ r. ⌜ r ≡ firstAlike (now (b .entry)) n item stamp ⌝ }
 {
     let mut i = 0;
@@ -83,7 +89,7 @@ pub fn find(b: &[u64], n: u64, item: u64, stamp: u64) -> Found
 
 // Whether one of `n` versions is of `item` with exactly this `stamp`.
 pub fn is_stored(b: &[u64], n: u64, item: u64, stamp: u64) -> bool
-    requires { ⌜ n ≤ 512 ⌝ }
+    requires { ⌜ n ≤ mostVersions ⌝ }
     ensures { λ r. ⌜ r ≡ storedIn (table n (versionIn (now (b .entry)))) item stamp ⌝ }
 {
     let place = find(b, n, item, stamp);
@@ -96,7 +102,7 @@ pub fn is_stored(b: &[u64], n: u64, item: u64, stamp: u64) -> bool
 
 // The first of `n` versions of `item` with exactly this `stamp`, else the initial version of that stamp.
 pub fn found(b: &[u64], n: u64, item: u64, stamp: u64) -> Version
-    requires { ⌜ n ≤ 512 ⌝ }
+    requires { ⌜ n ≤ mostVersions ⌝ }
     ensures { λ r. ⌜ r ≡ foundIn (table n (versionIn (now (b .entry)))) item stamp ⌝ }
 {
     let place = find(b, n, item, stamp);

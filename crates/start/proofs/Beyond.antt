@@ -16,9 +16,9 @@ use Rattle.protocol.specs.Range.{capacities, load}
 use Rattle.protocol.specs.Steps.{version}
 use Rattle.protocol.proofs.Put.{by-cond}
 use Rattle.protocol.proofs.Refusals.{AcceptedStart, AcceptedWrite}
-use Rattle.layout.specs.Layout.{Section, scalars, asked, values, messages, base, needed, at, store}
-use Rattle.layout.specs.Layout.{messagesAt, modeAt, countAt, setAt, awaitedAt, stampAt, itemAt}
-use Rattle.layout.specs.Layout.{messageAt}
+use Rattle.layout.specs.Layout.{mostMessages, messageWords, Section, scalars, asked, values}
+use Rattle.layout.specs.Layout.{messages, base, needed, at, store, messagesAt, modeAt, countAt}
+use Rattle.layout.specs.Layout.{setAt, awaitedAt, stampAt, itemAt, messageAt}
 use Rattle.layout.specs.Store.{wordsOfMessage, storeMessage, appendMessage}
 use Rattle.layout.specs.Encodes.{Encodes}
 use Rattle.layout.proofs.Room.{HasRoom, room-valid}
@@ -41,7 +41,8 @@ same-store {b} {x} s i v l h =
       past = λ j g. getD-set-other x (base s + i) j v 0 (omega arith) ∙ h .past j g;
     }
 
-same-append : {b x : List ℕ} (n : ℕ) (m : Message) → n < 128 → length (wordsOfMessage m) ≡ 8
+same-append : {b x : List ℕ} (n : ℕ) (m : Message) → n < mostMessages
+    → length (wordsOfMessage m) ≡ messageWords
     → SameBeyond b x → SameBeyond b (appendMessage x n m)
 unfolding appendMessage storeMessage
 same-append {b} {x} n m l w h =
@@ -53,8 +54,8 @@ same-append {b} {x} n m l w h =
 
 -- a pass of messages
 same-sends : {b : List ℕ} (x : List ℕ) (n s : ℕ) (made : List ℕ → ℕ → Message) (items : ℕ)
-    → n + count s ≤ 128
-    → ((y : List ℕ) (k : ℕ) → length (wordsOfMessage (made y k)) ≡ 8) → SameBeyond b x
+    → n + count s ≤ mostMessages
+    → ((y : List ℕ) (k : ℕ) → length (wordsOfMessage (made y k)) ≡ messageWords) → SameBeyond b x
     → SameBeyond b (upTo (λ y k. sendItem n s (made y k) y k) x items)
 same-sends {b} x n s made items l w h =
     upTo-all (λ k y. SameBeyond b y) (λ y k. sendItem n s (made y k) y k) x items h
@@ -77,7 +78,7 @@ module _ (b : List ℕ) (t : Tables) (d s : ℕ) (n : Encodes b t)
   last : d ≤ 8
   last = omega (arith, a .client .1, room .clients)
 
-  fits : sent + count s ≤ 128
+  fits : sent + count s ≤ mostMessages
   unfolding load
   fits = omega (arith, a .load)
 

@@ -7,14 +7,14 @@ use Rattle.itemset.specs.Set.{count}
 use Rattle.protocol.specs.Tables.{Tables}
 use Rattle.protocol.specs.Range.{capacities, load}
 use Rattle.protocol.proofs.Refusals.{AcceptedStart, AcceptedWrite}
-use Rattle.layout.specs.Layout.{header, scalars, at, itemsAt, messagesAt, countAt}
+use Rattle.layout.specs.Layout.{mostMessages, header, scalars, at, itemsAt, messagesAt, countAt}
 use Rattle.layout.specs.Encodes.{Encodes}
 
 pub record ReadyStart (b : List ℕ) (d s : ℕ) : Type 0 where
   pub first : 1 ≤ d
   pub last : d ≤ 8
   pub items : at b header itemsAt ≤ 64
-  pub messages : at b header messagesAt + count s ≤ 128
+  pub messages : at b header messagesAt + count s ≤ mostMessages
 
 pub record ReadyWrite (b : List ℕ) (d s : ℕ) (bytes : List ℕ) : Type 0 where
   pub start : ReadyStart b d s

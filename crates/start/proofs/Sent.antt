@@ -18,6 +18,7 @@ use Rattle.protocol.specs.Tables.{Tables, withMessages}
 use Rattle.layout.specs.Encodes.{Encodes}
 use Rattle.layout.proofs.Room.{HasRoom, room-messages}
 use Rattle.slots.proofs.EncodesAppend.{encodes-append-message}
+use Rattle.layout.specs.Layout.{mostMessages}
 use Rattle.start.specs.Start.{sendItem}
 
 -- the messages of the items of s below k
@@ -51,7 +52,7 @@ length-messages g s k ms = omega (
 -- the message for item k, as made from the block at its turn, is g k
 module _ (b : List ℕ) (t : Tables) (s items : ℕ) (made : List ℕ → ℕ → Message) (g : ℕ → Message)
     (n : Encodes b t) (r : HasRoom t)
-    (room : length (t .messages) + count s ≤ 128)
+    (room : length (t .messages) + count s ≤ mostMessages)
     (same : (x : List ℕ) (ms : List Message) → Encodes x (withMessages t ms) → (k : ℕ) → k < items
     → has s k ≡ true → made x k ≡ g k) where
   abbrev Sent : ℕ → List ℕ → Type 0

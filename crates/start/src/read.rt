@@ -6,7 +6,7 @@ ghost use Rattle.basics.specs.Fold.{upTo};
 ghost use Rattle.itemset.specs.Set.{has, count};
 ghost use Rattle.protocol.specs.declared.Message.the-variants.{Get};
 ghost use Rattle.protocol.specs.Steps.{choice};
-ghost use Rattle.layout.specs.Layout.{header, asked, values, at, store, itemsAt, messagesAt, itemAt};
+ghost use Rattle.layout.specs.Layout.{mostMessages, header, asked, values, at, store, itemsAt, messagesAt, itemAt};
 ghost use Rattle.layout.specs.Decode.{viewIn};
 ghost use Rattle.layout.specs.Store.{appendMessage};
 ghost use Rattle.start.specs.Start.{askItem, sendGet, readStarted};
@@ -82,7 +82,7 @@ fn ask_items(b: &mut [u64], d: u64, s: u64, items: u64)
 
 // A get of item `k`, with the stamp asked for, joins the `place` messages that are there.
 fn send_get(b: &mut [u64], place: u64, d: u64, k: u64)
-    requires { ⌜ (place < 128) × (1 ≤ d) × (d ≤ 8) × (k < 64) ⌝ }
+    requires { ⌜ (place < mostMessages) × (1 ≤ d) × (d ≤ 8) × (k < 64) ⌝ }
     ensures { λ _. ⌜ now (b .exit) ≡ appendMessage (now (b .entry)) place (Get d k (at (now (b .entry)) asked (itemAt d k))) ⌝ }
 {
     let stamp = asked(b, d, k);
@@ -98,7 +98,7 @@ fn send_get(b: &mut [u64], place: u64, d: u64, k: u64)
 }
 
 fn get_item(b: &mut [u64], n: u64, d: u64, s: u64, k: u64)
-    requires { ⌜ (n + count s ≤ 128) × (1 ≤ d) × (d ≤ 8) × (k < 64) ⌝ }
+    requires { ⌜ (n + count s ≤ mostMessages) × (1 ≤ d) × (d ≤ 8) × (k < 64) ⌝ }
     ensures { λ _. ⌜ now (b .exit) ≡ sendGet n d s (now (b .entry)) k ⌝ }
 {
     if has(s, k) {
@@ -107,7 +107,7 @@ fn get_item(b: &mut [u64], n: u64, d: u64, s: u64, k: u64)
 }
 
 fn get_items(b: &mut [u64], n: u64, d: u64, s: u64, items: u64)
-    requires { ⌜ (n + count s ≤ 128) × (1 ≤ d) × (d ≤ 8) × (items ≤ 64) ⌝ }
+    requires { ⌜ (n + count s ≤ mostMessages) × (1 ≤ d) × (d ≤ 8) × (items ≤ 64) ⌝ }
     ensures { λ _. ⌜ now (b .exit) ≡ upTo (sendGet n d s) (now (b .entry)) items ⌝ }
 {
     let mut k = 0;
@@ -119,7 +119,7 @@ fn get_items(b: &mut [u64], n: u64, d: u64, s: u64, items: u64)
 
 // Client `d` starts a read of set `s`, in a block with `items` items and `n` messages.
 pub fn start_read(b: &mut [u64], d: u64, s: u64, items: u64, n: u64)
-    requires { ⌜ (1 ≤ d) × (d ≤ 8) × (items ≤ 64) × (n + count s ≤ 128) × (items ≡ at (now b) header itemsAt) × (n ≡ at (now b) header messagesAt) ⌝ }
+    requires { ⌜ (1 ≤ d) × (d ≤ 8) × (items ≤ 64) × (n + count s ≤ mostMessages) × (items ≡ at (now b) header itemsAt) × (n ≡ at (now b) header messagesAt) ⌝ }
     ensures { λ _. ⌜ now (b .exit) ≡ readStarted (now (b .entry)) d s ⌝ }
 {
     ask_items(b, d, s, items);

@@ -7,7 +7,7 @@ ghost use Rattle.hex.specs.Number.{numberAt};
 ghost use Rattle.itemset.specs.Set.{count};
 ghost use Rattle.protocol.specs.declared.Message.the-variants.{Prepare};
 ghost use Rattle.protocol.specs.Steps.{version};
-ghost use Rattle.layout.specs.Layout.{header, scalars, values, at, store, itemsAt, messagesAt, countAt, itemAt};
+ghost use Rattle.layout.specs.Layout.{mostMessages, header, scalars, values, at, store, itemsAt, messagesAt, countAt, itemAt};
 ghost use Rattle.layout.specs.Store.{appendMessage};
 ghost use Rattle.start.specs.Start.{valueItem, sendPrepare, writeStarted};
 use crate::put_busy;
@@ -53,7 +53,7 @@ fn keep_items(b: &mut [u64], d: u64, s: u64, bytes: &[u8], items: u64)
 
 // A prepare of item `k`, with the value kept for it, joins the `place` messages that are there.
 fn send_prepare(b: &mut [u64], place: u64, d: u64, s: u64, stamp: u64, k: u64)
-    requires { ⌜ (place < 128) × (1 ≤ d) × (d ≤ 8) × (k < 64) ⌝ }
+    requires { ⌜ (place < mostMessages) × (1 ≤ d) × (d ≤ 8) × (k < 64) ⌝ }
     ensures { λ _. ⌜ now (b .exit) ≡ appendMessage (now (b .entry)) place (Prepare (version k (at (now (b .entry)) values (itemAt d k)) stamp s)) ⌝ }
 {
     let value = value(b, d, k);
@@ -70,7 +70,7 @@ fn send_prepare(b: &mut [u64], place: u64, d: u64, s: u64, stamp: u64, k: u64)
 }
 
 fn prepare_item(b: &mut [u64], n: u64, d: u64, s: u64, stamp: u64, k: u64)
-    requires { ⌜ (n + count s ≤ 128) × (1 ≤ d) × (d ≤ 8) × (k < 64) ⌝ }
+    requires { ⌜ (n + count s ≤ mostMessages) × (1 ≤ d) × (d ≤ 8) × (k < 64) ⌝ }
     ensures { λ _. ⌜ now (b .exit) ≡ sendPrepare n d s stamp (now (b .entry)) k ⌝ }
 {
     if has(s, k) {
@@ -79,7 +79,7 @@ fn prepare_item(b: &mut [u64], n: u64, d: u64, s: u64, stamp: u64, k: u64)
 }
 
 fn prepare_items(b: &mut [u64], n: u64, d: u64, s: u64, stamp: u64, items: u64)
-    requires { ⌜ (n + count s ≤ 128) × (1 ≤ d) × (d ≤ 8) × (items ≤ 64) ⌝ }
+    requires { ⌜ (n + count s ≤ mostMessages) × (1 ≤ d) × (d ≤ 8) × (items ≤ 64) ⌝ }
     ensures { λ _. ⌜ now (b .exit) ≡ upTo (sendPrepare n d s stamp) (now (b .entry)) items ⌝ }
 {
     let mut k = 0;
@@ -91,7 +91,7 @@ fn prepare_items(b: &mut [u64], n: u64, d: u64, s: u64, stamp: u64, items: u64)
 
 // Client `d` starts a write of set `s` with these value bytes, four for each item, in a block with `items` items and `n` messages.
 pub fn start_write(b: &mut [u64], d: u64, s: u64, bytes: &[u8], items: u64, n: u64)
-    requires { ⌜ (1 ≤ d) × (d ≤ 8) × (items ≤ 64) × (n + count s ≤ 128) × (items ≡ at (now b) header itemsAt) × (n ≡ at (now b) header messagesAt) × (at (now b) scalars (countAt d) < 2 ^ 32) × (4 * count s ≤ length (now bytes)) ⌝ }
+    requires { ⌜ (1 ≤ d) × (d ≤ 8) × (items ≤ 64) × (n + count s ≤ mostMessages) × (items ≡ at (now b) header itemsAt) × (n ≡ at (now b) header messagesAt) × (at (now b) scalars (countAt d) < 2 ^ 32) × (4 * count s ≤ length (now bytes)) ⌝ }
     ensures { λ _. ⌜ now (b .exit) ≡ writeStarted (now (b .entry)) d s (now (bytes .entry)) ⌝ }
 {
     let number = count(b, d) + 1;

@@ -12,8 +12,8 @@ use Rattle.protocol.specs.Range.{capacities, valid}
 use Rattle.protocol.specs.Calls.{Call, refusal, effect, reply, written, lent, step}
 use Rattle.layout.specs.Layout.{header, at, messagesAt}
 use Rattle.layout.specs.Decode.{tablesOf, wellFormed, validBlock}
-use Rattle.range.proofs.Encoded.{encodes-tables}
-use Rattle.range.proofs.MaskedTables.{masked-tables}
+use Rattle.encoding.proofs.Encoded.{encodes-tables}
+use Rattle.encoding.proofs.MaskedTables.{masked-tables}
 use Rattle.store.specs.Calls.{refusalOn, answerOn, outputOn, tablesAfter, changed, blockAfter}
 use Rattle.store.proofs.Changed.{encodes-changed}
 use Rattle.store.proofs.Holds.{Holds, tables-are, holds-after}

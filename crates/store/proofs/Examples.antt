@@ -9,6 +9,7 @@ use Rattle.protocol.specs.declared.Answer.the-variants.{Refused, Made, Started,
 use Rattle.protocol.specs.Range.{sizesInRange}
 use Rattle.protocol.specs.Calls.{first, numberOfAnswer}
 use Rattle.range.specs.Sized.{sizes}
+use Rattle.layout.specs.Layout.{needed}
 use Rattle.store.specs.Calls.{freshRefusalOn, freshAnswerOn}
 
 -- answers in the order of the rows: 2 whatever the length, 1 for a word too few, none at the needed
@@ -17,8 +18,8 @@ abbrev made : List Answer
 made =
     freshAnswerOn [] (sizes 9 8 64) ∷ freshAnswerOn [] (sizes 8 8 64)
     ∷ freshAnswerOn (replicate 6351 0) (sizes 8 8 64)
-    ∷ freshAnswerOn (replicate 6352 0) (sizes 8 8 64)
-    ∷ freshAnswerOn (replicate 6352 7) (sizes 1 1 65) ∷ []
+    ∷ freshAnswerOn (replicate needed 0) (sizes 8 8 64)
+    ∷ freshAnswerOn (replicate needed 7) (sizes 1 1 65) ∷ []
 
 pub fresh-rows : made ≡ Refused 2 ∷ Refused 1 ∷ Refused 1 ∷ Made ∷ Refused 2 ∷ []
 unfolding freshAnswerOn freshRefusalOn first sizesInRange

@@ -17,7 +17,7 @@ use Rattle.protocol.specs.Calls.{numberOfAnswer}
 use Rattle.protocol.proofs.Valid.{valid-kept}
 use Rattle.protocol.specs.Range.{capacities}
 use Rattle.layout.specs.Decode.{tablesOf, validBlock}
-use Rattle.range.proofs.Decoded.{few-messages}
+use Rattle.encoding.proofs.Decoded.{few-messages}
 use Rattle.show.proofs.Frames.{length-frame-le}
 use Rattle.store.specs.Calls.{freshRefusalOn, freshAnswerOn, refusalOn, answerOn, Fits}
 use Rattle.store.proofs.Accepted.{answer-accepted, answer-refused}

@@ -19,7 +19,7 @@ use Rattle.layout.specs.Layout.{needed}
 use Rattle.layout.specs.Decode.{tablesOf}
 use Rattle.layout.specs.Store.{freshBlock}
 use Rattle.layout.proofs.Fresh.{encodes-fresh}
-use Rattle.range.proofs.MaskedStep.{masked-fresh}
+use Rattle.encoding.proofs.MaskedStep.{masked-fresh}
 use Rattle.store.specs.Calls.{freshRefusalOn, freshAnswerOn, freshAfter, freshTables}
 use Rattle.store.proofs.Holds.{Holds, tables-are}
 

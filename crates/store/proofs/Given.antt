@@ -16,13 +16,14 @@ use Rattle.protocol.specs.Calls.{Call, startRead, startWrite, show, effect, rep
 use Rattle.protocol.specs.Calls.{pick, shownFrame}
 use Rattle.protocol.proofs.Ranges.Tables.{Valid, valid-facts}
 use Rattle.protocol.proofs.Refusals.{accepted-read, accepted-write, accepted-show}
-use Rattle.layout.specs.Layout.{header, scalars, at, itemsAt, messagesAt, countAt}
+use Rattle.layout.specs.Layout.{mostVersions, mostMessages, header, scalars, at, itemsAt}
+use Rattle.layout.specs.Layout.{messagesAt, countAt}
 use Rattle.layout.specs.Decode.{sizesIn, tablesOf, validBlock}
 use Rattle.start.specs.Start.{readStarted, writeStarted}
 use Rattle.start.proofs.Ready.{ready-start, ready-write}
 use Rattle.show.specs.Show.{frameIn}
 use Rattle.show.proofs.Frames.{shownFrame-tablesOf}
-use Rattle.range.proofs.WellFormed.{client-test}
+use Rattle.encoding.proofs.WellFormed.{client-test}
 use Rattle.store.specs.Calls.{refusalOn, answerOn, outputOn, tablesAfter, changed, blockAfter}
 use Rattle.store.proofs.Accepted.{valid-tables, accepted-holds, accepted-tables}
 use Rattle.store.proofs.Accepted.{answer-accepted, output-accepted, block-accepted}
@@ -72,7 +73,8 @@ module _ (b : List ℕ) (c : Call) (e : refusalOn b c ≡ 0) (after : List ℕ)
 
 module _ (b : List ℕ) (d s : ℕ) (e : refusalOn b (startRead d s) ≡ 0) where
   pub read-ready : (items n : ℕ) → items ≡ at b header itemsAt → n ≡ at b header messagesAt
-      → (1 ≤ d) × (d ≤ 8) × (items ≤ 64) × (n + count s ≤ 128) × (items ≡ at b header itemsAt)
+      → (1 ≤ d) × (d ≤ 8) × (items ≤ 64) × (n + count s ≤ mostMessages)
+      × (items ≡ at b header itemsAt)
       × (n ≡ at b header messagesAt)
   read-ready items n i m =
       let r =
@@ -92,7 +94,8 @@ module _ (b : List ℕ) (d s : ℕ) (e : refusalOn b (startRead d s) ≡ 0) wher
 
 module _ (b : List ℕ) (d s : ℕ) (bytes : List ℕ) (e : refusalOn b (startWrite d s bytes) ≡ 0) where
   pub write-ready : (items n : ℕ) → items ≡ at b header itemsAt → n ≡ at b header messagesAt
-      → (1 ≤ d) × (d ≤ 8) × (items ≤ 64) × (n + count s ≤ 128) × (items ≡ at b header itemsAt)
+      → (1 ≤ d) × (d ≤ 8) × (items ≤ 64) × (n + count s ≤ mostMessages)
+      × (items ≡ at b header itemsAt)
       × (n ≡ at b header messagesAt)
       × (at b scalars (countAt d) < 2 ^ 32) × (4 * count s ≤ length bytes)
   write-ready items n i m =
@@ -143,10 +146,10 @@ module _ (b : List ℕ) (v : validBlock b ≡ true) where
         ),
       )
 
-  pub load-few : (n : ℕ) → n ≡ load (tablesOf b) → n ≤ 128
+  pub load-few : (n : ℕ) → n ≡ load (tablesOf b) → n ≤ mostMessages
   load-few n e = omega (arith, e, facts .load)
 
-  pub occupied-few : (n : ℕ) → n ≡ occupied (tablesOf b) → n ≤ 512
+  pub occupied-few : (n : ℕ) → n ≡ occupied (tablesOf b) → n ≤ mostVersions
   occupied-few n e = omega (arith, e, facts .occupied)
 
 -- ---- showings

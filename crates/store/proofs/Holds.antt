@@ -13,9 +13,9 @@ use Rattle.protocol.proofs.Valid.{valid-step}
 use Rattle.layout.specs.Decode.{tablesOf, validBlock}
 use Rattle.layout.specs.Encodes.{Encodes}
 use Rattle.layout.specs.Masked.{Masked}
-use Rattle.range.proofs.ValidIff.{valid-iff}
-use Rattle.range.proofs.Decoded.{tables-of}
-use Rattle.range.proofs.MaskedStep.{masked-step}
+use Rattle.encoding.proofs.ValidIff.{valid-iff}
+use Rattle.encoding.proofs.Decoded.{tables-of}
+use Rattle.encoding.proofs.MaskedStep.{masked-step}
 use Rattle.store.proofs.Changed.{encodes-changed}
 use Rattle.store.specs.Calls.{refusalOn, answerOn, outputOn, changed, blockAfter}
 

@@ -22,11 +22,12 @@ use Rattle.protocol.proofs.Ranges.Values.{MessageInRange}
 use Rattle.protocol.proofs.Ranges.Tables.{Valid, valid-facts}
 use Rattle.protocol.specs.Range.{capacities}
 use Rattle.layout.specs.Store.{takeOut}
-use Rattle.layout.specs.Layout.{header, needed, at, partitionsAt, itemsAt, versionsAt, messagesAt}
+use Rattle.layout.specs.Layout.{mostVersions, mostMessages, header, needed, at, partitionsAt}
+use Rattle.layout.specs.Layout.{itemsAt, versionsAt, messagesAt}
 use Rattle.layout.specs.Decode.{messageOf, kindIn, messageIn, tablesOf, validBlock}
 use Rattle.layout.specs.Encodes.{Encodes}
 use Rattle.slots.proofs.ReadBack.{read-message}
-use Rattle.range.proofs.WellFormed.{WellFormed, tells-valid-block}
+use Rattle.encoding.proofs.WellFormed.{WellFormed, tells-valid-block}
 use Rattle.deliver.specs.declared.Tested.{Tested}
 use Rattle.deliver.specs.Tests.{Bounded, told, testedIn}
 use Rattle.deliver.specs.Deliver.{messageDelivered, deliveredBlock}
@@ -78,10 +79,10 @@ module _ (b : List ℕ) (i : ℕ) (v : validBlock b ≡ true) where
     pub place : i < length (t .messages)
     place = omega (arith, held .messageCount)
 
-    pub few-places : i < 128
+    pub few-places : i < mostMessages
     few-places = omega (arith, words .messageCount)
 
-    pub few-versions : at b header versionsAt ≤ 512
+    pub few-versions : at b header versionsAt ≤ mostVersions
     few-versions = words .versionCount
 
     message-read : messageIn b i ≡ messageAt t i
@@ -153,8 +154,8 @@ module _ (b : List ℕ) (i : ℕ) (e : refusalOn b (deliver i) ≡ 0) where
   pub deliver-ready : (n p k w : ℕ) (m : Message) → n ≡ at b header messagesAt
       → p ≡ at b header partitionsAt → k ≡ at b header itemsAt
       → w ≡ at b header versionsAt → m ≡ messageIn b i
-      → ((i < n) × (n ≤ 128) × (needed ≤ length b))
-      × ((1 ≤ p) × (p ≤ 8) × (k ≤ 64) × (w ≤ 512) × Bounded m)
+      → ((i < n) × (n ≤ mostMessages) × (needed ≤ length b))
+      × ((1 ≤ p) × (p ≤ 8) × (k ≤ 64) × (w ≤ mostVersions) × Bounded m)
   deliver-ready n p k w m en ep ek ew em =
       let f = words b i v in
       let z = f .sizes in (

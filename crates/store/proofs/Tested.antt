@@ -9,7 +9,8 @@ use Rattle.basics.specs.Lists.{table}
 use Rattle.itemset.specs.Set.{allBelow, count}
 use Rattle.protocol.specs.Range.{capacities, valid, isClient, isIdle, load, occupied}
 use Rattle.protocol.specs.Calls.{startRead, startWrite, show, refusal, first, isNothing}
-use Rattle.layout.specs.Layout.{header, scalars, at, itemsAt, modeAt, countAt, lastKindAt}
+use Rattle.layout.specs.Layout.{mostVersions, mostMessages, header, scalars, at, itemsAt, modeAt}
+use Rattle.layout.specs.Layout.{countAt, lastKindAt}
 use Rattle.layout.specs.Decode.{modeOf, sizesIn, clientIn, tablesOf, validBlock}
 use Rattle.show.specs.Show.{frameIn}
 use Rattle.show.proofs.Frames.{isNothing-last, shownFrame-tablesOf}
@@ -69,7 +70,7 @@ module _ (b : List ℕ) (d : ℕ) (v : validBlock b ≡ true) where
 
   pub read-tests : (s : ℕ) → isClient (sizesIn b) d ≡ true
       → refusal capacities (tablesOf b) (startRead d s) ≡ cond busy 4
-      (cond (bad s) 5 (cond (ltb 128 (load (tablesOf b) + count s)) 8 0))
+      (cond (bad s) 5 (cond (ltb mostMessages (load (tablesOf b) + count s)) 8 0))
   unfolding refusal first
   read-tests s c = rw (valid-tables b v, idle-read b d c, sizes-read b, c) refl
 
@@ -79,8 +80,8 @@ module _ (b : List ℕ) (d : ℕ) (v : validBlock b ≡ true) where
       (cond (bad s) 5
       (cond (not (eqb (length bytes) (4 * count s))) 6
       (cond (eqb (at b scalars (countAt d)) 4294967295) 7
-      (cond (ltb 128 (load (tablesOf b) + count s)) 8
-      (cond (ltb 512 (occupied (tablesOf b) + count s)) 9 0)))))
+      (cond (ltb mostMessages (load (tablesOf b) + count s)) 8
+      (cond (ltb mostVersions (occupied (tablesOf b) + count s)) 9 0)))))
   unfolding refusal first
   write-tests s bytes c = rw (valid-tables b v, idle-read b d c, count-read b d c, sizes-read b, c)
       refl

@@ -13,6 +13,9 @@ ghost use Rattle.range.specs.Sized.{sizes};
 ghost use Rattle.store.specs.Calls.{freshRefusalOn, refusalOn};
 use itemset::all_below;
 use itemset::count;
+use layout::MOST_MESSAGES;
+use layout::MOST_VERSIONS;
+use layout::NEEDED;
 use layout::client::last_kind;
 use layout::client::mode;
 use range::load;
@@ -37,7 +40,7 @@ pub fn of_fresh(b: &[u64], clients: u64, partitions: u64, items: u64) -> u64
         & (partitions <= 8)
         & (1 <= items)
         & (items <= 64);
-    refuse(2, !in_range, refuse(1, b.len() < 6352, 0))
+    refuse(2, !in_range, refuse(1, b.len() < NEEDED, 0))
 }
 
 fn is_client(b: &[u64], d: u64) -> bool
@@ -66,7 +69,7 @@ fn of_client_read(b: &[u64], d: u64, s: u64) -> u64
     requires { ⌜ (validBlock (now b) ≡ true) × (isClient (sizesIn (now b)) d ≡ true) ⌝ }
     ensures { λ r. ⌜ r ≡ refusal capacities (tablesOf (now (b .entry))) (startRead d s) ⌝ }
 {
-    let full = 128 < load(b) + count(s);
+    let full = MOST_MESSAGES < load(b) + count(s);
     refuse(4, busy(b, d), refuse(5, bad_set(b, s), refuse(8, full, 0)))
 }
 
@@ -99,8 +102,8 @@ fn of_client_write(b: &[u64], d: u64, s: u64, bytes: &[u8]) -> u64
     let items = count(s);
     let values = bytes.len() as u64 == 4 * items;
     let counted = layout::client::count(b, d) == 4294967295;
-    let full = 128 < load(b) + items;
-    let stored = 512 < occupied(b) + items;
+    let full = MOST_MESSAGES < load(b) + items;
+    let stored = MOST_VERSIONS < occupied(b) + items;
     refuse(
         4,
         busy(b, d),

@@ -1,5 +1,5 @@
 // Reads store frames from standard input, a line each, and prints the line that answers each before it waits for more (document 01: frames).
-// It sees only the promises of `lines`. The block starts as zeros, on which every well-formed frame but an `01` is refused by 1.
+// It sees only the promises of `lines`, and the length of a block. The block starts as zeros, on which every well-formed frame but an `01` is refused by 1.
 use libc::STDIN_FILENO;
 use libc::STDOUT_FILENO;
 use lines::input::end;
@@ -103,7 +103,7 @@ fn serve(b: &mut [u64], line: &mut [u8; 534], buf: &mut [u8], reply: &mut [u8; 1
 }
 
 fn main() {
-    let mut b = [0u64; 6352];
+    let mut b = [0u64; layout::NEEDED];
     let mut line = [0u8; 534];
     let mut reply = [0u8; 1175];
     let mut buf = io::buffer();

@@ -4,7 +4,7 @@ use Prim.Native.Nat.{_%_}
 use lib.Dec.{eqb}
 use borrow.Author.Tests.{ltb-true}
 use Rattle.basics.proofs.Cases.{and-right}
-use Rattle.ends.proofs.Chosen.{when, unless, later-put}
+use Rattle.slots.proofs.Chosen.{when, unless, later-put}
 use Rattle.layout.specs.Store.{storeLatest}
 use borrow.Author.Needs.{needs}
 use denote.Ref.{now}

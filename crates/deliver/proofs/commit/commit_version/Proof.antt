@@ -1,7 +1,7 @@
 -- `deliver::commit::commit_version` meets its contract: by the test.
 use mathlib.Core.Path.{refl, sym, ap, _∙_}
 use borrow.Author.Tests.{eq-eqb, ne-eqb}
-use Rattle.ends.proofs.Chosen.{when, unless}
+use Rattle.slots.proofs.Chosen.{when, unless}
 use Rattle.deliver.specs.Deliver.{commitItem}
 use borrow.Author.Needs.{needs}
 use denote.Ref.{now}

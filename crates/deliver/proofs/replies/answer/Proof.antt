@@ -2,7 +2,7 @@
 use mathlib.Core.Path.{ap, _∙_}
 use mathlib.Core.List.{List}
 use Prim.Native.Nat.{ℕ}
-use Rattle.ends.proofs.Chosen.{later-put}
+use Rattle.slots.proofs.Chosen.{later-put}
 use Rattle.layout.specs.Layout.{values, store, itemAt}
 use Rattle.layout.specs.Store.{storeView}
 use borrow.Author.Needs.{needs}

@@ -1,6 +1,6 @@
 -- `ends::read::keep_answer` meets its contract: by the test.
 use mathlib.Core.Path.{refl, sym, _∙_}
-use Rattle.ends.proofs.Chosen.{when, unless}
+use Rattle.slots.proofs.Chosen.{when, unless}
 use borrow.Author.Needs.{needs}
 use Rattle.ends.proofs.read.keep_answer.Statement.{statement}
 use Rattle.ends.proofs.read.keep_answer.Tie as tie

@@ -1,6 +1,6 @@
 -- `ends::write::see_item` meets its contract: by the test.
 use mathlib.Core.Path.{refl, sym, _∙_}
-use Rattle.ends.proofs.Chosen.{when, unless, later-put}
+use Rattle.slots.proofs.Chosen.{when, unless, later-put}
 use Rattle.layout.specs.Store.{storeView}
 use borrow.Author.Needs.{needs}
 use denote.Ref.{now}

@@ -1,6 +1,6 @@
 -- `ends::write::touch_item` meets its contract: by the test.
 use mathlib.Core.Path.{refl, sym, _∙_}
-use Rattle.ends.proofs.Chosen.{when, unless}
+use Rattle.slots.proofs.Chosen.{when, unless}
 use borrow.Author.Needs.{needs}
 use Rattle.ends.proofs.write.touch_item.Statement.{statement}
 use Rattle.ends.proofs.write.touch_item.Tie as tie

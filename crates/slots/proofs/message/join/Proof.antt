@@ -4,6 +4,7 @@ use mathlib.Core.Path.{_≡_}
 use Prim.Native.Nat.{suc, _+_, _*_}
 use native.Mathlib.Omega.{arith}
 use borrow.Author.Needs.{needs}
+use Rattle.layout.specs.Layout.{base, messages, messageAt}
 use Rattle.slots.proofs.message.join.Statement.{statement}
 use Rattle.slots.proofs.message.join.Tie as tie
 
@@ -43,7 +44,8 @@ same-length c = search needs
 returns : tie.Need-returns
 returns c =
     let a = c .before .before .before .before .before .before .before .before .before .before .before .before .before .args in
-    let e : 5328 + (8 * a .n + 4) ≡ suc (suc (suc (suc (5328 + (8 * a .n + 0))))) = omega arith in
+    let from = base messages + messageAt (a .n) 0 in
+    let e : base messages + messageAt (a .n) 4 ≡ suc (suc (suc (suc from))) = omega arith in
     cc
 
 pub join-spec : {M : Type 1} → statement M

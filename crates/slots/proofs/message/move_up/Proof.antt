@@ -8,13 +8,14 @@ use native.Mathlib.Numerals.{add-one}
 use lib.ListN.{length, take, drop, length-set}
 use lib.Seq.{sets}
 use borrow.Author.Needs.{needs}
+use Rattle.layout.specs.Layout.{messageWords}
 use Rattle.slots.proofs.Runs.{move-next}
 use Rattle.slots.proofs.message.move_up.Statement.{statement}
 use Rattle.slots.proofs.message.move_up.Tie as tie
 
 abbrev Inv-loop : tie.InvT-loop
 Inv-loop b₀ from count k₀ b k = (k ≤ count) × (length b ≡ length b₀)
-    × (b ≡ sets b₀ from (take k (drop (from + 8) b₀)))
+    × (b ≡ sets b₀ from (take k (drop (from + messageWords) b₀)))
 
 abbrev μ-loop : tie.MeasureT-loop
 μ-loop b₀ from count k₀ b k = count - k
@@ -56,7 +57,7 @@ loop-again c =
       omega arith,
       simp length-set (l .inv .1),
       rw (l .inv .2, add-one)
-          (move-next (now (a .b)) (a .from) 8 (l .k) 0 (omega arith)),
+          (move-next (now (a .b)) (a .from) messageWords (l .k) 0 (omega arith)),
     )
 
 same-length : tie.Need-same-length Inv-loop μ-loop

@@ -8,6 +8,7 @@ use lib.Dec.{eqb, ltb}
 use lib.ListN.{length}
 use borrow.Author.Needs.{needs}
 use Rattle.itemset.proofs.Counts.{count-le}
+use Rattle.layout.specs.Layout.{mostVersions, mostMessages}
 use Rattle.store.proofs.Given.{chain, has-words, load-few, occupied-few}
 use Rattle.store.proofs.Tested.{write-tests}
 use Rattle.store.proofs.refusals.of_client_write.Statement.{statement}
@@ -96,9 +97,9 @@ returns c =
     let values = ap (λ (n : ℕ). not (eqb (length (start .args .bytes .now)) (4 * n)))
     (counted .count .ensures) in
     let last = ap (λ (n : ℕ). eqb n 4294967295) (written .count2 .ensures) in
-    let full = ap₂ (λ (l n : ℕ). ltb 128 (l + n)) (loaded .load .ensures)
+    let full = ap₂ (λ (l n : ℕ). ltb mostMessages (l + n)) (loaded .load .ensures)
     (counted .count .ensures) in
-    let stored = ap₂ (λ (l n : ℕ). ltb 512 (l + n)) (used .occupied .ensures)
+    let stored = ap₂ (λ (l n : ℕ). ltb mostVersions (l + n)) (used .occupied .ensures)
     (counted .count .ensures) in
     chain _ _ 4 _ _ _ (c .refuse6 .ensures) (busy .busy .ensures)
     (chain _ _ 5 _ _ _ (c .before .refuse5 .ensures) (bad .bad-set .ensures)

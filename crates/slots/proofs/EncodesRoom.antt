@@ -8,26 +8,26 @@ use borrow.Author.Tests.{lt-ltb}
 use Rattle.protocol.specs.declared.Version.{Version}
 use Rattle.protocol.specs.declared.Message.{Message}
 use Rattle.protocol.specs.Tables.{Tables, withVersions, withMessages}
-use Rattle.layout.specs.Layout.{header, at, versionsAt, messagesAt}
+use Rattle.layout.specs.Layout.{mostVersions, mostMessages, header, at, versionsAt, messagesAt}
 use Rattle.layout.specs.Encodes.{Encodes}
 use Rattle.layout.proofs.Room.{HasRoom}
 use Rattle.slots.proofs.EncodesAppend.{encodes-append-version, encodes-append-message}
-use Rattle.ends.specs.Room.{keep, send}
+use Rattle.slots.specs.Room.{keep, send}
 
 pub encodes-keep : {b : List ℕ} {t : Tables} (v : Version) → Encodes b t → HasRoom t
-    → length (t .versions) < 512
+    → length (t .versions) < mostVersions
     → Encodes (keep b v) (withVersions t (t .versions ++ v ∷ []))
 unfolding keep
 encodes-keep {b} {t} v n r l =
-    let room : at b header versionsAt < 512 = omega (arith, n .versionCount) in
-    rw (lt-ltb (at b header versionsAt) 512 room)
+    let room : at b header versionsAt < mostVersions = omega (arith, n .versionCount) in
+    rw (lt-ltb (at b header versionsAt) mostVersions room)
     (encodes-append-version (at b header versionsAt) v n r (n .versionCount) room)
 
 pub encodes-send : {b : List ℕ} {t : Tables} (m : Message) → Encodes b t → HasRoom t
-    → length (t .messages) < 128
+    → length (t .messages) < mostMessages
     → Encodes (send b m) (withMessages t (t .messages ++ m ∷ []))
 unfolding send
 encodes-send {b} {t} m n r l =
-    let room : at b header messagesAt < 128 = omega (arith, n .messageCount) in
-    rw (lt-ltb (at b header messagesAt) 128 room)
+    let room : at b header messagesAt < mostMessages = omega (arith, n .messageCount) in
+    rw (lt-ltb (at b header messagesAt) mostMessages room)
     (encodes-append-message (at b header messagesAt) m n r (n .messageCount) room)

@@ -1,16 +1,16 @@
--- `ends::room::keep` meets its contract: by the test.
+-- `slots::room::keep` meets its contract: by the test.
 use mathlib.Core.Path.{refl, ap, _∙_}
 use Prim.Native.Nat.{ℕ}
 use borrow.Author.Tests.{lt-ltb, le-ltb}
-use Rattle.ends.proofs.Chosen.{when, unless}
-use Rattle.layout.specs.Layout.{header, at, versionsAt}
+use Rattle.layout.specs.Layout.{mostVersions, header, at, versionsAt}
 use Rattle.layout.specs.Store.{appendVersion}
-use Rattle.ends.specs.Room.{keep}
+use Rattle.slots.proofs.Chosen.{when, unless}
+use Rattle.slots.specs.Room.{keep}
 use borrow.Author.Needs.{needs}
 use native.Mathlib.Omega.{arith}
 use denote.Ref.{now}
-use Rattle.ends.proofs.room.keep.Statement.{statement}
-use Rattle.ends.proofs.room.keep.Tie as tie
+use Rattle.slots.proofs.room.keep.Statement.{statement}
+use Rattle.slots.proofs.room.keep.Tie as tie
 
 version-count-requires : tie.Need-version-count-requires
 version-count-requires c κs = search needs
@@ -25,7 +25,7 @@ returns : tie.Need-returns
 unfolding keep
 returns c =
     let a = c .before .before .before .before .before .before .before .before .args in
-    when _ _ _ _ (lt-ltb (at (now (a .b)) header versionsAt) 512 (omega arith))
+    when _ _ _ _ (lt-ltb (at (now (a .b)) header versionsAt) mostVersions (omega arith))
     (c .before .before .append .ensures
     ∙ ap (λ (n : ℕ). appendVersion (now (a .b)) n (a .v))
     (c .before .before .before .before .before .version-count .ensures))
@@ -37,7 +37,7 @@ returns-2 : tie.Need-returns-2
 unfolding keep
 returns-2 c =
     let a = c .before .before .before .before .args in
-    unless _ _ _ _ (le-ltb (at (now (a .b)) header versionsAt) 512 (omega arith)) refl
+    unless _ _ _ _ (le-ltb (at (now (a .b)) header versionsAt) mostVersions (omega arith)) refl
 
 pub keep-spec : {M : Type 1} → statement M
 keep-spec =

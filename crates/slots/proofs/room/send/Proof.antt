@@ -1,16 +1,16 @@
--- `ends::room::send` meets its contract: by the test.
+-- `slots::room::send` meets its contract: by the test.
 use mathlib.Core.Path.{refl, ap, _∙_}
 use Prim.Native.Nat.{ℕ}
 use borrow.Author.Tests.{lt-ltb, le-ltb}
-use Rattle.ends.proofs.Chosen.{when, unless}
-use Rattle.layout.specs.Layout.{header, at, messagesAt}
+use Rattle.layout.specs.Layout.{mostMessages, header, at, messagesAt}
 use Rattle.layout.specs.Store.{appendMessage}
-use Rattle.ends.specs.Room.{send}
+use Rattle.slots.proofs.Chosen.{when, unless}
+use Rattle.slots.specs.Room.{send}
 use borrow.Author.Needs.{needs}
 use native.Mathlib.Omega.{arith}
 use denote.Ref.{now}
-use Rattle.ends.proofs.room.send.Statement.{statement}
-use Rattle.ends.proofs.room.send.Tie as tie
+use Rattle.slots.proofs.room.send.Statement.{statement}
+use Rattle.slots.proofs.room.send.Tie as tie
 
 message-count-requires : tie.Need-message-count-requires
 message-count-requires c κs = search needs
@@ -25,7 +25,7 @@ returns : tie.Need-returns
 unfolding send
 returns c =
     let a = c .before .before .before .before .before .before .before .before .args in
-    when _ _ _ _ (lt-ltb (at (now (a .b)) header messagesAt) 128 (omega arith))
+    when _ _ _ _ (lt-ltb (at (now (a .b)) header messagesAt) mostMessages (omega arith))
     (c .before .before .append .ensures
     ∙ ap (λ (n : ℕ). appendMessage (now (a .b)) n (a .m))
     (c .before .before .before .before .before .message-count .ensures))
@@ -37,7 +37,7 @@ returns-2 : tie.Need-returns-2
 unfolding send
 returns-2 c =
     let a = c .before .before .before .before .args in
-    unless _ _ _ _ (le-ltb (at (now (a .b)) header messagesAt) 128 (omega arith)) refl
+    unless _ _ _ _ (le-ltb (at (now (a .b)) header messagesAt) mostMessages (omega arith)) refl
 
 pub send-spec : {M : Type 1} → statement M
 send-spec =
