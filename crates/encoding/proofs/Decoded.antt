@@ -76,7 +76,8 @@ client-of b d c h m =
     (m .asked) k))) in
     let values : (k : ℕ) → within (at b scalars (setAt d))
     (λ j. at b values (itemAt d j)) k ≡ c .values k =
-    λ k. rw (h .set) (only-words (c .set) (λ j. at b values (itemAt d j)) (c .values) (h .values) (m .values) k) in
+    λ k. rw (h .set)
+    (only-words (c .set) (λ j. at b values (itemAt d j)) (c .values) (h .values) (m .values) k) in
     let last = ended-of b d (c .last) (h .last) (m .last) in
     λ i.
     record {

@@ -93,8 +93,10 @@ encodes-tables b e =
       versionCount = sym (length-table _ _ ∙ vs);
       messageCount = sym (length-table _ _ ∙ ms);
       latest = λ k l. rw (lt-ltb k (sizesIn b .items) l) (record { stamp = refl; set = refl });
-      view = λ d l h k m. rw (client-test (sizesIn b) d (l, h), lt-ltb k (sizesIn b .items) m) (record { stamp = refl; set = refl });
-      client = λ d l h. rw (client-test (sizesIn b) d (l, h)) (holds-client b d (w .mode d (l, h)) (w .lastKind d (l, h)));
+      view = λ d l h k m. rw (client-test (sizesIn b) d (l, h), lt-ltb k (sizesIn b .items) m)
+          (record { stamp = refl; set = refl });
+      client = λ d l h. rw (client-test (sizesIn b) d (l, h))
+          (holds-client b d (w .mode d (l, h)) (w .lastKind d (l, h)));
       versions = table-holds (HoldsVersion b) _ (versionIn b) (λ i l. held-version b i);
       messages = table-holds (HoldsMessage b) _ (messageIn b)
           (λ i l. held-message b i (w .someKind i (omega arith)) (w .kind i (omega arith)));

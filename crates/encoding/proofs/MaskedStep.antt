@@ -69,7 +69,8 @@ module _ (t : Tables) (m : Masked t) where
             λ e k g. ap (λ (view : ℕ → Entry). view k) (put-absent (t .sizes) (t .view) d f e i g)
             ∙ m .clientView e k g;
         itemView =
-            λ e k g. put-all (λ (view : ℕ → Entry). view k ≡ initial) (t .view) d f e (h k g) (m .itemView e k g);
+            λ e k g. put-all (λ (view : ℕ → Entry). view k ≡ initial) (t .view) d f e (h k g)
+            (m .itemView e k g);
         absent = m .absent;
         client = m .client;
         messages = m .messages;
@@ -201,7 +202,8 @@ masked-delivered t (Got d v latest) m r h x =
     d view one
     (λ j f.
     let other : j ≢ k =
-    λ p. not-both (lt-ltb k (t .sizes .items) (h .item)) (subst (λ (y : ℕ). isItem (t .sizes) y ≡ false) p f) in
+    λ p. not-both (lt-ltb k (t .sizes .items) (h .item))
+    (subst (λ (y : ℕ). isItem (t .sizes) y ≡ false) p f) in
     put-other (t .view d) k (laterOf (t .view d k) latest) j other ∙ m .itemView d j f)
 
 masked-joined : (t : Tables) (x : Message) → Each MaskedMessage (joined t x)

@@ -25,7 +25,8 @@ masked-client : (b : List ℕ) (d : ℕ) → MaskedClient (clientIn b d)
 unfolding clientIn
 masked-client b d =
     record {
-      asked = λ k e. rw e (by-test (isWriting (modeOf (at b scalars (modeAt d)))) (λ w. rw w) (λ w. rw w));
+      asked = λ k e. rw e
+          (by-test (isWriting (modeOf (at b scalars (modeAt d)))) (λ w. rw w) (λ w. rw w));
       values = λ k e. rw e;
       writing = λ w k. rw w;
       others = λ w. rw w;
@@ -53,6 +54,7 @@ masked-tables b =
       clientView = λ d k e. rw e;
       itemView = λ d k e. by-test (isClient (sizesIn b) d) (λ c. rw (c, e)) (λ c. rw c);
       absent = λ d e. rw e;
-      client = λ d. by-cond MaskedClient (isClient (sizesIn b) d) _ _ (λ c. masked-client b d) (λ c. masked-resting 0 nothing tt);
+      client = λ d. by-cond MaskedClient (isClient (sizesIn b) d) _ _
+          (λ c. masked-client b d) (λ c. masked-resting 0 nothing tt);
       messages = each-table MaskedMessage _ (messageIn b) (λ i l. masked-message b i);
     }
