@@ -2,7 +2,7 @@
 -- table, computed.
 use mathlib.Core.List.{List, [], _∷_}
 use mathlib.Core.Path.{_≡_, refl}
-use Prim.Native.Nat.{ℕ}
+use Prim.Native.Nat.{ℕ, _-_}
 use lib.ListN.{length, replicate}
 use Rattle.protocol.specs.declared.Answer.{Answer}
 use Rattle.protocol.specs.declared.Answer.the-variants.{Refused, Made, Started, Delivered, Shown}
@@ -13,11 +13,11 @@ use Rattle.layout.specs.Layout.{needed}
 use Rattle.store.specs.Calls.{freshRefusalOn, freshAnswerOn}
 
 -- answers in the order of the rows: 2 whatever the length, 1 for a word too few, none at the needed
--- 6,352 words
+-- length
 abbrev made : List Answer
 made =
     freshAnswerOn [] (sizes 9 8 64) ∷ freshAnswerOn [] (sizes 8 8 64)
-    ∷ freshAnswerOn (replicate 6351 0) (sizes 8 8 64)
+    ∷ freshAnswerOn (replicate (needed - 1) 0) (sizes 8 8 64)
     ∷ freshAnswerOn (replicate needed 0) (sizes 8 8 64)
     ∷ freshAnswerOn (replicate needed 7) (sizes 1 1 65) ∷ []
 
