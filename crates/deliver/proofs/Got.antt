@@ -75,26 +75,32 @@ module _ {b : List ℕ} {t : Tables} (d : ℕ) (v : Version) (latest : Entry) (n
   held = encodes-seen-later .client d first last
 
   -- and with the answer
-  kept : Changed d seenBlock (keptAnswer b d v latest) (putValue (wordsOf seenBlock d) (v .item) (v .value))
+  kept : Changed d seenBlock (keptAnswer b d v latest)
+      (putValue (wordsOf seenBlock d) (v .item) (v .value))
   kept =
       changed-value (changed-none d seenBlock first (omega (arith, r .clients))
       (encodes-seen-later .long)) (v .item) (v .value)
       (omega (arith, r .items))
 
   answers : (j : ℕ) → has (c .read .set) j ≡ true
-      → put (wordsOf seenBlock d .values) (v .item) (v .value) j ≡ put (c .read .values) (v .item) (v .value) j
-  answers = put-held (c .read .set) (v .item) (v .value) (wordsOf seenBlock d .values) (c .read .values)
+      → put (wordsOf seenBlock d .values) (v .item) (v .value) j ≡ put (c .read .values) (v .item)
+      (v .value) j
+  answers = put-held (c .read .set) (v .item) (v .value) (wordsOf seenBlock d .values)
+      (c .read .values)
       (held .read reads .values)
 
   ends : Encodes (readEnded (keptAnswer b d v latest) (t .sizes .items) d)
       (withClient (withView t d view) d
-      (resting (c .count) (read (c .read .set) (c .read .asked) (put (c .read .values) (v .item) (v .value)))))
+      (resting (c .count) (read (c .read .set) (c .read .asked)
+      (put (c .read .values) (v .item) (v .value)))))
   ends =
       encodes-read-ended (c .count) (c .read .set) (c .read .asked)
-      (put (c .read .values) (v .item) (v .value)) encodes-seen-later r last (range .read .set) kept (held .count)
+      (put (c .read .values) (v .item) (v .value)) encodes-seen-later r last (range .read .set) kept
+      (held .count)
       (held .read reads .set) (held .read reads .asked) answers
 
-  goes-on : isLast ofRead c (v .item) ≡ false → Encodes (store (keptAnswer b d v latest) scalars (awaitedAt d)
+  goes-on : isLast ofRead c (v .item) ≡ false
+      → Encodes (store (keptAnswer b d v latest) scalars (awaitedAt d)
       (remove (c .read .awaited) (v .item)))
       (withClient (withView t d view) d (answered c (v .item) (v .value)))
   goes-on more =

@@ -13,7 +13,8 @@ use Rattle.basics.specs.Fold.{upTo}
 use Rattle.itemset.specs.Set.{has, remove}
 use Rattle.protocol.specs.declared.Message.{Message}
 use Rattle.protocol.specs.declared.Message.the-variants.{Prepared}
-use Rattle.protocol.specs.Tables.{Tables, Client, ofWrite, write, writerOf, resting, put, withClient}
+use Rattle.protocol.specs.Tables.{Tables, Client, ofWrite, write, writerOf, resting, put}
+use Rattle.protocol.specs.Tables.{withClient}
 use Rattle.protocol.specs.Tables.{withView, withMessages}
 use Rattle.protocol.specs.Range.{isIdle, isWriting}
 use Rattle.protocol.specs.Steps.{struck, isLast, seen, delivered, touches, commits, joined}
@@ -69,7 +70,8 @@ module _ {b : List ℕ} (t : Tables) (ms : List Message) (k stamp : ℕ)
 
   -- with the last one
   abbrev over : Tables
-  over = withView (withClient t d (resting (c .count) (write (c .write .set) (c .write .stamp) (c .write .values)))) d
+  over = withView (withClient t d (resting (c .count)
+      (write (c .write .set) (c .write .stamp) (c .write .values)))) d
       (seen (t .view d) (c .write .set) stamp)
 
   rested : Encodes (writeKept b (t .sizes .items) d (c .write .set) stamp) (withMessages over ms)
@@ -77,7 +79,8 @@ module _ {b : List ℕ} (t : Tables) (ms : List Message) (k stamp : ℕ)
       subst
       (λ (z : ℕ).
       Encodes (writeKept b (t .sizes .items) d (c .write .set) stamp)
-      (withMessages (withView (withClient t d (resting (c .count) (write (c .write .set) z (c .write .values)))) d
+      (withMessages (withView (withClient t d (resting (c .count)
+      (write (c .write .set) z (c .write .values)))) d
       (seen (t .view d) (c .write .set) stamp)) ms))
       (sym own) (encodes-write-kept d stamp n r first last writes (range .write .set))
 
@@ -100,12 +103,14 @@ module _ {b : List ℕ} (t : Tables) (ms : List Message) (k stamp : ℕ)
       (withMessages over (ms ++ commits t (c .write .set) stamp)))
       (sym (held .write writes .set))
       (encodes-commits (withMessages over ms)
-      (touched (t .sizes .partitions) (c .write .set) (t .sizes .items)) stamp (t .sizes .partitions)
+      (touched (t .sizes .partitions) (c .write .set) (t .sizes .items)) stamp
+      (t .sizes .partitions)
       (λ p. touches t (c .write .set) p (t .sizes .items))
       (λ p l. has-touched t some few (c .write .set) (t .sizes .items) p) room-over room rested)
 
   -- before the last one
-  goes-on : isLast ofWrite c k ≡ false → Encodes (store b scalars (awaitedAt d) (remove (c .write .awaited) k))
+  goes-on : isLast ofWrite c k ≡ false
+      → Encodes (store b scalars (awaitedAt d) (remove (c .write .awaited) k))
       (withMessages (withView (withClient t d (struck c k)) d (t .view d)) (ms ++ []))
   goes-on more =
       subst

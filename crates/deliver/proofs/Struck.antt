@@ -52,7 +52,8 @@ module _ (w : Words) (c : Client) (k : ℕ) (h : WordsHold w c) (busy : isIdle c
       }
 
 -- neither makes a set wider
-pub narrow-answered : (c : Client) (k value : ℕ) → NarrowClient c → NarrowClient (answered c k value)
+pub narrow-answered : (c : Client) (k value : ℕ) → NarrowClient c
+    → NarrowClient (answered c k value)
 narrow-answered c k value n = record { read = n .read; write = n .write; last = n .last }
 
 pub narrow-struck : (c : Client) (k : ℕ) → NarrowClient c → NarrowClient (struck c k)

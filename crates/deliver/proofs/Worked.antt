@@ -134,7 +134,8 @@ module _ {b : List ℕ} (t : Tables) (ms : List Message) (n : Encodes b (withMes
   encodes-work (Got d v latest) value z i e same versions messages =
       subst (λ (x : List Message). Encodes (gotDelivered b (t .sizes .items) d v latest)
       (withMessages (delivered t (Got d v latest)) x))
-      (sym (ap (λ (x : List Message). ms ++ x) (got-joins d v (z .client d (i .client)) (e .awaited))
+      (sym (ap (λ (x : List Message). ms ++ x)
+      (got-joins d v (z .client d (i .client)) (e .awaited))
       ∙ append-nil ms))
       (encodes-got d v latest n r (i .client .0) (i .client .1) (i .item) (z .client d (i .client))
       (e .awaited))

@@ -25,7 +25,8 @@ use Rattle.layout.specs.Layout.{Section, header, scalars, latest, views, asked,
 use Rattle.layout.specs.Layout.{lastValues, at, messagesAt, versionsAt}
 use Rattle.layout.specs.Layout.{modeAt, lastKindAt, lastSetAt, lastStampAt, itemAt}
 use Rattle.layout.specs.Layout.{latestAt, viewAt}
-use Rattle.layout.specs.Decode.{sizesIn, latestIn, viewIn, within, endedOf, readIn, writeIn, clientIn}
+use Rattle.layout.specs.Decode.{sizesIn, latestIn, viewIn, within, endedOf, readIn, writeIn}
+use Rattle.layout.specs.Decode.{clientIn}
 use Rattle.layout.specs.Decode.{versionIn, messageIn, tablesOf}
 use Rattle.layout.specs.Encodes.{numberOfMode, HoldsEntry, HoldsEnded, HoldsRead, HoldsWrite}
 use Rattle.layout.specs.Encodes.{HoldsClient, Encodes}
@@ -58,7 +59,8 @@ ended-of b d (write s stamp vs) h m =
 read-of : (b : List ℕ) (d : ℕ) (p : ReadPart) → HoldsRead b d p → Only (p .set) (p .asked)
     → Only (p .set) (p .values) → readIn b d ≡ p
 read-of b d p h asks answers =
-    let σ = fun-ext (only-words (p .set) (λ j. at b asked (itemAt d j)) (p .asked) (h .asked) asks) in
+    let σ = fun-ext (only-words (p .set) (λ j. at b asked (itemAt d j)) (p .asked)
+    (h .asked) asks) in
     let ν = fun-ext
     (only-words (p .set) (λ j. at b values (itemAt d j)) (p .values) (h .values) answers) in
     rw (h .set, h .awaited) (λ i. record {
@@ -147,7 +149,8 @@ module _ (b : List ℕ) (t : Tables) (e : Encodes b t) (m : Masked t) (r : InRan
       (by-test (isClient (t .sizes) d)
       (λ y.
       let bounds = between 1 (t .sizes .clients) d y in
-      rw y (client-of b d (t .sizes) (t .client d) (e .client d (bounds .0) (bounds .1)) (m .client d)
+      rw y (client-of b d (t .sizes) (t .client d) (e .client d (bounds .0) (bounds .1))
+      (m .client d)
       (r .client d bounds)))
       (λ f. rw f (sym (m .absent d f))))
 

@@ -14,9 +14,11 @@ use Rattle.itemset.specs.Set.{has}
 use Rattle.protocol.specs.Tables.{Sizes}
 use Rattle.protocol.proofs.Ranges.Clients.{ClientInRange}
 use Rattle.layout.specs.Layout.{mostVersions, mostMessages}
-use Rattle.layout.specs.Layout.{header, scalars, asked, values, lastStamps, lastValues, at, messagesAt}
+use Rattle.layout.specs.Layout.{header, scalars, asked, values, lastStamps, lastValues, at}
+use Rattle.layout.specs.Layout.{messagesAt}
 use Rattle.layout.specs.Layout.{versionsAt}
-use Rattle.layout.specs.Layout.{modeAt, awaitedAt, lastKindAt, lastSetAt, lastStampAt, setAt, itemAt}
+use Rattle.layout.specs.Layout.{modeAt, awaitedAt, lastKindAt, lastSetAt, lastStampAt, setAt}
+use Rattle.layout.specs.Layout.{itemAt}
 use Rattle.layout.specs.Decode.{sizesIn, endedOf, clientIn, versionIn, messageIn, tablesOf}
 use Rattle.layout.specs.Encodes.{HoldsVersion, HoldsMessage, HoldsEnded}
 use Rattle.layout.specs.Encodes.{HoldsClient, Encodes}

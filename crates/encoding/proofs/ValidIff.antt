@@ -24,7 +24,8 @@ use Rattle.protocol.proofs.Kept.Values.{range-no-read, range-no-write}
 use Rattle.protocol.proofs.Ranges.Tables.{InRange, Valid, valid-facts, facts-valid}
 use Rattle.layout.specs.Layout.{Section, header, scalars, latest, views, asked, values, lastStamps}
 use Rattle.layout.specs.Layout.{lastValues, at}
-use Rattle.layout.specs.Layout.{messagesAt, modeAt, awaitedAt, lastKindAt, lastSetAt, lastStampAt, itemAt}
+use Rattle.layout.specs.Layout.{messagesAt, modeAt, awaitedAt, lastKindAt, lastSetAt, lastStampAt}
+use Rattle.layout.specs.Layout.{itemAt}
 use Rattle.layout.specs.Layout.{latestAt, viewAt}
 use Rattle.layout.specs.Decode.{sizesIn, kindIn, within, endedOf, messageOf, clientIn}
 use Rattle.layout.specs.Decode.{versionIn, messageIn, tablesOf, validBlock}

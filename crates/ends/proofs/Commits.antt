@@ -56,7 +56,13 @@ module _ (t : Tables) (ps stamp partitions : ℕ) (q : ℕ → Bool)
         (λ e.
         let passes : q n ≡ true = sym (same n l) ∙ e in
         let few : length (after n) < mostMessages =
-        omega (arith, length-after n, length-after partitions, length-upto-lt q n partitions l passes)
+        omega (
+          arith,
+          length-after n,
+          length-after partitions,
+          length-upto-lt q n partitions l
+              passes,
+        )
         in
         subst (λ (ms : List Message). Encodes (send c (Commit n stamp)) (withMessages t ms))
         (after-more n passes)

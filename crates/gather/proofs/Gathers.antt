@@ -12,7 +12,7 @@ use Rattle.basics.proofs.Cases.{test-ext, and-left, and-right, and-both, or-rig
 use Rattle.itemset.specs.Set.{has, allBelow}
 use Rattle.itemset.proofs.Laws.{has-empty}
 use Rattle.itemset.proofs.Bits.{has-or, has-and}
-use Rattle.gather.specs.Words.{stampsTest, entriesTest, ownsTest, versionsTest}
+use Rattle.gather.specs.Words.{stampBits, stampsTest, entriesTest, ownsTest, versionsTest}
 use Rattle.gather.proofs.Tested.{SoFar, tested-none, tested-next}
 
 -- words W are gathered from `none` on by `join`, and tested at the end
@@ -108,7 +108,7 @@ unless {t = t} q g = record {
 pub stamps : (c : ℕ) → Gathers (λ (a : (ℕ × ℕ) × ℕ). stampsTest c (a .0 .0) (a .0 .1) (a .1))
     ((0, 0), 0) (pairs (pairs bitOr bitOr) bitOr)
 unfolding stampsTest
-stamps c = beside (beside (below 36) (clear 3)) (unless (leb 8 c) (clear 3))
+stamps c = beside (beside (below stampBits) (clear 3)) (unless (leb 8 c) (clear 3))
 
 pub entries : (c n : ℕ)
     → Gathers (λ (a : ((ℕ × ℕ) × ℕ) × ℕ). entriesTest c n (a .0 .0 .0) (a .0 .0 .1) (a .0 .1)
@@ -118,7 +118,7 @@ entries c n = beside (stamps c) (below n)
 
 pub owns : Gathers ownsTest 0 bitOr
 unfolding ownsTest
-owns = also (below 36) (clear 3)
+owns = also (below stampBits) (clear 3)
 
 pub versions : (n : ℕ) → Gathers (λ (a : (((ℕ × ℕ) × ℕ) × ℕ) × ℕ).
     versionsTest n (a .0 .0 .0 .0) (a .0 .0 .0 .1) (a .0 .0 .1) (a .0 .1) (a .1))

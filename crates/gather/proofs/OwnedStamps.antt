@@ -11,22 +11,22 @@ use Rattle.basics.proofs.Cases.{by-test, test-ext, and-left, and-right, and-bot
 use Rattle.protocol.specs.Tables.{numberOf, writerOf}
 use Rattle.protocol.specs.Range.{fits, stampInRange}
 use Rattle.gather.specs.Sized.{sized}
-use Rattle.gather.specs.Words.{lowered, owned, restOf, ownsTest}
+use Rattle.gather.specs.Words.{stampBits, lowering, lowered, owned, restOf, ownsTest}
 use Rattle.gather.proofs.Gathers.{owns}
 use Rattle.gather.proofs.Bits.{digit-low, digit-high, bit-clear, clear-bit, low-part}
 
 -- a word that passes: below 2 ^ 36, and bit 3 is clear
-owns-size : (a : ℕ) → ownsTest a ≡ true → a < 2 ^ 36
+owns-size : (a : ℕ) → ownsTest a ≡ true → a < 2 ^ stampBits
 unfolding ownsTest
-owns-size a e = ltb-true a (2 ^ 36) (and-left _ _ e)
+owns-size a e = ltb-true a (2 ^ stampBits) (and-left _ _ e)
 
 owns-digit : (a : ℕ) → ownsTest a ≡ true → a / 8 % 2 ≡ 0
 unfolding ownsTest
-owns-digit a e = bit-clear a (not-true _ (and-right (ltb a (2 ^ 36)) _ e))
+owns-digit a e = bit-clear a (not-true _ (and-right (ltb a (2 ^ stampBits)) _ e))
 
-owns-pass : (a : ℕ) → a < 2 ^ 36 → a / 8 % 2 ≡ 0 → ownsTest a ≡ true
+owns-pass : (a : ℕ) → a < 2 ^ stampBits → a / 8 % 2 ≡ 0 → ownsTest a ≡ true
 unfolding ownsTest
-owns-pass a l e = and-both _ _ (lt-ltb a (2 ^ 36) l) (ap not (clear-bit a e))
+owns-pass a l e = and-both _ _ (lt-ltb a (2 ^ stampBits) l) (ap not (clear-bit a e))
 
 parted : (s q r : ℕ) → s ≡ 16 * q + r → r < 16 → (numberOf s ≡ q) × (writerOf s ≡ r)
 parted s q r e l = let n : numberOf s ≡ q = div-eq-of-lt-le 16 (omega arith) (omega arith) in
@@ -38,11 +38,11 @@ laterTest c s = leb 1 (numberOf s) && (leb 1 (writerOf s) && leb (writerOf s) c)
 
 module _ (c s : ℕ) (m : c ≤ 8) (b : s < 2 ^ 64) where
   lowered-some : 17 ≤ s → lowered s ≡ s - 17
-  lowered-some l = mod-eq-sub-mod {n = s + 18446744073709551599} {m = 2 ^ 64} (omega arith)
+  lowered-some l = mod-eq-sub-mod {n = s + lowering} {m = 2 ^ 64} (omega arith)
       ∙ mod-eq-of-lt (omega arith) ∙ omega arith
 
-  lowered-none : s < 17 → 2 ^ 36 ≤ lowered s
-  lowered-none l = let e : lowered s ≡ s + 18446744073709551599 = mod-eq-of-lt (omega arith) in
+  lowered-none : s < 17 → 2 ^ stampBits ≤ lowered s
+  lowered-none l = let e : lowered s ≡ s + lowering = mod-eq-of-lt (omega arith) in
       omega arith
 
   to-later : ownsTest (owned c s) ≡ true → laterTest c s ≡ true
@@ -117,14 +117,14 @@ stamp-word c items s m b =
 -- the same from the stamp itself
 pub rest-sum : (c s : ℕ) → c ≤ 8 → (s + restOf c) % 2 ^ 64 ≡ (lowered s + (24 - c)) % 2 ^ 64
 rest-sum c s m =
-    let plain : (lowered s + (24 - c)) % 2 ^ 64 ≡ (s + 18446744073709551599 + (24 - c)) % 2 ^ 64 =
-    mod-add-mod (s + 18446744073709551599) (2 ^ 64) (24 - c) in
+    let plain : (lowered s + (24 - c)) % 2 ^ 64 ≡ (s + lowering + (24 - c)) % 2 ^ 64 =
+    mod-add-mod (s + lowering) (2 ^ 64) (24 - c) in
     by-test (ltb c 8)
     (λ h.
     let l = ltb-true c 8 h in
-    let e : s + 18446744073709551599 + (24 - c) ≡ s + (7 - c) + 2 ^ 64 = omega arith in
+    let e : s + lowering + (24 - c) ≡ s + (7 - c) + 2 ^ 64 = omega arith in
     rw h (sym (plain ∙ ap (λ (x : ℕ). x % 2 ^ 64) e ∙ add-mod-right (s + (7 - c)) (2 ^ 64))))
     (λ h.
-    let e : s + 18446744073709551599 + (24 - c) ≡ s + 18446744073709551615 =
+    let e : s + lowering + (24 - c) ≡ s + 18446744073709551615 =
     omega (arith, ltb-false c 8 h) in
     rw h (sym (plain ∙ ap (λ (x : ℕ). x % 2 ^ 64) e)))

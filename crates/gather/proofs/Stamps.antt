@@ -16,7 +16,8 @@ use Rattle.protocol.specs.Tables.{numberOf, writerOf}
 use Rattle.protocol.specs.declared.Entry.{Entry}
 use Rattle.protocol.specs.Range.{fits, stampInRange, entryInRange}
 use Rattle.gather.specs.Sized.{sized}
-use Rattle.gather.specs.Words.{raised, mixed, roomed, stampsTest, entriesTest}
+use Rattle.gather.specs.Words.{stampBits, raising, raised, mixed, roomed, stampsTest}
+use Rattle.gather.specs.Words.{entriesTest}
 use Rattle.gather.proofs.Bits.{has-xor, digit-low, digit-high, bit-clear, clear-bit}
 use Rattle.gather.proofs.Parts.{partsTest, stamp-parts}
 
@@ -46,8 +47,8 @@ mixed-not s e =
     (has-power (raised s) 3)
     ∙ digits-same (raised s / 2 ^ 33 / 8) (raised s / 8) e
 
-module _ (s : ℕ) (l : s < 2 ^ 36) where
-  plainly : raised s ≡ s + 68719476727
+module _ (s : ℕ) (l : s < 2 ^ stampBits) where
+  plainly : raised s ≡ s + raising
   plainly = mod-eq-of-lt (omega arith)
 
   parted : s ≡ 16 * numberOf s + writerOf s
@@ -145,11 +146,11 @@ module _ (s : ℕ) (l : s < 2 ^ 36) where
       let w : 1 ≤ writerOf s = omega (arith, eqb-false (writerOf s) 0 (same ∙ g)) in
       omega (arith, low-some w (omega arith), top-some (omega (arith, some-number g))))
 
-sized-number : (s : ℕ) → fits (numberOf s) ≡ ltb s (2 ^ 36)
+sized-number : (s : ℕ) → fits (numberOf s) ≡ ltb s (2 ^ stampBits)
 sized-number s =
     test-ext _ _
-    (λ e. lt-ltb s (2 ^ 36) (omega (arith, ltb-true (numberOf s) (2 ^ 32) e)))
-    (λ e. lt-ltb (numberOf s) (2 ^ 32) (omega (arith, ltb-true s (2 ^ 36) e)))
+    (λ e. lt-ltb s (2 ^ stampBits) (omega (arith, ltb-true (numberOf s) (2 ^ 32) e)))
+    (λ e. lt-ltb (numberOf s) (2 ^ 32) (omega (arith, ltb-true s (2 ^ stampBits) e)))
 
 -- ---- The law
 
@@ -157,14 +158,14 @@ pub stamp-words : (c items s : ℕ) → c ≤ 8
     → stampsTest c s (mixed s) (roomed c s) ≡ stampInRange (sized c items) s
 unfolding stampsTest
 stamp-words c items s m =
-    let size = ltb s (2 ^ 36) in
+    let size = ltb s (2 ^ stampBits) in
     let plain = not (has (mixed s) 3) in
     let room = leb 8 c || not (has (roomed c s) 3) in
     test-ext _ _
     (λ e.
     let t : (size && plain) ≡ true = and-left (size && plain) room e in
     let f : size ≡ true = and-left size plain t in
-    let l : s < 2 ^ 36 = ltb-true s (2 ^ 36) f in
+    let l : s < 2 ^ stampBits = ltb-true s (2 ^ stampBits) f in
     let r : c < 8 → roomed c s / 8 % 2 ≡ 0 =
     λ q. bit-clear (roomed c s) (not-true _ (rw (lt-leb 8 c q) at (and-right (size
     && plain) room e))) in
@@ -173,7 +174,7 @@ stamp-words c items s m =
     (λ e.
     let t = sym (stamp-parts c items s) ∙ e in
     let f : size ≡ true = sym (sized-number s) ∙ and-right (partsTest c s) (fits (numberOf s)) t in
-    let l : s < 2 ^ 36 = ltb-true s (2 ^ 36) f in
+    let l : s < 2 ^ stampBits = ltb-true s (2 ^ stampBits) f in
     let p : partsTest c s ≡ true = and-left (partsTest c s) (fits (numberOf s)) t in
     let small : writerOf s ≤ c = leb-true (writerOf s) c
     (and-right (Bool·beq (eqb (writerOf s) 0) (eqb (numberOf s) 0)) _ p) in

@@ -10,6 +10,15 @@ ghost use Rattle.gather.specs.Words.{mixed, roomed, owned, restOf, stamp
 use protocol::Entry;
 use protocol::Version;
 
+// 2 to the power 36: a stamp in range has a number of 32 bits and a writer of 4.
+const STAMPS_END: u64 = 68719476736;
+
+// 2 to the power 36, less 9.
+const RAISING: u64 = 68719476727;
+
+// 2 to the power 64, less 17.
+const LOWERING: u64 = 18446744073709551599;
+
 // Item `k` is no member of `set`.
 pub fn lacks(set: u64, k: u64) -> bool
     requires { ⌜ k < 64 ⌝ }
@@ -23,7 +32,7 @@ pub fn lacks(set: u64, k: u64) -> bool
 pub fn mixed(stamp: u64) -> u64
     ensures { λ r. ⌜ r ≡ mixed stamp ⌝ }
 {
-    let raised = std::num::wrapping_add_u64(stamp, 68719476727);
+    let raised = std::num::wrapping_add_u64(stamp, RAISING);
     (raised >> 33) ^ raised
 }
 
@@ -44,7 +53,7 @@ pub fn roomed(stamp: u64, clients: u64, room: u64) -> u64
 pub fn stamps_pass(clients: u64, stamps: u64, mixes: u64, rooms: u64) -> bool
     ensures { λ r. ⌜ r ≡ stampsTest clients stamps mixes rooms ⌝ }
 {
-    (stamps < 68719476736) & lacks(mixes, 3) & ((8 <= clients) | lacks(rooms, 3))
+    (stamps < STAMPS_END) & lacks(mixes, 3) & ((8 <= clients) | lacks(rooms, 3))
 }
 
 // The one test of all entries: their stamps, and their sets.
@@ -67,8 +76,7 @@ pub fn owned(stamp: u64, clients: u64, rest: u64) -> u64
     requires { ⌜ (clients ≤ 8) × (rest ≡ restOf clients) ⌝ }
     ensures { λ r. ⌜ r ≡ owned clients stamp ⌝ }
 {
-    std::num::wrapping_add_u64(stamp, 18446744073709551599)
-        | std::num::wrapping_add_u64(stamp, rest)
+    std::num::wrapping_add_u64(stamp, LOWERING) | std::num::wrapping_add_u64(stamp, rest)
 }
 
 // A choice, so that the compiler makes it once and not in the loop.
@@ -86,7 +94,7 @@ pub fn rest(clients: u64) -> u64
 pub fn owns_pass(owns: u64) -> bool
     ensures { λ r. ⌜ r ≡ ownsTest owns ⌝ }
 {
-    (owns < 68719476736) & lacks(owns, 3)
+    (owns < STAMPS_END) & lacks(owns, 3)
 }
 
 // The one test of all versions: items, values, stamps and sets gathered by `|`, and by `&` the sets shifted by their items.

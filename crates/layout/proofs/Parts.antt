@@ -1,5 +1,5 @@
--- What a client's mode tells of its parts, where the client is in range: a writing one reads nothing,
--- and any other writes nothing.
+-- What a client's mode tells of its parts, where the client is in range: a writing one reads
+-- nothing, and any other writes nothing.
 use mathlib.Core.Bool.{true, false, cond, _&&_, and-false}
 use mathlib.Core.Logic.{_≢_}
 use mathlib.Core.Path.{_≡_, refl, sym, _∙_}
@@ -28,7 +28,8 @@ module _ (z : Sizes) (c : Client) (r : ClientInRange z c) where
     reads-nothing = r .alone writes .0
 
     pub no-answer-awaited : c .read .awaited ≡ 0
-    no-answer-awaited = within-none (c .read .awaited) (c .read .set) (r .read .within) reads-nothing
+    no-answer-awaited = within-none (c .read .awaited) (c .read .set)
+        (r .read .within) reads-nothing
 
     busy-writing : isIdle c ≡ false
     busy-writing = rw (ne-eqb (c .write .awaited) 0 (r .alone writes .1))

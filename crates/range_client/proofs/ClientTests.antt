@@ -19,7 +19,8 @@ use Rattle.protocol.proofs.Tells.{tells-and}
 use Rattle.protocol.proofs.Ranges.Clients.{tells-read-part, tells-write-part}
 use Rattle.protocol.proofs.Kept.Values.{range-no-read, range-no-write}
 use Rattle.layout.specs.Layout.{at, scalars, asked, values, lastStamps, lastValues, modeAt, setAt}
-use Rattle.layout.specs.Layout.{countAt, awaitedAt, stampAt, lastKindAt, lastSetAt, lastStampAt, itemAt}
+use Rattle.layout.specs.Layout.{countAt, awaitedAt, stampAt, lastKindAt, lastSetAt, lastStampAt}
+use Rattle.layout.specs.Layout.{itemAt}
 use Rattle.layout.specs.Decode.{within, endedOf, clientIn}
 use Rattle.gather.specs.Sized.{sized}
 use Rattle.range_client.specs.Clients.{askedTest, lastRead, lastWrite, lastTest, stateTest}
@@ -70,8 +71,10 @@ ended-write (suc (suc n)) s stamp stamps vs h = refl
 module _ (count own await mask inside stamps worth kind ended idle : Bool)
     (same : await ≡ true → mask ≡ inside) where
   write-regroup : (empty : Bool)
-      → ((count && own && await && mask && Bool·beq false idle) && stamps && worth && (kind && ended))
-      ≡ (Bool·beq false idle && kind && (count && true && (own && await && inside && stamps && worth)
+      → ((count && own && await && mask && Bool·beq false idle) && stamps && worth
+      && (kind && ended))
+      ≡ (Bool·beq false idle && kind
+      && (count && true && (own && await && inside && stamps && worth)
       && (empty || not idle) && ended))
   write-regroup empty =
       test-ext _ _
@@ -113,6 +116,15 @@ no-write-test z = tells-write-part z noWrite .1 (range-no-write z)
 module _ (b : List ℕ) (d clients items : ℕ) where
   abbrev z : Sizes
   z = sized clients items
+
+  -- mode, count, set and awaited items
+  pub state-tests : {mode count s awaited : ℕ} {own await : Bool} → mode ≡ at b scalars (modeAt d)
+      → count ≡ at b scalars (countAt d) → s ≡ at b scalars (setAt d)
+      → awaited ≡ at b scalars (awaitedAt d) → own ≡ allBelow s items
+      → await ≡ allBelow awaited items
+      → (ltb mode 3 && ltb count (2 ^ 32) && own && await && eqb (bitAnd awaited s) awaited
+      && Bool·beq (eqb mode 0) (eqb awaited 0)) ≡ stateTest b d items
+  state-tests m n s a p q = rw (p, q, m, n, s, a)
 
   -- the stamps of the transaction under way: of a write, of any other
   pub asked-write : {stamp : ℕ} {ok : Bool} → ok ≡ stampInRange (sized clients 0) stamp

@@ -4,7 +4,7 @@ use mathlib.Core.Bool.{Bool, _&&_, _||_}
 use mathlib.Core.Path.{ap₂}
 use Prim.Native.Nat.{_^_}
 use lib.Dec.{ltb, leb}
-use Rattle.gather.specs.Words.{stampsTest}
+use Rattle.gather.specs.Words.{stampBits, stampsTest}
 use Rattle.gather.proofs.stamps_pass.Statement.{statement}
 use Rattle.gather.proofs.stamps_pass.Tie as tie
 
@@ -18,7 +18,7 @@ returns : tie.Need-returns
 unfolding stampsTest
 returns c =
     let a = c .before .before .args in
-    ap₂ (λ (t u : Bool). ltb (a .stamps) (2 ^ 36) && t && (leb 8 (a .clients) || u))
+    ap₂ (λ (t u : Bool). ltb (a .stamps) (2 ^ stampBits) && t && (leb 8 (a .clients) || u))
     (c .before .lacks .ensures) (c .lacks2 .ensures)
 
 pub stamps-pass-spec : {M : Type 1} → statement M

@@ -33,10 +33,11 @@ words-in-range-requires c κs = search needs
 
 returns : tie.Need-returns
 returns c =
-    let a = c .before .before .before .before .before .before .before .before .before .before .args in
+    let first = c .before .before .before .before .before .before .before .before in
+    let a = first .before .before .args in
     message-words (a .clients) (a .partitions) (a .items) (a .b .now) (a .i)
     (c .words-in-range .ensures)
-    (c .before .before .before .before .before .before .before .before .message-word .ensures)
+    (first .message-word .ensures)
     (c .before .before .before .before .before .before .before .message-word2 .ensures)
     (c .before .before .before .before .before .before .message-word3 .ensures)
     (c .before .before .before .before .before .message-word4 .ensures)
