@@ -9,7 +9,7 @@ use lib.ListN.{length, take}
 use lib.Seq.{take-all, take-take, take-append-le, length-take-le}
 use borrow.Author.Tests.{leb-true, leb-false}
 use Rattle.basics.proofs.Cases.{by-test}
-use Rattle.frames.proofs.Reading.{frameOf-long}
+use Rattle.store_frames.proofs.Reading.{storeFrameOf-long}
 use Rattle.lines.specs.Input.{lastLine, linesFrom, linesOf, repliesTo, joined, keptAfter}
 use Rattle.lines.specs.Input.{byteReply, byteBlock, endReply, inputReply}
 use Rattle.lines.specs.Lines.{lineReply, lineBlock}
@@ -27,8 +27,8 @@ module _ (line : List ℕ) where
       (λ e. ap (lineReply b) (take-all 534 line (leb-true (length line) 534 e)))
       (λ e.
       let h : 534 < length line = leb-false (length line) 534 e in
-      malformed-reply b (take 534 line) (frameOf-long (take 534 line) (cut-length h))
-      ∙ sym (malformed-reply b line (frameOf-long line (omega arith))))
+      malformed-reply b (take 534 line) (storeFrameOf-long (take 534 line) (cut-length h))
+      ∙ sym (malformed-reply b line (storeFrameOf-long line (omega arith))))
 
   kept-block : (b : List ℕ) → lineBlock b (take 534 line) ≡ lineBlock b line
   kept-block b =
@@ -36,8 +36,8 @@ module _ (line : List ℕ) where
       (λ e. ap (lineBlock b) (take-all 534 line (leb-true (length line) 534 e)))
       (λ e.
       let h : 534 < length line = leb-false (length line) 534 e in
-      malformed-block b (take 534 line) (frameOf-long (take 534 line) (cut-length h))
-      ∙ sym (malformed-block b line (frameOf-long line (omega arith))))
+      malformed-block b (take 534 line) (storeFrameOf-long (take 534 line) (cut-length h))
+      ∙ sym (malformed-block b line (storeFrameOf-long line (omega arith))))
 
 joined-kept : (s : List ℕ) (c : ℕ) → joined (take 534 s) c ≡ joined s c
 joined-kept s c =

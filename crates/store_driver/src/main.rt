@@ -1,4 +1,4 @@
-// Reads store frames from standard input, a line each, and prints the line that answers each before it waits for more (document 01: frames).
+// Reads store frames from standard input, a line each, and prints the line that answers each before it waits for more (document 01: store frames).
 // It sees only the promises of `lines`, and the length of a block. The block starts as zeros, on which every well-formed frame but an `01` is refused by 1.
 use libc::STDIN_FILENO;
 use libc::STDOUT_FILENO;
