@@ -1,4 +1,5 @@
--- What the deliveries share, on the tables alone.
+-- Each awaited item keeps its one message when a message is taken out and its reply joins, or when a
+-- reply is taken out and its item struck.
 use mathlib.Core.Bool.{Bool, true, false, cond, _&&_, and-false}
 use mathlib.Core.List.{List, _++_}
 use mathlib.Core.Logic.{_⊎_, ⊎-elim}
