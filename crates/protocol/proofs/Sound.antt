@@ -1,6 +1,6 @@
 -- What holds of the tables alone after every call: document 02's rules for a kept block. There is a
--- ledger, of each stamp its set and values, with which every copy agrees, so that each rule is about
--- one place of the tables.
+-- ledger, of each stamp its set and values, with which every copy agrees, so that each rule is
+-- about one place of the tables.
 pub mod Carry
 pub mod Delivery
 pub mod Distinct
@@ -67,8 +67,8 @@ unfoldable pub distinct : List Version → Bool
 distinct [] = true
 distinct (v ∷ vs) = not (stored vs (v .item) (v .stamp)) && distinct vs
 
--- a write part under way is stamped with its own client and count, its set and values agree, and its
--- items no longer awaited are stored
+-- a write part under way is stamped with its own client and count, its set and values agree, and
+-- its items no longer awaited are stored
 pub record Writes (L : Ledger) (vs : List Version) (d : ℕ) (c : Client) : Type 0 where
   pub newest : c .write .stamp ≡ stampOf (c .count) d
   pub agrees : c .write .set ≡ L .set (c .write .stamp)

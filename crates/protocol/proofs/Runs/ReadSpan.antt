@@ -30,7 +30,8 @@ use Rattle.protocol.proofs.Sound.{Fits, FitsGot}
 use Rattle.protocol.proofs.Sound.Carry.{owner-client}
 use Rattle.protocol.proofs.Sound.Delivery.{awaited-in}
 use Rattle.protocol.proofs.Link.{LandedBefore, FromAnswer, Comes, Inv}
-use Rattle.protocol.proofs.Link.Step.{Grows, grow-known, in-message, fits}
+use Rattle.protocol.proofs.Link.Grows.{Grows, grow-known}
+use Rattle.protocol.proofs.Link.Messages.{in-message, fits}
 use Rattle.protocol.proofs.Link.Asks.{answer-value}
 use Rattle.protocol.proofs.Common.{known, isFor}
 

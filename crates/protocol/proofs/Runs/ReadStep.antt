@@ -25,8 +25,9 @@ use Rattle.protocol.specs.World.{outcomeIn, delivers, endsFor, startsFor
 use Rattle.protocol.proofs.Put.{put-same}
 use Rattle.protocol.proofs.Keeps.{keeps}
 use Rattle.protocol.proofs.Link.{Inv}
-use Rattle.protocol.proofs.Link.Step.{placed-message, fits, moved-grows}
-use Rattle.protocol.proofs.Link.Step.{grows-self}
+use Rattle.protocol.proofs.Link.Messages.{placed-message, fits}
+use Rattle.protocol.proofs.Link.Grows.{moved-grows}
+use Rattle.protocol.proofs.Link.Grows.{grows-self}
 use Rattle.protocol.proofs.Runs.Touch.{refused-outcome, delivered-outcome, no-requests, Way}
 use Rattle.protocol.proofs.Runs.Touch.{quiet, starts, answers, way, answers-owner, got-of}
 use Rattle.protocol.proofs.Runs.ReadSpan.{Answer, Reading, undisturbed, goes-on}

@@ -25,7 +25,8 @@ use Rattle.protocol.specs.World.{rests}
 use Rattle.protocol.proofs.Put.{put-same}
 use Rattle.protocol.proofs.Refusals.{Idle, AcceptedStart, accepted-read}
 use Rattle.protocol.proofs.Link.{Inv}
-use Rattle.protocol.proofs.Link.Step.{next-inv, in-message}
+use Rattle.protocol.proofs.Link.Messages.{in-message}
+use Rattle.protocol.proofs.Link.Step.{next-inv}
 use Rattle.protocol.proofs.Runs.Run.{next-all}
 use Rattle.protocol.proofs.Runs.Touch.{refused-outcome, Way, quiet, starts, answers, way}
 use Rattle.protocol.proofs.Runs.Touch.{no-answer}

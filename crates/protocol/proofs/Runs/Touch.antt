@@ -35,9 +35,10 @@ use Rattle.protocol.proofs.Sound.{Ledger, Fits, SoundBy}
 use Rattle.protocol.proofs.Sound.Delivery.{no-message}
 use Rattle.protocol.proofs.Common.{hasItem}
 use Rattle.protocol.proofs.Link.{Inv}
-use Rattle.protocol.proofs.Link.Step.{placed-message, placed-here, apart-tables}
-use Rattle.protocol.proofs.Link.Step.{apart-origin}
-use Rattle.protocol.proofs.Link.Step.{apart-joining, apart-leaving}
+use Rattle.protocol.proofs.Link.Messages.{placed-message, placed-here}
+use Rattle.protocol.proofs.Link.Apart.{apart-tables}
+use Rattle.protocol.proofs.Link.Apart.{apart-origin}
+use Rattle.protocol.proofs.Link.Apart.{apart-joining, apart-leaving}
 
 -- a prepared reply or a got of client d
 unfoldable pub answersTo : ℕ → Message → Bool

@@ -26,7 +26,8 @@ use Rattle.protocol.specs.World.{outcomeIn, delivers, endsFor, stays, st
 use Rattle.protocol.proofs.Put.{put-same}
 use Rattle.protocol.proofs.Keeps.{keeps}
 use Rattle.protocol.proofs.Link.{Inv}
-use Rattle.protocol.proofs.Link.Step.{placed-message, fits, next-inv}
+use Rattle.protocol.proofs.Link.Messages.{placed-message, fits}
+use Rattle.protocol.proofs.Link.Step.{next-inv}
 use Rattle.protocol.proofs.Runs.Touch.{refused-outcome, delivered-outcome, Way, quiet}
 use Rattle.protocol.proofs.Runs.Touch.{starts, answers, way, answers-owner, prepared-of}
 
