@@ -1,10 +1,8 @@
 -- A call apart makes nothing join or leave, begins and stores nothing.
 use mathlib.Core.List.{[]}
 use mathlib.Core.Path.{_≡_, refl, ap}
-use Rattle.protocol.specs.Calls.{Call, nobody}
-use Rattle.protocol.specs.Calls.{Effects, effect}
-use Rattle.protocol.specs.World.{World}
-use Rattle.protocol.specs.World.{does, withoutAll, joining, leaving, staying, begun}
+use Rattle.protocol.specs.Calls.{Call, nobody, Effects, effect}
+use Rattle.protocol.specs.World.{World, does, withoutAll, joining, leaving, staying, begun}
 use Rattle.protocol.specs.World.{storing}
 use Rattle.protocol.proofs.Sorts.{withViews, Apart}
 

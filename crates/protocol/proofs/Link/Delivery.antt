@@ -8,8 +8,7 @@ use Prim.Native.Nat.{ℕ, suc, _+_, _<_}
 use native.Mathlib.Omega.{arith}
 use Rattle.basics.proofs.Cases.{by-test}
 use Rattle.basics.specs.Lists.{In, without}
-use Rattle.basics.proofs.Lists.{in-left, in-right, in-append, in-map}
-use Rattle.basics.proofs.Lists.{map-without, in-without}
+use Rattle.basics.proofs.Lists.{in-left, in-right, in-append, in-map, map-without, in-without}
 use Rattle.itemset.specs.Set.{upto}
 use Rattle.protocol.specs.declared.Version.{Version}
 use Rattle.protocol.specs.declared.Message.{Message}
@@ -18,11 +17,9 @@ use Rattle.protocol.specs.Tables.{writerOf, ofRead, ofWrite}
 use Rattle.protocol.specs.Message.{isPrepare, itemOf, ownerOf}
 use Rattle.protocol.specs.Range.{Capacities}
 use Rattle.protocol.specs.Steps.{delivered, joined, messageAt, stored, isLast, touches}
-use Rattle.protocol.specs.Calls.{deliver}
-use Rattle.protocol.specs.Calls.{effect}
-use Rattle.protocol.specs.World.{World, Label, Labelled, Store, placed}
-use Rattle.protocol.specs.World.{labelled, withoutAll, joining, staying, begun}
-use Rattle.protocol.specs.World.{storing}
+use Rattle.protocol.specs.Calls.{deliver, effect}
+use Rattle.protocol.specs.World.{World, Label, Labelled, Store, placed, labelled, withoutAll}
+use Rattle.protocol.specs.World.{joining, staying, begun, storing}
 use Rattle.protocol.proofs.Ranges.Values.{IsClient}
 use Rattle.protocol.proofs.Keeps.{delivered-rises}
 use Rattle.protocol.proofs.Sound.{Ledger, Fits}

@@ -7,10 +7,7 @@ use Rattle.basics.proofs.Lists.{in-left}
 use Rattle.protocol.specs.declared.Message.{Message}
 use Rattle.protocol.specs.declared.Message.the-variants.{Prepare, Prepared, Commit, Get, Got}
 use Rattle.protocol.specs.Calls.{Call}
-use Rattle.protocol.specs.World.{World, Label, Write, Store}
-use Rattle.protocol.specs.World.{begun}
-use Rattle.protocol.specs.World.{storing}
-use Rattle.protocol.specs.World.{moved, passed}
+use Rattle.protocol.specs.World.{World, Label, Write, Store, begun, storing, moved, passed}
 use Rattle.protocol.proofs.Sorts.{writes}
 use Rattle.protocol.proofs.Link.{LandedBefore, Landed, Comes}
 use Rattle.protocol.proofs.Common.{known}

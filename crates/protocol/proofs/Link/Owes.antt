@@ -13,12 +13,9 @@ use Rattle.protocol.specs.Tables.{Client, writerOf}
 use Rattle.protocol.specs.Message.{ownerOf}
 use Rattle.protocol.specs.Range.{Capacities}
 use Rattle.protocol.specs.Steps.{stored}
-use Rattle.protocol.specs.Calls.{Call, refusal}
-use Rattle.protocol.specs.Calls.{effect}
-use Rattle.protocol.specs.World.{World, Labelled, Write}
-use Rattle.protocol.specs.World.{labelled, does, joining, staying, begun}
-use Rattle.protocol.specs.World.{storing}
-use Rattle.protocol.specs.World.{moved}
+use Rattle.protocol.specs.Calls.{Call, refusal, effect}
+use Rattle.protocol.specs.World.{World, Labelled, Write, labelled, does, joining, staying}
+use Rattle.protocol.specs.World.{begun, storing, moved}
 use Rattle.protocol.proofs.Sound.{Ledger}
 use Rattle.protocol.proofs.Sound.Step.{sound-accepted, ledgerAfter}
 use Rattle.protocol.proofs.Sound.StartWrite.{entered}

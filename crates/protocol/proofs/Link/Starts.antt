@@ -17,14 +17,11 @@ use Rattle.protocol.specs.declared.Message.the-variants.{Prepare, Get}
 use Rattle.protocol.specs.Tables.{Client, writerOf, put}
 use Rattle.protocol.specs.Message.{ownerOf}
 use Rattle.protocol.specs.Range.{Capacities}
-use Rattle.protocol.specs.Steps.{stored}
-use Rattle.protocol.specs.Steps.{gets, prepares, nextStamp, valueOf, writer, reader}
+use Rattle.protocol.specs.Steps.{stored, gets, prepares, nextStamp, valueOf, writer, reader}
 use Rattle.protocol.specs.Steps.{asks, version}
-use Rattle.protocol.specs.Calls.{Call, startRead, startWrite}
-use Rattle.protocol.specs.Calls.{effect}
-use Rattle.protocol.specs.World.{World, Labelled, Write}
-use Rattle.protocol.specs.World.{labelled, withoutAll, joining, staying, begun}
-use Rattle.protocol.specs.World.{storing}
+use Rattle.protocol.specs.Calls.{Call, startRead, startWrite, effect}
+use Rattle.protocol.specs.World.{World, Labelled, Write, labelled, withoutAll, joining}
+use Rattle.protocol.specs.World.{staying, begun, storing}
 use Rattle.protocol.proofs.Each.{each-upto}
 use Rattle.protocol.proofs.Put.{put-same}
 use Rattle.protocol.proofs.Ranges.Values.{IsClient}

@@ -11,11 +11,8 @@ use Rattle.protocol.specs.Tables.{Sizes}
 use Rattle.protocol.specs.Range.{Capacities, sizesInRange}
 use Rattle.protocol.specs.Steps.{stored}
 use Rattle.protocol.specs.Calls.{Call, refusal}
-use Rattle.protocol.specs.World.{World, Write, begin}
-use Rattle.protocol.specs.World.{accepts}
-use Rattle.protocol.specs.World.{moved, passed, next}
-use Rattle.protocol.proofs.Sorts.{Sort, reads, writes, delivers, apart}
-use Rattle.protocol.proofs.Sorts.{sort}
+use Rattle.protocol.specs.World.{World, Write, begin, accepts, moved, passed, next}
+use Rattle.protocol.proofs.Sorts.{Sort, reads, writes, delivers, apart, sort}
 use Rattle.protocol.proofs.Sound.Step.{blank, sound-fresh}
 use Rattle.protocol.proofs.Sound.StartWrite.{entered}
 use Rattle.protocol.proofs.Link.{Entered, Inv}

@@ -115,7 +115,8 @@ undisturbed d s asked v v′ left more g same none r =
         r .replied,
       );
       answered =
-          λ k e f. subst (λ (c : Client). Answer v′ d k (asked k) (c .read .values k) (left ++ more))
+          λ k e f. subst
+          (λ (c : Client). Answer v′ d k (asked k) (c .read .values k) (left ++ more))
           (sym same)
           (answer-grows v v′ d k (asked k) (v .tables .client d .read .values k) left more g
           (r .answered k e (sym (ap (λ (c : Client). has (c .read .awaited) k) same) ∙ f)));

@@ -19,9 +19,8 @@ use Rattle.protocol.specs.Range.{Capacities}
 use Rattle.protocol.specs.Steps.{reader, gets, asks}
 use Rattle.protocol.specs.Calls.{Call, startRead, refusal, effect}
 use Rattle.protocol.specs.World.{World, Labelled, labelled, placed, joining, leaving, accepts}
-use Rattle.protocol.specs.World.{moved, next, after, joiningOver, leavingOver}
-use Rattle.protocol.specs.World.{isRequest, delivers, endsFor, stays, startsFor}
-use Rattle.protocol.specs.World.{rests}
+use Rattle.protocol.specs.World.{moved, next, after, joiningOver, leavingOver, isRequest}
+use Rattle.protocol.specs.World.{delivers, endsFor, stays, startsFor, rests}
 use Rattle.protocol.proofs.Put.{put-same}
 use Rattle.protocol.proofs.Refusals.{Idle, AcceptedStart, accepted-read}
 use Rattle.protocol.proofs.Link.{Inv}

@@ -19,8 +19,7 @@ use Rattle.protocol.specs.Message.{ownerOf}
 use Rattle.protocol.specs.Range.{Capacities}
 use Rattle.protocol.specs.Steps.{delivered, prepared, struck, seen, isLast, messageAt, writer}
 use Rattle.protocol.specs.Steps.{nextStamp}
-use Rattle.protocol.specs.Calls.{Call, startWrite, deliver, refusal, effect}
-use Rattle.protocol.specs.Calls.{step, outcomeOf}
+use Rattle.protocol.specs.Calls.{Call, startWrite, deliver, refusal, effect, step, outcomeOf}
 use Rattle.protocol.specs.World.{World, placed, accepts, moved, passed, next, after}
 use Rattle.protocol.specs.World.{outcomeIn, delivers, endsFor, stays, startsFor}
 use Rattle.protocol.proofs.Put.{put-same}

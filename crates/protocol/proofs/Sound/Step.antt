@@ -19,8 +19,7 @@ use Rattle.protocol.specs.Tables.{WritePart, awaitedOf, resting, nothing
 use Rattle.protocol.specs.Range.{Capacities, sizesInRange}
 use Rattle.protocol.specs.Steps.{messageAt}
 use Rattle.protocol.specs.Calls.{Call, deliver, refusal, Effects, effects, effect, pick, step}
-use Rattle.protocol.proofs.Refusals.{Expected}
-use Rattle.protocol.proofs.Refusals.{accepted-deliver}
+use Rattle.protocol.proofs.Refusals.{Expected, accepted-deliver}
 use Rattle.protocol.proofs.Sorts.{withViews, Apart, Sort, reads, writes, delivers, apart}
 use Rattle.protocol.proofs.Sorts.{sort}
 use Rattle.protocol.proofs.Keeps.{valid-views, keeps}
