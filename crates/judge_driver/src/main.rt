@@ -1,5 +1,5 @@
 // Reads a log from standard input and prints the judge's verdict as a line of hexadecimal (document 01: frames). It sees only the judge's promise.
-use judge::Verdict;
+use findings::Verdict;
 use libc::STDIN_FILENO;
 use libc::STDOUT_FILENO;
 ghost use mathlib.Core.List.{[], _∷_, _++_};
@@ -8,7 +8,7 @@ ghost use Prim.Native.Nat.{_≤_};
 ghost use lib.ListN.{length, take};
 ghost use Rattle.hex.specs.Number.{bigEndian};
 ghost use Rattle.hex.specs.Text.{hexText};
-ghost use Rattle.judge.specs.Findings.{bytesOf};
+ghost use Rattle.findings.specs.Findings.{bytesOf};
 ghost use Rattle.judge_driver.specs.Input.{GotWithin, FilledWithin};
 
 // What one read of the input gives.

@@ -1,5 +1,5 @@
 -- `judge_log::limits::too_long` meets its contract.
-use Rattle.judge_log.specs.Log.{tooLong}
+use Rattle.log.specs.Log.{tooLong}
 use borrow.Author.Needs.{needs}
 use Rattle.judge_log.proofs.limits.too_long.Statement.{statement}
 use Rattle.judge_log.proofs.limits.too_long.Tie as tie

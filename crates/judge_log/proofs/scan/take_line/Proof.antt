@@ -14,8 +14,8 @@ use Rattle.hex.specs.Line.{lineEnd}
 use Rattle.hex.proofs.Line.{lineEnd-ge}
 use Rattle.hex.specs.Text.{isHex, bytesOf}
 use Rattle.hex.proofs.Text.{length-bytesOf}
-use Rattle.judge_log.specs.Cut.{part, framesIn}
-use Rattle.judge_log.specs.Log.{frameOf, malformed}
+use Rattle.judge_frames.specs.Cut.{part, framesIn}
+use Rattle.log.specs.Log.{frameOf, malformed}
 use Rattle.judge_log.specs.Parsed.{parsed, refused}
 use Rattle.judge_log.proofs.Parsed.{malformed-parsed}
 use Rattle.judge_log.specs.Scan.{Room, Step, lineAt}
