@@ -13,13 +13,12 @@ use borrow.Author.Tests.{eqb-true, eq-eqb, leb-true, leb-false, le-leb}
 use Rattle.basics.proofs.Cases.{by-test, not-both, and-left, and-right, and-both, or-cases, or-left}
 use Rattle.basics.proofs.Cases.{or-right, or-neither, not-true, not-false}
 use Rattle.basics.proofs.Lists.{every-at, at-every}
-use Rattle.itemset.specs.Set.{count}
 use Rattle.log.specs.Some.{some}
 use Rattle.log.proofs.Some.{some-at, at-some}
 use Rattle.log.specs.Log.{linesOf, framesOf, kindOf, clientOf, hasRead, hasWrite, isKind, shown}
 use Rattle.log.specs.Log.{written, numberOf, isClient, isWhole, endOf, entryNumber, entryWriter}
 use Rattle.log.specs.Log.{entriesWhole, readShaped, writeShaped, shaped, reaches, malformed}
-use Rattle.log.specs.Log.{malformedAt, frameOf}
+use Rattle.log.specs.Log.{malformedAt, frameOf, count64}
 use Rattle.log.proofs.Lines.{frame-at, frame-line, frameOf-text, length-frames}
 use Rattle.log.proofs.Parts.{shaped-kind, shaped-client, shaped-size, shaped-read, shaped-write}
 use Rattle.findings.specs.Published.{IsClient, ReadPart, WritePart, LogFrame, WholeStamp}
@@ -78,7 +77,7 @@ module _ (f : List ℕ) where
         items = leb-true 1 (shown f) (and-left (leb 1 (shown f)) _ t);
         entries =
             λ k l. whole-is (entryNumber f k) (entryWriter f k)
-            (every-at (count (shown f)) (λ i. isWhole (entryNumber f i) (entryWriter f i))
+            (every-at (count64 (shown f)) (λ i. isWhole (entryNumber f i) (entryWriter f i))
             (and-right (leb 1 (shown f)) _ t) k l);
       }
 
@@ -86,7 +85,7 @@ module _ (f : List ℕ) where
   unfolding readShaped entriesWhole
   is-read r = part-of (hasRead (kindOf f)) _ (λ h.
       (and-both (leb 1 (shown f)) _ (le-leb 1 (shown f) (r h .items))
-      (at-every (count (shown f)) (λ i. isWhole (entryNumber f i) (entryWriter f i))
+      (at-every (count64 (shown f)) (λ i. isWhole (entryNumber f i) (entryWriter f i))
       (λ k l. is-whole (entryNumber f k) (entryWriter f k) (r h .entries k l)))))
 
   write-is : writeShaped f ≡ true → hasWrite (kindOf f) ≡ true → WritePart f

@@ -11,8 +11,9 @@ use lib.ListN.{length, getD}
 use Rattle.basics.specs.Lists.{counted}
 use Rattle.hex.specs.Bytes.{EachByte}
 use Rattle.hex.specs.Text.{hexText}
-use Rattle.itemset.specs.Set.{has, count}
+use Rattle.itemset.specs.Set.{has}
 use Rattle.log.specs.Log.{linesOf, framesOf, kindOf, clientOf, hasRead, hasWrite, isKind, shown}
+use Rattle.log.specs.Log.{count64}
 use Rattle.log.specs.Log.{entryNumber, entryWriter, shownStamp, shownValue, written, numberOf}
 use Rattle.log.specs.Log.{writtenStamp, writtenValue, endOf}
 use Rattle.findings.specs.declared.Verdict.{Verdict}
@@ -35,7 +36,7 @@ WholeStamp number d = ((number ≡ 0) × (d ≡ 0)) ⊎ ((1 ≤ number) × IsCli
 -- the read part of a frame
 pub record ReadPart (f : List ℕ) : Type 0 where
   pub items : 1 ≤ shown f
-  pub entries : (k : ℕ) → k < count (shown f) → WholeStamp (entryNumber f k) (entryWriter f k)
+  pub entries : (k : ℕ) → k < count64 (shown f) → WholeStamp (entryNumber f k) (entryWriter f k)
 
 -- the write part of a frame
 pub record WritePart (f : List ℕ) : Type 0 where

@@ -3,8 +3,8 @@ ghost use mathlib.Core.Path.{_≡_};
 ghost use Prim.Native.Nat.{_≤_, _<_};
 ghost use lib.ListN.{getD};
 ghost use Rattle.hex.specs.Number.{numberAt};
-ghost use Rattle.itemset.specs.Set.{count, rank};
-ghost use Rattle.log.specs.Log.{kindOf, clientOf, hasRead, hasWrite, shownStamp, shownValue, writeAt, numberOf};
+ghost use Rattle.itemset.specs.Set.{rank};
+ghost use Rattle.log.specs.Log.{kindOf, clientOf, count64, hasRead, hasWrite, shownStamp, shownValue, writeAt, numberOf};
 ghost use Rattle.log.specs.Log.{writtenStamp, writtenValue, endOf, written as writtenItems, shown as shownItems};
 
 pub fn byte(f: &[u8], at: usize) -> u64
@@ -69,7 +69,7 @@ pub fn shown(f: &[u8]) -> u64
 
 // How many items the frame shows.
 pub fn shown_count(f: &[u8]) -> usize
-    ensures { λ r. ⌜ r ≡ count (shownItems (now (f .entry))) ⌝ }
+    ensures { λ r. ⌜ r ≡ count64 (shownItems (now (f .entry))) ⌝ }
     ensures { λ r. ⌜ r ≤ 64 ⌝ }
 {
     itemset::count(shown(f)) as usize
@@ -123,7 +123,7 @@ pub fn written(f: &[u8]) -> u64
 
 // How many items the frame wrote.
 fn written_count(f: &[u8]) -> usize
-    ensures { λ r. ⌜ r ≡ count (writtenItems (now (f .entry))) ⌝ }
+    ensures { λ r. ⌜ r ≡ count64 (writtenItems (now (f .entry))) ⌝ }
     ensures { λ r. ⌜ r ≤ 64 ⌝ }
 {
     itemset::count(written(f)) as usize

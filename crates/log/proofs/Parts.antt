@@ -3,8 +3,8 @@
 use mathlib.Core.Bool.{true, false, not, _&&_, _||_}
 use mathlib.Core.List.{List}
 use mathlib.Core.Logic.{_↔_, _⊎_, inl, inr, ⊎-elim}
-use mathlib.Core.Path.{_≡_}
-use Prim.Native.Nat.{ℕ, _+_, _^_, _≤_, _<_}
+use mathlib.Core.Path.{_≡_, sym}
+use Prim.Native.Nat.{ℕ, zero, suc, _+_, _^_, _≤_, _<_}
 use native.Mathlib.Omega.{arith}
 use lib.Dec.{eqb, leb, ltb}
 use lib.ListN.{length}
@@ -13,10 +13,11 @@ use Rattle.basics.proofs.Cases.{by-test, not-both, and-left, and-right, or-case
 use Rattle.hex.specs.Bytes.{EachByte}
 use Rattle.hex.specs.Number.{numberAt}
 use Rattle.hex.proofs.Number.{numberAt-lt}
-use Rattle.itemset.specs.Set.{has, count}
-use Rattle.itemset.proofs.Counts.{count-le}
+use Rattle.itemset.specs.Set.{has, count, rank}
+use Rattle.itemset.proofs.Counts.{rank-all, rank-zero, rank-suc}
 use Rattle.itemset.proofs.Laws.{has-below, has-empty}
-use Rattle.log.specs.Log.{stampOf, kindOf, clientOf, hasRead, hasWrite, isKind, isClient}
+use Rattle.log.specs.Log.{count64, stampOf, kindOf, clientOf, hasRead, hasWrite, isKind}
+use Rattle.log.specs.Log.{isClient}
 use Rattle.log.specs.Log.{shown, written, numberOf, writeAt, endOf, readShaped, writeShaped}
 use Rattle.log.specs.Log.{shaped}
 
@@ -29,7 +30,26 @@ stamp-order n d m e p q = (
   λ h. ⊎-elim (λ l. omega arith) (λ l. omega (arith, l .0, l .1)) h,
 )
 
+-- at most n members lie below item n
+rank-few : (n s : ℕ) → rank s n ≤ n
+rank-few zero s = omega (arith, rank-zero s)
+rank-few (suc n) s =
+    by-test (has s n)
+    (λ t. omega (arith, rw t at (rank-suc s n), rank-few n s))
+    (λ t. omega (arith, rw t at (rank-suc s n), rank-few n s))
+
 module _ (f : List ℕ) where
+  pub shown-few : count64 (shown f) ≤ 64
+  shown-few = rank-few 64 (shown f)
+
+  pub written-few : count64 (written f) ≤ 64
+  written-few = rank-few 64 (written f)
+
+  pub writeAt-le : writeAt f ≤ 586
+  unfolding writeAt
+  writeAt-le = by-test (hasRead (kindOf f)) (λ t. rw t (omega (arith, shown-few)))
+      (λ t. rw t (omega arith))
+
   module _ (h : EachByte f) where
     pub shown-lt : shown f < 2 ^ 64
     unfolding shown
@@ -49,16 +69,12 @@ module _ (f : List ℕ) where
     pub shown-below : (item : ℕ) → has (shown f) item ≡ true → item < 64
     shown-below item e = has-below (shown f) item 64 shown-lt e
 
-    pub shown-count : count (shown f) ≤ 64
-    shown-count = count-le (shown f) 64 shown-lt
+    -- their counts are those of the sets
+    pub shown-count : count (shown f) ≡ count64 (shown f)
+    shown-count = sym (rank-all (shown f) 64 shown-lt)
 
-    pub written-count : count (written f) ≤ 64
-    written-count = count-le (written f) 64 written-lt
-
-    pub writeAt-le : writeAt f ≤ 586
-    unfolding writeAt
-    writeAt-le = by-test (hasRead (kindOf f)) (λ t. rw t (omega (arith, shown-count)))
-        (λ t. rw t (omega arith))
+    pub written-count : count (written f) ≡ count64 (written f)
+    written-count = sym (rank-all (written f) 64 written-lt)
 
   -- a frame that wrote an item has a write part
   pub written-part : (item : ℕ) → has (written f) item ≡ true → hasWrite (kindOf f) ≡ true

@@ -10,7 +10,7 @@ use Rattle.basics.specs.Lists.{every, counted}
 use Rattle.hex.specs.Line.{lineLength}
 use Rattle.hex.specs.Number.{numberAt}
 use Rattle.hex.specs.Text.{isHex, bytesOf}
-use Rattle.itemset.specs.Set.{count, rank}
+use Rattle.itemset.specs.Set.{rank}
 use Rattle.log.specs.Some.{some, firstFrom}
 
 -- ---- lines
@@ -68,6 +68,10 @@ hasWrite kind = eqb kind 0x20
 abbrev pub isKind : ℕ → Bool
 isKind kind = hasRead kind || hasWrite kind
 
+-- how many of the 64 items a set has
+abbrev pub count64 : ℕ → ℕ
+count64 set = rank set 64
+
 -- ---- the read part: set, then per item number (4), writing client (1), value (4)
 
 -- the items (lines) that a frame shows, each with a stamp of its own; none without a read part
@@ -96,7 +100,7 @@ shownValue f item = numberAt 4 f (entryAt (rank (shown f) item) + 5)
 
 -- where it begins: behind the read part, or behind the client
 unfoldable pub writeAt : List ℕ → ℕ
-writeAt f = cond (hasRead (kindOf f)) (entryAt (count (shown f))) 2
+writeAt f = cond (hasRead (kindOf f)) (entryAt (count64 (shown f))) 2
 
 -- the items that a frame wrote, all of them with the stamp of its number and client; none without
 -- a write part
@@ -119,7 +123,7 @@ writtenValue f item = numberAt 4 f (valueAt f (rank (written f) item))
 
 -- where the frame ends: behind its last part
 unfoldable pub endOf : List ℕ → ℕ
-endOf f = cond (hasWrite (kindOf f)) (valueAt f (count (written f))) (writeAt f)
+endOf f = cond (hasWrite (kindOf f)) (valueAt f (count64 (written f))) (writeAt f)
 
 -- ---- what is well-formed
 
@@ -133,7 +137,7 @@ isWhole number d = (eqb number 0 && eqb d 0) || (leb 1 number && isClient d)
 
 -- the read part, where there is one: a nonempty set, and whole stamps
 unfoldable pub entriesWhole : List ℕ → Bool
-entriesWhole f = every (count (shown f)) (λ i. isWhole (entryNumber f i) (entryWriter f i))
+entriesWhole f = every (count64 (shown f)) (λ i. isWhole (entryNumber f i) (entryWriter f i))
 
 unfoldable pub readShaped : List ℕ → Bool
 readShaped f = not (hasRead (kindOf f)) || (leb 1 (shown f) && entriesWhole f)

@@ -1,6 +1,9 @@
 -- `judge_findings::faults::fractures` meets its contract.
-use mathlib.Core.Path.{sym, _∙_}
+use mathlib.Core.Bool.{_&&_}
+use mathlib.Core.Path.{sym, ap, ap₂, _∙_}
+use Prim.Native.Nat.{ℕ}
 use borrow.Author.Tests.{eq-eqb, ne-eqb}
+use Rattle.itemset.specs.Set.{has}
 use Rattle.log.specs.Log.{writtenStamp}
 use Rattle.findings.specs.Findings.{fractures}
 use borrow.Author.Needs.{needs}
@@ -25,7 +28,11 @@ returns c =
     let a = c .before .before .before .before .before .before .before .args in
     rw (eq-eqb (writtenStamp (a .w .now)) (a .stamp)
     (sym (c .before .before .before .before .written-stamp .ensures)
-    ∙ c .before .before .before .if1 .taken)) (cc)
+    ∙ c .before .before .before .if1 .taken))
+    (ap₂ _&&_
+    (c .before .has .ensures ∙ ap (λ (s : ℕ). has s (a .item))
+    (c .before .before .written .ensures))
+    (c .behind .ensures))
 
 returns-2 : tie.Need-returns-2
 unfolding fractures

@@ -1,6 +1,10 @@
 -- `judge_findings::faults::outdates` meets its contract.
-use mathlib.Core.Path.{sym, _∙_}
+use mathlib.Core.Bool.{_&&_}
+use mathlib.Core.Path.{sym, ap, ap₂, _∙_}
+use Prim.Native.Nat.{ℕ}
+use lib.Dec.{ltb}
 use borrow.Author.Tests.{eq-eqb, ne-eqb}
+use Rattle.itemset.specs.Set.{has}
 use Rattle.log.specs.Log.{clientOf}
 use Rattle.findings.specs.Findings.{outdates}
 use borrow.Author.Needs.{needs}
@@ -26,7 +30,11 @@ returns c =
     let a = c .before .before .before .before .before .before .args in
     rw (eq-eqb (clientOf w) (a .of)
     (sym (c .before .before .before .before .client .ensures .0)
-    ∙ c .before .before .before .if1 .taken)) (cc)
+    ∙ c .before .before .before .if1 .taken))
+    (ap₂ _&&_
+    (c .before .has .ensures ∙ ap (λ (s : ℕ). has s (a .item))
+    (c .before .before .written .ensures))
+    (ap (ltb (a .stamp)) (c .written-stamp .ensures)))
 
 returns-2 : tie.Need-returns-2
 unfolding outdates

@@ -1,6 +1,10 @@
 -- `judge_findings::faults::wrote` meets its contract.
-use mathlib.Core.Path.{sym, _∙_}
+use mathlib.Core.Bool.{_&&_}
+use mathlib.Core.Path.{sym, ap, ap₂, _∙_}
+use Prim.Native.Nat.{ℕ}
+use lib.Dec.{eqb}
 use borrow.Author.Tests.{eq-eqb, ne-eqb}
+use Rattle.itemset.specs.Set.{has}
 use Rattle.log.specs.Log.{writtenStamp}
 use Rattle.findings.specs.Findings.{wrote}
 use borrow.Author.Needs.{needs}
@@ -26,7 +30,11 @@ returns c =
     let a = c .before .before .before .before .before .before .args in
     rw (eq-eqb (writtenStamp w) (a .stamp)
     (sym (c .before .before .before .before .written-stamp .ensures)
-    ∙ c .before .before .before .if1 .taken)) (cc)
+    ∙ c .before .before .before .if1 .taken))
+    (ap₂ _&&_
+    (c .before .has .ensures ∙ ap (λ (s : ℕ). has s (a .item))
+    (c .before .before .written .ensures))
+    (ap (λ (v : ℕ). eqb v (a .value)) (c .written-value .ensures)))
 
 returns-2 : tie.Need-returns-2
 unfolding wrote

@@ -5,7 +5,7 @@ use native.Mathlib.Omega.{arith}
 use Rattle.itemset.specs.Set.{rank}
 use Rattle.itemset.proofs.Counts.{rank-count}
 use Rattle.log.specs.Log.{shown}
-use Rattle.log.proofs.Parts.{shown-count}
+use Rattle.log.proofs.Parts.{shown-count, shown-few}
 use borrow.Author.Needs.{needs}
 use Rattle.judge_frames.proofs.fields.shown_place.Statement.{statement}
 use Rattle.judge_frames.proofs.fields.shown_place.Tie as tie
@@ -27,6 +27,7 @@ returns c =
         e,
         rank-count (shown f) item,
         shown-count f (λ i. c .before .before .shared-slice-known .given i .fits),
+        shown-few f,
       ),
     )
 

@@ -6,7 +6,7 @@ use native.Mathlib.Omega.{arith}
 use Rattle.itemset.specs.Set.{rank}
 use Rattle.itemset.proofs.Counts.{rank-count}
 use Rattle.log.specs.Log.{written}
-use Rattle.log.proofs.Parts.{written-count}
+use Rattle.log.proofs.Parts.{written-count, written-few}
 use borrow.Author.Needs.{needs}
 use Rattle.judge_frames.proofs.fields.written_place.Statement.{statement}
 use Rattle.judge_frames.proofs.fields.written_place.Tie as tie
@@ -28,6 +28,7 @@ returns c =
         e,
         rank-count (written f) item,
         written-count f (λ i. c .before .before .shared-slice-known .given i .fits),
+        written-few f,
       ),
     )
 

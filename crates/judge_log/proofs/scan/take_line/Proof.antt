@@ -88,7 +88,7 @@ module _ (c : tie.After-known-told) where
   hex = sized .0
 
   abbrev stop : ℕ
-  stop = c .before .before .before .before .before .before .before .before .before .before .start .result + size
+  stop = of-store .before .before .before .before .before .start .result + size
 
   end-at : stop ≡ getD (starts of-store) (i of-store) 0 + length frame
   end-at = ap₂ _+_ (begins of-store)
