@@ -122,7 +122,7 @@ frame-bytes log i =
 
 -- ---- a log's lines put together are the log
 
-abbrev together : List (List ℕ) → List ℕ
+abbrev pub together : List (List ℕ) → List ℕ
 together [] = []
 together (line ∷ lines) = line ++ together lines
 
