@@ -5,7 +5,4 @@
 //! The wrappers are inlined, so that a program links the libraries it calls and no others.
 
 pub mod judge;
-#[cfg(feature = "proved_range")]
-pub mod range;
-#[cfg(feature = "proved_store")]
 pub mod store;

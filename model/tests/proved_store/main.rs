@@ -2,4 +2,5 @@
 
 mod damages;
 mod edges;
+mod range;
 mod runs;

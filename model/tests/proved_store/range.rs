@@ -1,20 +1,21 @@
-//! The proved range check held against the model's 'in range' of what the words encode: every field with ten numbers
-//! each, and words at random, more than 300,000 damages in all.
+//! Refusal 1 held against the model's 'in range' of what the words encode: every field with ten numbers each, and
+//! words at random, more than 300,000 damages in all.
 
+use koolvent_model::block::Calls;
 use koolvent_model::layout::Sort as Field;
-use koolvent_model::proved::range;
+use koolvent_model::proved::store::Proved;
 use koolvent_model::random::Random;
 use koolvent_model::runs::Sort;
 use koolvent_model::trials::range::{every_field, lengths, random_words, Judged};
 use koolvent_model::trials::{brimming, Busy, Difference};
 use std::ops::Range;
 
-/// What the proved check says; it says nothing but 0 and 1.
+/// Whether the block is valid: 1 goes before 3, and no block has a client 0.
 fn valid(block: &[u64]) -> bool {
-    match range::valid(block) {
-        0 => false,
-        1 => true,
-        other => panic!("{other} says neither"),
+    match Proved.show(block, 0, &mut []) {
+        1 => false,
+        3 => true,
+        other => panic!("{other:#x} is neither 1 nor 3"),
     }
 }
 
