@@ -14,7 +14,7 @@ pub use fields::{encode, fields, Field};
 pub use places::NEEDED;
 pub use sort::Sort;
 
-use crate::store::stamp::Stamp;
+use crate::stamp::Stamp;
 
 fn stamp_word(stamp: Stamp) -> u64 {
     stamp.number * 16 + stamp.client

@@ -1,18 +1,15 @@
-//! Condition 3, checked of a list of calls from the calls, answers and outputs alone.
+//! Condition 3's promises over several calls, checked of a list of calls from the calls, answers and outputs alone.
 //!
 //! The checker runs a list of labels beside the calls, as the steps say which messages join and leave, and never
-//! sees the store's tables. Each clause of the condition is one function and one `Clause`.
+//! sees the store's tables. Each clause is one function and one `Clause`. That answers, outputs and tables are those of the
+//! steps and the refusal table is for whoever holds the list against the model's store.
 
-mod answers;
 mod checker;
 mod clauses;
-mod event;
 mod history;
-mod refusals;
 mod showings;
 
-pub use event::{Call, Event};
-
+use crate::call::Event;
 use checker::Checker;
 
 /// A clause of condition 3 that an event of the list breaks.
@@ -50,8 +47,6 @@ pub enum Clause {
     AnsweredBeforeStored { item: u64 },
     /// No entry is older than a write of that item which the client had ended before the read's start.
     OwnWriteMissed { item: u64 },
-    /// A call is refused as the refusal table says; 0 is accepted.
-    Refusal { stated: u8, answered: u8 },
 }
 
 /// The first event that breaks a clause, counted from 0, and the clause.
@@ -69,10 +64,6 @@ pub struct Summary {
     pub reads_shown: usize,
     /// Entries shown that were not initial.
     pub written_entries_shown: usize,
-    pub greatest_load: u64,
-    pub items_written: u64,
-    /// How often each refusal was answered.
-    pub refused: [usize; 17],
 }
 
 /// Whether the events keep every clause of condition 3. The first is an accepted fresh; another accepted fresh

@@ -1,8 +1,8 @@
 //! Random tables whose fields are in range, otherwise unlike any that calls leave.
 
 use crate::random::Random;
+use crate::stamp::{Entry, Stamp};
 use crate::store::message::Message;
-use crate::store::stamp::{Entry, Stamp};
 use crate::store::tables::{
     Client, Ended, Sizes, Tables, Version, IDLE, NONE, READ, READING, WRITE, WRITING,
 };

@@ -1,14 +1,11 @@
 //! Random runs: a list of calls from an accepted fresh, refused ones included, with its log.
 
 mod choices;
-mod make;
 
-pub use make::make;
-
+use crate::answer::{Answer, NONE_ENDED};
+use crate::call::{Call, Event};
 use crate::frames::hex::to_hex;
-use crate::promise::{Call, Event};
 use crate::random::Random;
-use crate::store::answer::{Answer, Outcome};
 use crate::store::tables::{Sizes, Tables};
 use crate::store::Store;
 
@@ -34,6 +31,7 @@ pub struct Run {
     /// Each ended transaction, shown right after its end, up to the judge's limits.
     pub log: Vec<u8>,
     pub most_versions: usize,
+    pub greatest_load: u64,
     /// How often each refusal was answered, before the fresh as well.
     pub refused: [usize; 17],
     pub store: Store,
@@ -142,6 +140,7 @@ impl<'a, 'b> Runner<'a, 'b> {
                 events: Vec::new(),
                 log: Vec::new(),
                 most_versions: 0,
+                greatest_load: 0,
                 refused: [0; 17],
                 store: Store::new(),
             },
@@ -181,25 +180,25 @@ impl<'a, 'b> Runner<'a, 'b> {
     /// Makes the call; shows and logs what it ended.
     fn call(&mut self, call: Call) -> Answer {
         let before = self.run.store.tables.clone();
-        let (answer, event) = make(&mut self.run.store, call);
+        let (answer, event) = self.run.store.make(call);
         (self.watch)(&event, &self.run.store.tables);
         if let Answer::Refused(refusal) = answer {
-            self.run.refused[usize::from(refusal)] += 1;
+            self.run.refused[refusal as usize] += 1;
             let after = &self.run.store.tables;
             assert_eq!(*after, before, "refusal {refusal} changed the tables");
         }
         let ended = match (&event.call, &answer) {
-            (_, Answer::Delivered { outcome, .. }) if *outcome == Outcome::NoneEnded => None,
-            (Call::Deliver { place }, Answer::Delivered { .. }) => {
+            (Call::Deliver { place }, Answer::Delivered { outcome, .. })
+                if *outcome != NONE_ENDED =>
+            {
                 Some(before.messages[*place as usize].client())
             }
             _ => None,
         };
         self.run.events.push(event);
-        self.run.most_versions = self
-            .run
-            .most_versions
-            .max(self.run.store.tables.versions.len());
+        let tables = &self.run.store.tables;
+        self.run.most_versions = self.run.most_versions.max(tables.versions.len());
+        self.run.greatest_load = self.run.greatest_load.max(tables.load());
         if let Some(client) = ended {
             self.show_and_log(client);
         }
@@ -209,10 +208,11 @@ impl<'a, 'b> Runner<'a, 'b> {
     fn show_and_log(&mut self, client: u64) {
         let room = 586 + self.random.below(20) as usize;
         let output = self.random.bytes(room);
-        let Answer::Shown(frame) = self.call(Call::Show { client, output }) else {
+        let Answer::Shown { length } = self.call(Call::Show { client, output }) else {
             panic!("a showing after an end was refused");
         };
-        let line = to_hex(&frame) + "\n";
+        let shown = self.run.events.last().expect("the showing");
+        let line = to_hex(&shown.output[..length as usize]) + "\n";
         if self.log_lines < LOG_LINES && self.run.log.len() + line.len() <= LOG_BYTES {
             self.run.log.extend(line.bytes());
             self.log_lines += 1;

@@ -1,14 +1,11 @@
 //! The store on plain tables: five calls, each a check against the refusal table and then a step.
 
-pub mod answer;
 mod calls;
 pub mod fault;
 pub mod message;
 pub mod range;
 mod refusals;
-pub mod set;
 mod shown;
-pub mod stamp;
 mod steps;
 pub mod tables;
 

@@ -1,9 +1,9 @@
 //! Numbers and sets of items in words.
 
-use crate::store::set::items;
+use crate::set::items;
 
 /// So many of a thing.
-pub fn count(number: usize, thing: &str) -> String {
+pub fn count(number: u64, thing: &str) -> String {
     match number {
         1 => format!("1 {thing}"),
         _ => format!("{number} {thing}s"),

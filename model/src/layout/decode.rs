@@ -2,10 +2,10 @@
 
 use super::places::{self, Scalar, NEEDED};
 use super::stamp_of;
+use crate::set::items;
+use crate::stamp::{Entry, Stamp};
 use crate::store::message::Message;
 use crate::store::range::is_usable;
-use crate::store::set::items;
-use crate::store::stamp::{Entry, Stamp};
 use crate::store::tables::{
     Client, Ended, Sizes, Tables, Version, IDLE, LOAD_CAPACITY, NONE, READ, READING,
     VERSION_CAPACITY, WRITE, WRITING,

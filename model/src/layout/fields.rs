@@ -3,9 +3,9 @@
 use super::places::{self, Scalar, NEEDED};
 use super::sort::Sort;
 use super::stamp_word;
+use crate::set::items;
+use crate::stamp::Entry;
 use crate::store::message::Message;
-use crate::store::set::items;
-use crate::store::stamp::Entry;
 use crate::store::tables::{Client, Tables, Version, NONE, READ, WRITE, WRITING};
 
 /// A word of the block that is a field of the tables.
@@ -163,7 +163,7 @@ fn version(to: &mut Visit, place: usize, version: &Version) {
 
 /// The words that the message's kind uses.
 fn message(to: &mut Visit, place: usize, message: &Message) {
-    one(to, place, u64::from(message.kind()), Sort::MessageKind);
+    one(to, place, message.kind(), Sort::MessageKind);
     match *message {
         Message::Prepare(Version {
             item,

@@ -2,6 +2,10 @@
 //!
 //! A message is of the client whose start put it there, or of the same client as the message whose delivery did.
 
+use crate::frames::hex;
+use crate::set::{items, size};
+use crate::stamp::Stamp;
+
 /// The kinds of message, with their numbers.
 #[derive(Clone, Copy, Debug, PartialEq, Eq)]
 pub(super) enum Kind {
@@ -24,9 +28,6 @@ pub(super) struct Label {
     /// Of a got, the event that delivered the get behind it.
     pub(super) answered: usize,
 }
-
-/// A stamp, number first, as pairs are ordered.
-pub(super) type Stamp = (u64, u64);
 
 /// A reply of a read: its item, and the event that delivered the get behind it.
 #[derive(Clone, Copy, Debug)]
@@ -86,33 +87,23 @@ pub(super) struct Transaction {
 /// The list of messages and all transactions so far, with the sizes of the fresh.
 #[derive(Clone, Debug, Default)]
 pub(super) struct History {
-    pub(super) clients: u64,
-    pub(super) partitions: u64,
-    pub(super) items: u64,
+    partitions: u64,
     pub(super) messages: Vec<Label>,
     pub(super) transactions: Vec<Transaction>,
 }
 
-/// The items of a set, ascending.
-pub(super) fn items_of(set: u64) -> Vec<u64> {
-    (0..64).filter(|item| set & (1 << item) != 0).collect()
-}
-
 impl History {
-    pub(super) fn new(clients: u64, partitions: u64, items: u64) -> History {
+    pub(super) fn new(partitions: u64) -> History {
         History {
-            clients,
             partitions,
-            items,
-            messages: Vec::new(),
-            transactions: Vec::new(),
+            ..History::default()
         }
     }
 
     /// An accepted read start: one get per item joins.
     pub(super) fn start_read(&mut self, event: usize, client: u64, set: u64) {
         self.start(event, client, set, Part::Read(Read::default()), Kind::Get);
-        let joined = items_of(set).len();
+        let joined = size(set) as usize;
         for read in self.running_reads_mut(client) {
             read.requests += joined;
         }
@@ -120,13 +111,13 @@ impl History {
 
     /// An accepted write start: one prepare per item joins.
     pub(super) fn start_write(&mut self, event: usize, client: u64, set: u64, values: &[u8]) {
-        let items = items_of(set);
+        let items: Vec<u64> = items(set).collect();
         let values = values
             .chunks_exact(4)
-            .map(|value| u32::from_be_bytes([value[0], value[1], value[2], value[3]]));
+            .map(|value| hex::number(value) as u32);
         let number = 1 + self.writes().filter(|(of, _)| of.client == client).count();
         let write = Write {
-            stamp: (number as u64, client),
+            stamp: Stamp::new(number as u64, client),
             values: items.iter().copied().zip(values).collect(),
             unstored: items.clone(),
             unprepared: items,
@@ -144,7 +135,7 @@ impl History {
             ended: None,
             part,
         });
-        for item in items_of(set) {
+        for item in items(set) {
             self.messages.push(Label {
                 kind,
                 client,
@@ -190,12 +181,9 @@ impl History {
         };
         write.unprepared.retain(|item| *item != label.item);
         if write.unprepared.is_empty() {
-            let written = items_of(of.set);
+            let set = of.set;
             for partition in 0..self.partitions {
-                if written
-                    .iter()
-                    .any(|item| item % self.partitions == partition)
-                {
+                if items(set).any(|item| item % self.partitions == partition) {
                     self.join(label, Kind::Commit, partition, 0);
                 }
             }
@@ -250,19 +238,5 @@ impl History {
             Part::Write(write) => Some((of, write)),
             Part::Read(_) => None,
         })
-    }
-
-    /// Messages, and the prepared replies that have come for writes that are running.
-    pub(super) fn load(&self) -> u64 {
-        let running = self.writes().filter(|(of, _)| of.ended.is_none());
-        let come = running.map(|(of, write)| items_of(of.set).len() - write.unprepared.len());
-        (self.messages.len() + come.sum::<usize>()) as u64
-    }
-
-    /// Items of all accepted writes: each is a prepare in flight or a stored version.
-    pub(super) fn items_written(&self) -> u64 {
-        self.writes()
-            .map(|(_, write)| write.values.len() as u64)
-            .sum()
     }
 }

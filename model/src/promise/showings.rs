@@ -1,19 +1,12 @@
 //! The clauses about what a showing gives after an end and before the client's next start.
 
-use super::answers::Answer;
-use super::event::{Call, Event};
-use super::history::{items_of, History, Part, Read, Stamp, Transaction, Write};
-use super::refusals::frame_length;
+use super::history::{History, Part, Read, Transaction, Write};
 use super::Clause;
-use crate::frames::log::LogFrame;
-
-/// An entry that a read shows.
-#[derive(Clone, Copy, Debug)]
-struct Entry {
-    item: u64,
-    stamp: Stamp,
-    value: u32,
-}
+use crate::answer::Answer;
+use crate::call::{Call, Event};
+use crate::frames::log::{Entry, LogFrame};
+use crate::set::size;
+use crate::stamp::Stamp;
 
 /// Checks a showing; of an accepted one of a read, gives how many entries it shows that are not initial.
 pub(super) fn check(
@@ -23,14 +16,17 @@ pub(super) fn check(
     answer: Answer,
 ) -> Result<Option<usize>, Clause> {
     let Some(last) = history.last_ended(client) else {
-        return Ok(None);
+        return match answer {
+            Answer::Shown { .. } => Err(Clause::Frame),
+            _ => Ok(None),
+        };
     };
     accepted_with_room_enough(last, event, answer)?;
     let Answer::Shown { length } = answer else {
         return Ok(None);
     };
     let frame = event.output.get(..length as usize);
-    let frame = LogFrame::parse(frame.ok_or(Clause::Frame)?).ok_or(Clause::Frame)?;
+    let frame = LogFrame::parse(frame.ok_or(Clause::Frame)?).map_err(|_| Clause::Frame)?;
     match &last.part {
         Part::Write(write) => {
             frame_is_that_of_the_write(last, write, &frame)?;
@@ -77,11 +73,10 @@ fn frame_is_that_of_the_write(
     write: &Write,
     frame: &LogFrame,
 ) -> Result<(), Clause> {
-    let (number, _) = write.stamp;
     let stated = LogFrame::Write {
         client: last.client as u8,
         set: last.set,
-        number: number as u32,
+        number: write.stamp.number as u32,
         values: write.values.iter().map(|(_, value)| *value).collect(),
     };
     if *frame == stated {
@@ -93,20 +88,13 @@ fn frame_is_that_of_the_write(
 
 /// A read is shown with its client and set, and an entry for each item.
 fn entries_of_the_read(last: &Transaction, frame: &LogFrame) -> Result<Vec<Entry>, Clause> {
-    let LogFrame::Read { client, set, shown } = frame else {
+    let LogFrame::Read { client, set, .. } = frame else {
         return Err(Clause::Frame);
     };
     if u64::from(*client) != last.client || *set != last.set {
         return Err(Clause::Frame);
     }
-    let entries = items_of(*set).into_iter().zip(shown);
-    Ok(entries
-        .map(|(item, shown)| Entry {
-            item,
-            stamp: (u64::from(shown.number), u64::from(shown.client)),
-            value: shown.value,
-        })
-        .collect())
+    Ok(frame.shown())
 }
 
 /// An entry is initial, or its write is an accepted write of the list with that stamp, item and value.
@@ -114,7 +102,7 @@ fn put_there_by_a_write<'a>(
     history: &'a History,
     entry: &Entry,
 ) -> Result<Option<&'a Write>, Clause> {
-    if entry.stamp == (0, 0) && entry.value == 0 {
+    if entry.stamp == Stamp::INITIAL && entry.value == 0 {
         return Ok(None);
     }
     let mut writes = history.writes().map(|(_, write)| write);
@@ -169,5 +157,14 @@ fn no_own_write_is_missed(
         Err(Clause::OwnWriteMissed { item: entry.item })
     } else {
         Ok(())
+    }
+}
+
+/// The length of the log frame of a transaction.
+fn frame_length(transaction: &Transaction) -> usize {
+    let items = size(transaction.set) as usize;
+    match transaction.part {
+        Part::Read(_) => 10 + 9 * items,
+        Part::Write(_) => 14 + 4 * items,
     }
 }

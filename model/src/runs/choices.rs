@@ -1,8 +1,8 @@
 //! The next call of a random run.
 
 use super::{Order, Runner, Sort};
-use crate::promise::Call;
-use crate::store::answer::Answer;
+use crate::answer::Answer;
+use crate::call::Call;
 use crate::store::message::Message;
 use crate::store::tables::{IDLE, LOAD_CAPACITY, VERSION_CAPACITY};
 
@@ -89,7 +89,7 @@ impl Runner<'_, '_> {
     pub(super) fn show_again(&mut self) {
         let client = self.random.between(1, self.sizes.clients);
         let frame = match self.run.store.show(client, &mut [0; 600]) {
-            Answer::Shown(frame) => frame.len(),
+            Answer::Shown { length } => length as usize,
             _ => 0,
         };
         let room = self

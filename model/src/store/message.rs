@@ -1,7 +1,7 @@
 //! Messages in flight, of five kinds.
 
-use super::stamp::{Entry, Stamp};
 use super::tables::Version;
+use crate::stamp::{Entry, Stamp};
 
 /// A message in flight.
 #[derive(Clone, Copy, Debug, PartialEq, Eq)]
@@ -30,7 +30,7 @@ pub enum Message {
 
 impl Message {
     /// The number of its kind.
-    pub fn kind(&self) -> u8 {
+    pub fn kind(&self) -> u64 {
         match self {
             Message::Prepare(_) => 1,
             Message::Prepared { .. } => 2,

@@ -1,55 +1,29 @@
 //! What "in range" means of tables, clause by clause.
 
 use super::message::Message;
-use super::set::{has, items, lies_in};
-use super::stamp::{Entry, Stamp};
 use super::tables::{
     Client, Tables, Version, IDLE, LOAD_CAPACITY, NONE, READ, READING, VERSION_CAPACITY, WRITE,
     WRITING,
 };
+use crate::set::{has, items, lies_in};
+use crate::stamp::{Entry, Stamp};
 
 /// The greatest count, stamp number and value.
 pub const GREATEST: u64 = u32::MAX as u64;
 
-/// A clause of "in range".
-#[derive(Clone, Copy, Debug, PartialEq, Eq)]
-pub enum Clause {
-    Sizes,
-    Existence,
-    Modes,
-    CountsAndValues,
-    Sets,
-    Stamps,
-    Versions,
-    PreparedAndCommits,
-    OneStamp,
-    AwaitedInSet,
-    IdleAwaitsNone,
-}
-
-type Holds = fn(&Tables) -> bool;
-
-/// Each clause and what holds of tables that keep it.
-const CLAUSES: [(Clause, Holds); 11] = [
-    (Clause::Sizes, sizes_are_allowed),
-    (Clause::Existence, named_things_exist),
-    (Clause::Modes, modes_and_kinds_are_known),
-    (Clause::CountsAndValues, counts_and_values_fit),
-    (Clause::Sets, sets_hold_existing_items),
-    (Clause::Stamps, stamps_are_initial_or_in_range),
-    (Clause::Versions, versions_are_of_writes_with_their_item),
-    (
-        Clause::PreparedAndCommits,
-        prepared_and_commits_are_of_writes,
-    ),
-    (Clause::OneStamp, writers_have_one_stamp),
-    (Clause::AwaitedInSet, awaited_lie_in_the_set),
-    (Clause::IdleAwaitsNone, idle_exactly_when_none_awaited),
-];
-
 /// Whether every field of the tables is in range.
 pub fn in_range(tables: &Tables) -> bool {
-    CLAUSES.iter().all(|(_, holds)| holds(tables))
+    sizes_are_allowed(tables)
+        && named_things_exist(tables)
+        && modes_and_kinds_are_known(tables)
+        && counts_and_values_fit(tables)
+        && sets_hold_existing_items(tables)
+        && stamps_are_initial_or_in_range(tables)
+        && versions_are_of_writes_with_their_item(tables)
+        && prepared_and_commits_are_of_writes(tables)
+        && writers_have_one_stamp(tables)
+        && awaited_lie_in_the_set(tables)
+        && idle_exactly_when_none_awaited(tables)
 }
 
 /// Whether every field is in range, and the load and the versions are within their capacities.
@@ -57,12 +31,6 @@ pub fn is_usable(tables: &Tables) -> bool {
     in_range(tables)
         && tables.load() <= LOAD_CAPACITY
         && tables.versions_and_prepares() <= VERSION_CAPACITY
-}
-
-/// The clauses that the tables break.
-pub fn broken_clauses(tables: &Tables) -> Vec<Clause> {
-    let broken = CLAUSES.iter().filter(|(_, holds)| !holds(tables));
-    broken.map(|(clause, _)| *clause).collect()
 }
 
 /// The sizes are ones that 2 allows.
@@ -150,9 +118,8 @@ fn stamps_are_initial_or_in_range(tables: &Tables) -> bool {
 
 /// Stored versions and prepares have a later stamp than the initial one and a set with their item.
 fn versions_are_of_writes_with_their_item(tables: &Tables) -> bool {
-    let of_a_write_with_its_item = |version: &Version| {
-        version.stamp.is_later_than(Stamp::INITIAL) && has(version.set, version.item)
-    };
+    let of_a_write_with_its_item =
+        |version: &Version| version.stamp > Stamp::INITIAL && has(version.set, version.item);
     tables.versions.iter().all(of_a_write_with_its_item)
         && tables.messages.iter().all(|message| match message {
             Message::Prepare(version) => of_a_write_with_its_item(version),

@@ -2,24 +2,24 @@
 
 use super::message::Message;
 use super::range::{is_usable, GREATEST};
-use super::set::{has, size};
 use super::shown::shown_frame;
-use super::stamp::Stamp;
 use super::tables::{Sizes, Tables, IDLE, LOAD_CAPACITY, READING, VERSION_CAPACITY, WRITING};
+use crate::set::{has, size};
+use crate::stamp::Stamp;
 
 /// A refusal and whether it applies; later tests may rely on earlier ones not applying.
-type Test<'a> = (u8, &'a dyn Fn() -> bool);
+type Test<'a> = (u64, &'a dyn Fn() -> bool);
 
-fn first(tests: &[Test]) -> Option<u8> {
+fn first(tests: &[Test]) -> Option<u64> {
     let (refusal, _) = tests.iter().find(|(_, applies)| applies())?;
     Some(*refusal)
 }
 
-pub(super) fn fresh(long_enough: bool, sizes: Sizes) -> Option<u8> {
+pub(super) fn fresh(long_enough: bool, sizes: Sizes) -> Option<u64> {
     first(&[(2, &|| !sizes.are_allowed()), (1, &|| !long_enough)])
 }
 
-pub(super) fn start_read(tables: &Tables, client: u64, set: u64) -> Option<u8> {
+pub(super) fn start_read(tables: &Tables, client: u64, set: u64) -> Option<u64> {
     first(&[
         (1, &|| !is_usable(tables)),
         (3, &|| !tables.has_client(client)),
@@ -29,7 +29,7 @@ pub(super) fn start_read(tables: &Tables, client: u64, set: u64) -> Option<u8> {
     ])
 }
 
-pub(super) fn start_write(tables: &Tables, client: u64, set: u64, values: &[u8]) -> Option<u8> {
+pub(super) fn start_write(tables: &Tables, client: u64, set: u64, values: &[u8]) -> Option<u64> {
     first(&[
         (1, &|| !is_usable(tables)),
         (3, &|| !tables.has_client(client)),
@@ -44,7 +44,7 @@ pub(super) fn start_write(tables: &Tables, client: u64, set: u64, values: &[u8])
     ])
 }
 
-pub(super) fn deliver(tables: &Tables, place: u64) -> Option<u8> {
+pub(super) fn deliver(tables: &Tables, place: u64) -> Option<u64> {
     let message = || &tables.messages[place as usize];
     first(&[
         (1, &|| !is_usable(tables)),
@@ -54,7 +54,7 @@ pub(super) fn deliver(tables: &Tables, place: u64) -> Option<u8> {
     ])
 }
 
-pub(super) fn show(tables: &Tables, client: u64, room: usize) -> Option<u8> {
+pub(super) fn show(tables: &Tables, client: u64, room: usize) -> Option<u64> {
     first(&[
         (1, &|| !is_usable(tables)),
         (3, &|| !tables.has_client(client)),

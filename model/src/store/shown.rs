@@ -1,8 +1,8 @@
 //! The log frame of a client's last ended transaction.
 
-use super::set::items;
 use super::tables::{Tables, READ, WRITE};
 use crate::frames::log::{LogFrame, Shown};
+use crate::set::items;
 
 /// The frame that a showing gives for a client of tables in range, if a transaction of it has ended.
 pub(super) fn shown_frame(tables: &Tables, client: u64) -> Option<LogFrame> {

@@ -1,12 +1,12 @@
 //! The steps: what an accepted start or delivery does to the tables, which are in range.
 
-use super::answer::Outcome;
 use super::fault::Fault;
 use super::message::Message;
-use super::set::{has, items, without};
-use super::stamp::{Entry, Stamp};
 use super::tables::{Client, Ended, Version, ITEMS, READ, READING, WRITE, WRITING};
 use super::Store;
+use crate::answer::{NONE_ENDED, READ_ENDED, WRITE_ENDED};
+use crate::set::{has, items, without};
+use crate::stamp::{Entry, Stamp};
 
 impl Store {
     /// One get per item, ascending, for the stamp that the client's view chooses.
@@ -79,10 +79,10 @@ impl Store {
     }
 
     /// Takes the message out and does what its kind says.
-    pub(super) fn step_deliver(&mut self, place: usize) -> Outcome {
+    pub(super) fn step_deliver(&mut self, place: usize) -> u64 {
         let message = self.tables.messages.remove(place);
         if self.has(Fault::NothingAtDelivery) {
-            return Outcome::NoneEnded;
+            return NONE_ENDED;
         }
         match message {
             Message::Prepare(version) => {
@@ -91,7 +91,7 @@ impl Store {
                     item: version.item,
                     stamp: version.stamp,
                 });
-                Outcome::NoneEnded
+                NONE_ENDED
             }
             Message::Prepared { item, stamp } => self.deliver_prepared(item, stamp),
             Message::Commit { partition, stamp } => self.deliver_commit(partition, stamp),
@@ -111,12 +111,12 @@ impl Store {
     }
 
     /// Strikes the item from those awaited; with the last one the write ends.
-    fn deliver_prepared(&mut self, item: u64, stamp: Stamp) -> Outcome {
+    fn deliver_prepared(&mut self, item: u64, stamp: Stamp) -> u64 {
         let client = stamp.client;
         let record = self.tables.client_mut(client);
         record.awaited = without(record.awaited, item);
         if record.awaited != 0 {
-            return Outcome::NoneEnded;
+            return NONE_ENDED;
         }
         let set = record.set;
         let ended = Ended {
@@ -135,7 +135,7 @@ impl Store {
                     .push(Message::Commit { partition, stamp });
             }
         }
-        Outcome::WriteEnded
+        WRITE_ENDED
     }
 
     /// Each written item's view entry becomes the later of itself and this write.
@@ -154,7 +154,7 @@ impl Store {
     }
 
     /// Each item of the partition with a stored version of the stamp takes it as latest if it is later.
-    fn deliver_commit(&mut self, partition: u64, stamp: Stamp) -> Outcome {
+    fn deliver_commit(&mut self, partition: u64, stamp: Stamp) -> u64 {
         for item in 0..self.tables.sizes.items {
             if self.tables.partition_of(item) != partition {
                 continue;
@@ -168,11 +168,11 @@ impl Store {
                 self.tables.latest[item as usize] = entry;
             }
         }
-        Outcome::NoneEnded
+        NONE_ENDED
     }
 
     /// Appends a got with the version of exactly that stamp, and the item's latest.
-    fn deliver_get(&mut self, client: u64, item: u64, stamp: Stamp) -> Outcome {
+    fn deliver_get(&mut self, client: u64, item: u64, stamp: Stamp) -> u64 {
         let mut value = match self.tables.version(item, stamp) {
             Some(version) => version.value,
             None => 0,
@@ -180,7 +180,7 @@ impl Store {
         let mut stamp = stamp;
         if self.has(Fault::NewestVersion) {
             for version in self.tables.versions.iter().filter(|v| v.item == item) {
-                if version.stamp.is_later_than(stamp) {
+                if version.stamp > stamp {
                     (value, stamp) = (version.value, version.stamp);
                 }
             }
@@ -193,22 +193,18 @@ impl Store {
             stamp,
             latest: self.tables.latest[item as usize],
         });
-        Outcome::NoneEnded
+        NONE_ENDED
     }
 
     /// Keeps the version as the item's answer and sees the latest; with the last one the read ends.
-    fn deliver_got(&mut self, client: u64, item: u64, value: u64, latest: Entry) -> Outcome {
+    fn deliver_got(&mut self, client: u64, item: u64, value: u64, latest: Entry) -> u64 {
         self.see(client, item, latest);
         let ends_early = self.has(Fault::EndAtFirstReply);
         let record = self.tables.client_mut(client);
         record.values[item as usize] = value;
         record.awaited = without(record.awaited, item);
         if record.awaited != 0 {
-            return if ends_early {
-                Outcome::ReadEnded
-            } else {
-                Outcome::NoneEnded
-            };
+            return if ends_early { READ_ENDED } else { NONE_ENDED };
         }
         let ended = Ended {
             kind: READ,
@@ -218,7 +214,7 @@ impl Store {
             ..Ended::NONE
         };
         *record = Client::resting(record.count, ended);
-        Outcome::ReadEnded
+        READ_ENDED
     }
 
     /// Whether the stamp is later than the one already there.
@@ -226,6 +222,6 @@ impl Store {
         if self.has(Fault::ClientsBeforeNumbers) {
             return (stamp.client, stamp.number) > (present.client, present.number);
         }
-        stamp.is_later_than(present)
+        stamp > present
     }
 }

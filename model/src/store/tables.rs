@@ -4,8 +4,8 @@
 //! What lies outside the sizes, or outside a client's set, is no field and stays initial.
 
 use super::message::Message;
-use super::set::{self, size};
-use super::stamp::{Entry, Stamp};
+use crate::set::{self, size};
+use crate::stamp::{Entry, Stamp};
 
 /// The most clients a store has.
 pub const CLIENTS: usize = 8;

@@ -1,8 +1,8 @@
 //! Blocks at and just below a capacity.
 
 use super::Busy;
+use crate::stamp::Stamp;
 use crate::store::message::Message;
-use crate::store::stamp::Stamp;
 use crate::store::tables::{Client, Sizes, Tables, Version, WRITING};
 
 const STAMP: Stamp = Stamp {

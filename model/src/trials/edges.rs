@@ -2,11 +2,11 @@
 
 use super::agreement::agree;
 use super::{Busy, Difference, Met};
+use crate::answer::Answer;
 use crate::block::Calls;
+use crate::call::Call;
 use crate::layout::NEEDED;
-use crate::promise::Call;
-use crate::store::answer::Answer;
-use crate::store::set::size;
+use crate::set::size;
 use crate::store::Store;
 
 /// Numbers that are far out of every range.
@@ -164,7 +164,7 @@ fn showings(busy: &Busy) -> Vec<Call> {
     let mut calls = Vec::new();
     for client in clients(busy) {
         let frame = match store.show(client, &mut [0; 600]) {
-            Answer::Shown(frame) => frame.len(),
+            Answer::Shown { length } => length as usize,
             _ => 10,
         };
         for room in [0, 1, frame - 1, frame, frame + 1, frame + 300] {

@@ -1,6 +1,6 @@
 //! What a trial met, so that none passes on nothing.
 
-use crate::promise::Call;
+use crate::call::Call;
 
 /// How often each answer was given.
 #[derive(Clone, Debug, Default, PartialEq, Eq)]

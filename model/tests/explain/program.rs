@@ -41,14 +41,15 @@ fn a_session() {
 fn a_log_with_and_without_its_verdict() {
     let log = file("log", "21020000000000000001000000000000000000\n");
     let line = "log line 1: client 2 shows item 0 initial\n";
-    let output = explain(&["log", &log]);
-    assert_eq!(String::from_utf8_lossy(&output.stdout), line);
-    let output = explain(&["log", &log, &file("verdict", "00000000\n")]);
     let verdict = "verdict: clean: no read of the log is at fault\n";
-    assert_eq!(
-        String::from_utf8_lossy(&output.stdout),
-        format!("{line}{verdict}")
-    );
+    let handed_over = file("verdict", "00000000\n");
+    for words in [&["log", &log][..], &["log", &log, &handed_over]] {
+        let output = explain(words);
+        assert_eq!(
+            String::from_utf8_lossy(&output.stdout),
+            format!("{line}{verdict}")
+        );
+    }
 }
 
 #[test]

@@ -3,8 +3,8 @@
 use koolvent_model::layout::{decode, encode, fields, is_valid, places, Sort, NEEDED};
 use koolvent_model::random::Random;
 use koolvent_model::runs::{run_watched, tables_amid, Sort as Runs};
+use koolvent_model::stamp::{Entry, Stamp};
 use koolvent_model::store::message::Message;
-use koolvent_model::store::stamp::{Entry, Stamp};
 use koolvent_model::store::tables::{
     Client, Ended, Sizes, Tables, Version, READ, READING, WRITE, WRITING,
 };

@@ -3,8 +3,8 @@
 
 use crate::program::agreed;
 use crate::spoil::spoiled;
+use koolvent_model::call::Call;
 use koolvent_model::frames::hex::to_hex;
-use koolvent_model::promise::Call;
 use koolvent_model::random::Random;
 use koolvent_model::runs::{run_watched, Sort};
 

@@ -1,9 +1,9 @@
 //! Document 01's bench examples of the store.
 
 use crate::support::{entry, set_of, tables, tables_with_versions, value_bytes};
-use koolvent_model::store::answer::Answer;
+use koolvent_model::answer::Answer;
+use koolvent_model::stamp::Stamp;
 use koolvent_model::store::message::Message;
-use koolvent_model::store::stamp::Stamp;
 use koolvent_model::store::tables::{Sizes, Tables};
 use koolvent_model::store::Store;
 

@@ -5,10 +5,9 @@ use crate::cases::Case;
 use crate::clock::{steps, steps_prepared, steps_undone, Contender, Rounds};
 use crate::floor;
 use koolvent_model::block::{Calls, Modelled};
+use koolvent_model::call::Call;
 use koolvent_model::layout::{decode, NEEDED};
-use koolvent_model::promise::Call;
 use koolvent_model::proved::store::Proved;
-use koolvent_model::store::tables::Sizes;
 use koolvent_model::store::Store;
 use std::hint::black_box;
 
@@ -64,22 +63,7 @@ fn contenders(case: &Case) -> [Contender<'_>; CONTENDERS] {
 /// Makes the call on the lent block.
 fn make(served: &impl Calls, lent: &mut Lent, call: &Call) -> u64 {
     let block = black_box(&mut lent.block[..]);
-    match call {
-        Call::Fresh {
-            clients,
-            partitions,
-            items,
-            ..
-        } => served.fresh(block, *clients, *partitions, *items),
-        Call::Read { client, set } => served.start_read(block, *client, *set),
-        Call::Write {
-            client,
-            set,
-            values,
-        } => served.start_write(block, *client, *set, values),
-        Call::Deliver { place } => served.deliver(block, *place),
-        Call::Show { client, .. } => served.show(block, *client, black_box(&mut lent.output)),
-    }
+    served.call(block, call, black_box(&mut lent.output))
 }
 
 /// What is timed isn't refused by 1, and gives the same answer, words and output from both.
@@ -117,29 +101,9 @@ fn on_tables(case: &Case) -> Contender<'_> {
         store.tables.versions.reserve(NEEDED);
     };
     let step = |store: &mut Store| {
-        black_box(make_on_tables(black_box(store), &case.call));
+        black_box(black_box(store).call(&case.call, &mut [0; 600]));
     };
     steps_prepared(Store::new(), prepare, step)
-}
-
-fn make_on_tables(store: &mut Store, call: &Call) -> u64 {
-    let answer = match call {
-        Call::Fresh {
-            clients,
-            partitions,
-            items,
-            ..
-        } => store.fresh(true, Sizes::new(*clients, *partitions, *items)),
-        Call::Read { client, set } => store.start_read(*client, *set),
-        Call::Write {
-            client,
-            set,
-            values,
-        } => store.start_write(*client, *set, values),
-        Call::Deliver { place } => store.deliver(*place),
-        Call::Show { client, .. } => store.show(*client, &mut [0; 600]),
-    };
-    answer.number()
 }
 
 fn floor(case: &Case) -> Contender<'_> {

@@ -1,7 +1,7 @@
 //! The calls that are timed, each with the block that it is made on.
 
 use crate::session::{first_items, some_values, Session, COMMIT, GET, GOT, PREPARE, PREPARED};
-use koolvent_model::promise::Call;
+use koolvent_model::call::Call;
 use koolvent_model::store::tables::Sizes;
 
 /// A call on a block that accepts it, or refuses it by 3 after the check of all fields.
@@ -52,7 +52,7 @@ fn write(session: &Session, client: u64) -> Case {
     case("start a write of 4 items", session, call)
 }
 
-fn deliver(name: &'static str, session: &Session, kind: u8, client: u64) -> Case {
+fn deliver(name: &'static str, session: &Session, kind: u64, client: u64) -> Case {
     let place = session.place(kind, client);
     case(name, session, Call::Deliver { place })
 }

@@ -1,10 +1,9 @@
 //! Calls on a damaged block, mostly ones that meet the damage.
 
+use crate::call::Call;
 use crate::layout::places;
-use crate::promise::Call;
 use crate::random::Random;
-use crate::store::message::Message;
-use crate::store::set::size;
+use crate::set::size;
 use crate::store::tables::{Tables, IDLE, READ};
 
 pub(super) struct Chooser<'a> {
@@ -55,7 +54,7 @@ impl Chooser<'_> {
         let any = self.random.below(messages.len() as u64 + 1);
         let client = places::client_at(self.damaged).map(|client| client as u64);
         let of_the_client: Vec<u64> = (0..messages.len() as u64)
-            .filter(|place| client == Some(client_of(&messages[*place as usize])))
+            .filter(|place| client == Some(messages[*place as usize].client()))
             .collect();
         let place = match places::message_at(self.damaged) {
             Some(place) if self.random.percent(70) => place as u64,
@@ -109,14 +108,5 @@ impl Chooser<'_> {
             2 => u64::MAX >> (64 - items),
             _ => 1 << self.random.below(items) | 1 << self.random.below(items),
         }
-    }
-}
-
-/// The client that a message is of.
-fn client_of(message: &Message) -> u64 {
-    match message {
-        Message::Prepare(version) => version.stamp.client,
-        Message::Prepared { stamp, .. } | Message::Commit { stamp, .. } => stamp.client,
-        Message::Get { client, .. } | Message::Got { client, .. } => *client,
     }
 }

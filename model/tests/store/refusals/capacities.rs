@@ -2,8 +2,8 @@
 
 use super::{accepted, refused};
 use crate::support::{tables, tables_with_versions, version};
+use koolvent_model::stamp::Stamp;
 use koolvent_model::store::message::Message;
-use koolvent_model::store::stamp::Stamp;
 use koolvent_model::store::tables::{Client, Sizes, Tables, READING, WRITING};
 
 fn first_items(count: u32) -> u64 {
@@ -87,7 +87,7 @@ fn the_last_prepared_reply_of_a_full_store_is_accepted_and_its_commits_fit() {
     });
     assert_eq!(full.load(), 128);
     let mut store = koolvent_model::store::Store::with_tables(full);
-    assert_eq!(store.deliver(64).bytes(), [0, 2, 0, 64 + 8, 2]);
+    assert_eq!(store.deliver(64).bytes(&[]), [0, 2, 0, 64 + 8, 2]);
     assert_eq!(store.tables.load(), 64 + 8);
 }
 

@@ -2,8 +2,8 @@
 
 use super::{accepted, refused};
 use crate::support::{set_of, tables, version};
+use koolvent_model::stamp::{Entry, Stamp};
 use koolvent_model::store::message::Message;
-use koolvent_model::store::stamp::{Entry, Stamp};
 use koolvent_model::store::tables::{Client, Tables, IDLE, READING, WRITING};
 
 const STAMP: Stamp = Stamp {

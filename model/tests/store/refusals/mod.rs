@@ -5,12 +5,12 @@ mod deliveries;
 mod order;
 mod starts;
 
-use koolvent_model::store::answer::Answer;
+use koolvent_model::answer::Answer;
 use koolvent_model::store::tables::Tables;
 use koolvent_model::store::Store;
 
 /// The call on these tables is refused so and changes nothing.
-fn refused(tables: &Tables, refusal: u8, call: impl FnOnce(&mut Store) -> Answer) {
+fn refused(tables: &Tables, refusal: u64, call: impl FnOnce(&mut Store) -> Answer) {
     let mut store = Store::with_tables(tables.clone());
     assert_eq!(call(&mut store), Answer::Refused(refusal));
     assert_eq!(store.tables, *tables);

@@ -2,8 +2,8 @@
 
 use super::refused;
 use crate::support::tables_with_versions;
+use koolvent_model::stamp::Stamp;
 use koolvent_model::store::message::Message;
-use koolvent_model::store::stamp::Stamp;
 use koolvent_model::store::tables::{Ended, Sizes, Tables, READ, READING};
 
 /// Tables on which every refusal of a start applies to client 1 and the empty set, and to client 9.

@@ -2,7 +2,7 @@
 
 use super::{accepted, refused};
 use crate::support::{set_of, tables, value_bytes};
-use koolvent_model::store::stamp::Stamp;
+use koolvent_model::stamp::Stamp;
 use koolvent_model::store::tables::{Client, Ended, Sizes, Tables, READ, READING, WRITE, WRITING};
 
 const NOBODY: [u64; 5] = [0, 3, 9, 1 << 63, u64::MAX];

@@ -6,9 +6,9 @@ mod starts;
 mod writes;
 
 use crate::support::set_of;
-use koolvent_model::store::answer::Answer;
+use koolvent_model::answer::Answer;
+use koolvent_model::stamp::{Entry, Stamp};
 use koolvent_model::store::message::Message;
-use koolvent_model::store::stamp::{Entry, Stamp};
 use koolvent_model::store::tables::{Client, Tables, WRITING};
 use koolvent_model::store::Store;
 

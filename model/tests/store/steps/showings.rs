@@ -1,8 +1,8 @@
 //! Frames of last ended transactions.
 
 use crate::support::{set_of, tables};
-use koolvent_model::store::answer::Answer;
-use koolvent_model::store::stamp::Stamp;
+use koolvent_model::answer::Answer;
+use koolvent_model::stamp::Stamp;
 use koolvent_model::store::tables::{Ended, READ, WRITE};
 use koolvent_model::store::Store;
 
@@ -12,12 +12,12 @@ fn shown(last: Ended) -> Vec<u8> {
     tables.client_mut(1).count = 9;
     tables.client_mut(1).last = last;
     let mut output = [0xee; 40];
-    let Answer::Shown(frame) = Store::with_tables(tables).show(1, &mut output) else {
+    let Answer::Shown { length } = Store::with_tables(tables).show(1, &mut output) else {
         panic!("not shown");
     };
-    assert_eq!(output[..frame.len()], frame);
-    assert!(output[frame.len()..].iter().all(|byte| *byte == 0xee));
-    frame
+    let (frame, past) = output.split_at(length as usize);
+    assert!(past.iter().all(|byte| *byte == 0xee));
+    frame.to_vec()
 }
 
 #[test]

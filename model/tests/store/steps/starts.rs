@@ -2,9 +2,9 @@
 
 use super::{get, writing};
 use crate::support::{entry, set_of, tables, value_bytes, version};
-use koolvent_model::store::answer::Answer;
+use koolvent_model::answer::Answer;
+use koolvent_model::stamp::Stamp;
 use koolvent_model::store::message::Message;
-use koolvent_model::store::stamp::Stamp;
 use koolvent_model::store::tables::{Client, Ended, Sizes, IDLE, READING, WRITE};
 use koolvent_model::store::Store;
 

@@ -2,9 +2,9 @@
 
 use super::{delivered, get, writing};
 use crate::support::{entry, set_of, tables, version};
-use koolvent_model::store::answer::{Answer, Outcome};
+use koolvent_model::answer::{Answer, WRITE_ENDED};
+use koolvent_model::stamp::{Entry, Stamp};
 use koolvent_model::store::message::Message;
-use koolvent_model::store::stamp::{Entry, Stamp};
 use koolvent_model::store::tables::{Client, Ended, Tables, WRITE};
 use koolvent_model::store::Store;
 
@@ -29,7 +29,7 @@ fn a_prepare_is_stored_last_and_its_reply_joins_at_the_end() {
     ];
     let mut store = Store::with_tables(before);
     let answer = store.deliver(1);
-    assert_eq!(answer.bytes(), [0, 1, 0, 3, 0]);
+    assert_eq!(answer.bytes(&[]), [0, 1, 0, 3, 0]);
     assert_eq!(store.tables, expected);
 }
 
@@ -44,7 +44,7 @@ fn a_prepared_reply_that_is_not_the_last_strikes_its_item_alone() {
         stamp: Stamp::new(1, 1),
     };
     let (answer, after) = delivered(before, prepared);
-    assert_eq!(answer.bytes(), [0, 2, 0, 0, 0]);
+    assert_eq!(answer.bytes(&[]), [0, 2, 0, 0, 0]);
     assert_eq!(after, expected);
 }
 
@@ -96,7 +96,7 @@ fn the_last_prepared_reply_ends_the_write_and_leaves_its_client_no_set() {
     let ended = Answer::Delivered {
         kind: 2,
         messages: 2,
-        outcome: Outcome::WriteEnded,
+        outcome: WRITE_ENDED,
     };
     assert_eq!(answer, ended);
     assert_eq!(after, expected);
@@ -140,7 +140,7 @@ fn a_commit_is_taken_as_latest_by_the_items_of_its_partition_with_that_version()
         stamp,
     };
     let (answer, after) = delivered(before, commit);
-    assert_eq!(answer.bytes(), [0, 3, 0, 0, 0]);
+    assert_eq!(answer.bytes(&[]), [0, 3, 0, 0, 0]);
     assert_eq!(after, expected);
 }
 
@@ -170,6 +170,6 @@ fn a_commit_with_no_version_of_its_stamp_does_nothing() {
         stamp: Stamp::new(9, 2),
     };
     let (answer, after) = delivered(tables(2, 2, 3), commit);
-    assert_eq!(answer.bytes(), [0, 3, 0, 0, 0]);
+    assert_eq!(answer.bytes(&[]), [0, 3, 0, 0, 0]);
     assert_eq!(after, tables(2, 2, 3));
 }

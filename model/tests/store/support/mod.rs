@@ -1,8 +1,7 @@
 //! What the tests share: calls recorded as events, sets and values.
 
-use koolvent_model::promise::{Call, Event};
-use koolvent_model::runs::make;
-use koolvent_model::store::stamp::{Entry, Stamp};
+use koolvent_model::call::{Call, Event};
+use koolvent_model::stamp::{Entry, Stamp};
 use koolvent_model::store::tables::{Sizes, Tables, Version};
 use koolvent_model::store::Store;
 
@@ -10,7 +9,7 @@ use koolvent_model::store::Store;
 pub fn make_all(store: &mut Store, calls: &[Call]) -> Vec<Event> {
     calls
         .iter()
-        .map(|call| make(store, call.clone()).1)
+        .map(|call| store.make(call.clone()).1)
         .collect()
 }
 

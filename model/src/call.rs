@@ -1,4 +1,4 @@
-//! What the checker sees of a call.
+//! The calls.
 
 /// A call and what it was given.
 #[derive(Clone, Debug, PartialEq, Eq)]
@@ -28,6 +28,16 @@ pub enum Call {
         client: u64,
         output: Vec<u8>,
     },
+}
+
+impl Call {
+    /// The output's bytes before the call, none but at a showing.
+    pub fn output(&self) -> Vec<u8> {
+        match self {
+            Call::Show { output, .. } => output.clone(),
+            _ => Vec::new(),
+        }
+    }
 }
 
 /// A call, the number it answered, and the output's bytes after it (none but at a showing).

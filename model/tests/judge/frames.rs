@@ -1,10 +1,8 @@
 //! Hexadecimal lines and log frames, byte for byte.
 
-mod judge_support;
-
-use judge_support::draws;
-use koolvent_model::frames::hex::{from_hex, to_hex};
+use koolvent_model::frames::hex::{from_line, to_hex};
 use koolvent_model::frames::log::{LogFrame, Shown};
+use koolvent_model::random::Random;
 
 const WRITE: &[u8] = &[
     0x20, 0x03, 0x80, 0, 0, 0, 0, 0, 0, 0x02, 0, 0x01, 0x02, 0x03, 0, 0, 0, 0x07, 0xff, 0xfe, 0xfd,
@@ -42,6 +40,11 @@ fn read() -> LogFrame {
     }
 }
 
+/// The bytes of a line without its 0a.
+fn from_hex(digits: &[u8]) -> Option<Vec<u8>> {
+    from_line(&[digits, b"\n"].concat()).ok()
+}
+
 #[test]
 fn hex_of_a_byte_is_two_lowercase_digits() {
     assert_eq!(to_hex(&[]), "");
@@ -55,7 +58,8 @@ fn hex_of_a_byte_is_two_lowercase_digits() {
 
 #[test]
 fn hex_takes_lowercase_digits_alone_and_an_even_number() {
-    assert_eq!(from_hex(b""), Some(vec![]));
+    assert_eq!(from_hex(b""), None);
+    assert!(from_line(b"00").is_err(), "no line end");
     assert_eq!(from_hex(b"0"), None);
     assert_eq!(from_hex(b"000"), None);
     assert_eq!(from_hex(b"12ef"), Some(vec![0x12, 0xef]));
@@ -74,18 +78,18 @@ fn frames_have_the_bytes_of_the_paper() {
         write().line(),
         "200380000000000000020001020300000007fffefdfc\n"
     );
-    assert_eq!(LogFrame::parse(WRITE), Some(write()));
-    assert_eq!(LogFrame::parse(READ), Some(read()));
+    assert_eq!(LogFrame::parse(WRITE), Ok(write()));
+    assert_eq!(LogFrame::parse(READ), Ok(read()));
 }
 
 #[test]
 fn every_truncation_and_extension_of_a_frame_is_refused() {
     for frame in [WRITE, READ] {
         for length in 0..frame.len() {
-            assert_eq!(LogFrame::parse(&frame[..length]), None);
+            assert!(LogFrame::parse(&frame[..length]).is_err());
         }
         for more in 1..=64 {
-            assert_eq!(LogFrame::parse(&[frame, &vec![0; more]].concat()), None);
+            assert!(LogFrame::parse(&[frame, &vec![0; more]].concat()).is_err());
         }
     }
 }
@@ -94,7 +98,7 @@ fn every_truncation_and_extension_of_a_frame_is_refused() {
 fn other_kinds_are_refused() {
     for kind in (0..0x20).chain(0x22..=0xff) {
         for frame in [WRITE, READ] {
-            assert_eq!(LogFrame::parse(&[&[kind], &frame[1..]].concat()), None);
+            assert!(LogFrame::parse(&[&[kind], &frame[1..]].concat()).is_err());
         }
     }
 }
@@ -123,20 +127,21 @@ fn parsing_leaves_clients_sets_and_numbers_to_the_judge() {
     let lengths = [14, 270, 10];
     for (frame, length) in frames.into_iter().zip(lengths) {
         assert_eq!(frame.bytes().len(), length);
-        assert_eq!(LogFrame::parse(&frame.bytes()), Some(frame));
+        assert_eq!(LogFrame::parse(&frame.bytes()), Ok(frame));
     }
 }
 
 #[test]
 fn random_bytes_are_no_frame_or_the_bytes_of_their_frame() {
-    let mut below = draws(1);
+    let mut random = Random::new(1);
+    let mut below = |bound| random.below(bound);
     let mut parsed = 0;
     for _ in 0..20_000 {
         let mut bytes = vec![0x20 + below(2) as u8, below(256) as u8];
         let set = below(4) << (below(3) * 31);
         bytes.extend(set.to_be_bytes());
         bytes.extend((0..below(30)).map(|_| below(256) as u8));
-        if let Some(frame) = LogFrame::parse(&bytes) {
+        if let Ok(frame) = LogFrame::parse(&bytes) {
             assert_eq!(frame.bytes(), bytes);
             parsed += 1;
         }

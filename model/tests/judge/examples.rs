@@ -1,18 +1,13 @@
-//! Both judges on the logs whose verdicts were worked out by hand.
+//! The judge on the logs whose verdicts were worked out by hand.
 
 use koolvent_model::judge::examples::{self, Example};
-use koolvent_model::judge::{by_item, judge, Verdict};
+use koolvent_model::judge::{judge, Verdict};
 use std::collections::BTreeSet;
 
 fn assert_verdicts(examples: Vec<Example>) {
     assert!(!examples.is_empty());
     for Example { name, log, verdict } in examples {
-        assert_eq!(judge(&log).text(), verdict, "first judge: {name}");
-        assert_eq!(
-            by_item::judge(&log).text(),
-            verdict,
-            "judge by item: {name}"
-        );
+        assert_eq!(judge(&log).text(), verdict, "{name}");
     }
 }
 
