@@ -163,48 +163,21 @@ fn version(to: &mut Visit, place: usize, version: &Version) {
 
 /// The words that the message's kind uses.
 fn message(to: &mut Visit, place: usize, message: &Message) {
-    one(to, place, message.kind(), Sort::MessageKind);
-    match *message {
-        Message::Prepare(Version {
-            item,
-            value,
-            stamp,
-            set,
-        }) => {
-            one(to, place + 2, item, Sort::Item);
-            one(to, place + 3, value, Sort::Value);
-            one(to, place + 4, stamp_word(stamp), Sort::Stamp);
-            one(to, place + 5, set, Sort::Set);
+    let parts = message.parts();
+    one(to, place, parts.kind, Sort::MessageKind);
+    for (word, part, sort) in [
+        (1, parts.client, Sort::Client),
+        (1, parts.partition, Sort::Partition),
+        (2, parts.item, Sort::Item),
+        (3, parts.value, Sort::Value),
+        (4, Some(stamp_word(parts.stamp)), Sort::Stamp),
+        (5, parts.set, Sort::Set),
+    ] {
+        if let Some(part) = part {
+            one(to, place + word, part, sort);
         }
-        Message::Prepared { item, stamp } => {
-            one(to, place + 2, item, Sort::Item);
-            one(to, place + 4, stamp_word(stamp), Sort::Stamp);
-        }
-        Message::Commit { partition, stamp } => {
-            one(to, place + 1, partition, Sort::Partition);
-            one(to, place + 4, stamp_word(stamp), Sort::Stamp);
-        }
-        Message::Get {
-            client,
-            item,
-            stamp,
-        } => {
-            one(to, place + 1, client, Sort::Client);
-            one(to, place + 2, item, Sort::Item);
-            one(to, place + 4, stamp_word(stamp), Sort::Stamp);
-        }
-        Message::Got {
-            client,
-            item,
-            value,
-            stamp,
-            latest,
-        } => {
-            one(to, place + 1, client, Sort::Client);
-            one(to, place + 2, item, Sort::Item);
-            one(to, place + 3, value, Sort::Value);
-            one(to, place + 4, stamp_word(stamp), Sort::Stamp);
-            entry(to, place + 6, &latest);
-        }
+    }
+    if let Some(latest) = parts.latest {
+        entry(to, place + 6, &latest);
     }
 }

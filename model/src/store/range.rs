@@ -1,6 +1,6 @@
 //! What "in range" means of tables, clause by clause.
 
-use super::message::Message;
+use super::message::{Message, Parts};
 use super::tables::{
     Client, Tables, Version, IDLE, LOAD_CAPACITY, NONE, READ, READING, VERSION_CAPACITY, WRITE,
     WRITING,
@@ -41,18 +41,14 @@ fn sizes_are_allowed(tables: &Tables) -> bool {
 /// Clients, items and partitions exist.
 fn named_things_exist(tables: &Tables) -> bool {
     let item_exists = |item: u64| item < tables.sizes.items;
-    tables
-        .versions
-        .iter()
-        .all(|version| item_exists(version.item))
-        && tables.messages.iter().all(|message| match *message {
-            Message::Prepare(Version { item, .. }) | Message::Prepared { item, .. } => {
-                item_exists(item)
-            }
-            Message::Commit { partition, .. } => partition < tables.sizes.partitions,
-            Message::Get { client, item, .. } | Message::Got { client, item, .. } => {
-                tables.has_client(client) && item_exists(item)
-            }
+    let mut versions = tables.versions.iter();
+    versions.all(|version| item_exists(version.item))
+        && parts(tables).all(|parts| {
+            parts.client.is_none_or(|client| tables.has_client(client))
+                && parts.item.is_none_or(item_exists)
+                && parts
+                    .partition
+                    .is_none_or(|partition| partition < tables.sizes.partitions)
         })
 }
 
@@ -73,10 +69,7 @@ fn counts_and_values_fit(tables: &Tables) -> bool {
             && (client.last.kind == NONE
                 || items(client.last.set).all(|item| fits(client.last.values[item as usize])))
     }) && tables.versions.iter().all(|version| fits(version.value))
-        && tables.messages.iter().all(|message| match *message {
-            Message::Prepare(Version { value, .. }) | Message::Got { value, .. } => fits(value),
-            Message::Prepared { .. } | Message::Commit { .. } | Message::Get { .. } => true,
-        })
+        && parts(tables).all(|parts| parts.value.is_none_or(fits))
 }
 
 /// Sets hold only existing items.
@@ -89,10 +82,8 @@ fn sets_hold_existing_items(tables: &Tables) -> bool {
                 && (client.last.kind == NONE || exist(client.last.set))
         })
         && tables.versions.iter().all(|version| exist(version.set))
-        && tables.messages.iter().all(|message| match *message {
-            Message::Prepare(Version { set, .. }) => exist(set),
-            Message::Got { latest, .. } => exist(latest.set),
-            Message::Prepared { .. } | Message::Commit { .. } | Message::Get { .. } => true,
+        && parts(tables).all(|parts| {
+            parts.set.is_none_or(exist) && parts.latest.is_none_or(|latest| exist(latest.set))
         })
 }
 
@@ -107,12 +98,8 @@ fn stamps_are_initial_or_in_range(tables: &Tables) -> bool {
             running_stamps(client).all(known) && last_stamps(client).into_iter().all(known)
         })
         && tables.versions.iter().all(|version| known(version.stamp))
-        && tables.messages.iter().all(|message| match *message {
-            Message::Prepare(Version { stamp, .. })
-            | Message::Prepared { stamp, .. }
-            | Message::Commit { stamp, .. }
-            | Message::Get { stamp, .. } => known(stamp),
-            Message::Got { stamp, latest, .. } => known(stamp) && known(latest.stamp),
+        && parts(tables).all(|parts| {
+            known(parts.stamp) && parts.latest.is_none_or(|latest| known(latest.stamp))
         })
 }
 
@@ -158,6 +145,11 @@ fn idle_exactly_when_none_awaited(tables: &Tables) -> bool {
     tables
         .existing_clients()
         .all(|client| (client.mode == IDLE) == (client.awaited == 0))
+}
+
+/// The parts of the messages in flight.
+fn parts(tables: &Tables) -> impl Iterator<Item = Parts> + '_ {
+    tables.messages.iter().map(Message::parts)
 }
 
 /// Latest and view entries of the items and clients that exist.

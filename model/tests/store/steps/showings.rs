@@ -1,18 +1,17 @@
 //! Frames of last ended transactions.
 
-use crate::support::{set_of, tables};
+use crate::support::{made, set_of, show, tables};
 use koolvent_model::answer::Answer;
 use koolvent_model::stamp::Stamp;
 use koolvent_model::store::tables::{Ended, READ, WRITE};
-use koolvent_model::store::Store;
 
 /// The frame shown for a last ended transaction of client 1, whose count is 9.
 fn shown(last: Ended) -> Vec<u8> {
     let mut tables = tables(2, 2, 3);
     tables.client_mut(1).count = 9;
     tables.client_mut(1).last = last;
-    let mut output = [0xee; 40];
-    let Answer::Shown { length } = Store::with_tables(tables).show(1, &mut output) else {
+    let (answer, _, output) = made(&tables, show(1));
+    let Answer::Shown { length } = answer else {
         panic!("not shown");
     };
     let (frame, past) = output.split_at(length as usize);

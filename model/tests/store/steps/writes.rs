@@ -1,12 +1,11 @@
 //! Deliveries of prepares, prepared replies and commits.
 
 use super::{delivered, get, writing};
-use crate::support::{entry, set_of, tables, version};
+use crate::support::{deliver, entry, made, set_of, tables, version};
 use koolvent_model::answer::{Answer, WRITE_ENDED};
 use koolvent_model::stamp::{Entry, Stamp};
 use koolvent_model::store::message::Message;
 use koolvent_model::store::tables::{Client, Ended, Tables, WRITE};
-use koolvent_model::store::Store;
 
 #[test]
 fn a_prepare_is_stored_last_and_its_reply_joins_at_the_end() {
@@ -27,10 +26,9 @@ fn a_prepare_is_stored_last_and_its_reply_joins_at_the_end() {
         get(2, 1, Stamp::INITIAL),
         Message::Prepared { item: 0, stamp },
     ];
-    let mut store = Store::with_tables(before);
-    let answer = store.deliver(1);
+    let (answer, after, _) = made(&before, deliver(1));
     assert_eq!(answer.bytes(&[]), [0, 1, 0, 3, 0]);
-    assert_eq!(store.tables, expected);
+    assert_eq!(after, expected);
 }
 
 #[test]

@@ -1,9 +1,44 @@
 //! What the tests share: calls recorded as events, sets and values.
 
+use koolvent_model::answer::Answer;
 use koolvent_model::call::{Call, Event};
 use koolvent_model::stamp::{Entry, Stamp};
 use koolvent_model::store::tables::{Sizes, Tables, Version};
 use koolvent_model::store::Store;
+
+/// The answer to a call on these tables, the tables after it, and its output. Where the proved library is at hand, it
+/// gives the same on the block of these tables.
+pub fn made(before: &Tables, call: Call) -> (Answer, Tables, Vec<u8>) {
+    let mut store = Store::with_tables(before.clone());
+    let (answer, event) = store.make(call);
+    #[cfg(feature = "proved")]
+    proved::assert_alike(before, &event, &store.tables);
+    (answer, store.tables, event.output)
+}
+
+#[cfg(feature = "proved")]
+mod proved {
+    use koolvent_model::block;
+    use koolvent_model::call::Event;
+    use koolvent_model::layout::{decode, encode};
+    use koolvent_model::proved::store::Proved;
+    use koolvent_model::store::tables::{Tables, LOAD_CAPACITY, VERSION_CAPACITY};
+
+    /// There is a block of these tables.
+    fn fit(tables: &Tables) -> bool {
+        tables.sizes.are_allowed()
+            && tables.versions.len() as u64 <= VERSION_CAPACITY
+            && tables.messages.len() as u64 <= LOAD_CAPACITY
+    }
+
+    pub fn assert_alike(before: &Tables, event: &Event, after: &Tables) {
+        if fit(before) {
+            let mut words = encode(before);
+            assert_eq!(block::make(&Proved, &mut words, &event.call), *event);
+            assert_eq!(decode(&words), decode(&encode(after)));
+        }
+    }
+}
 
 /// Makes the calls one after another.
 pub fn make_all(store: &mut Store, calls: &[Call]) -> Vec<Event> {
@@ -14,11 +49,16 @@ pub fn make_all(store: &mut Store, calls: &[Call]) -> Vec<Event> {
 }
 
 pub fn fresh(clients: u64, partitions: u64, items: u64) -> Call {
+    fresh_on(true, Sizes::new(clients, partitions, items))
+}
+
+/// A fresh on a block that is long enough or not.
+pub fn fresh_on(long_enough: bool, sizes: Sizes) -> Call {
     Call::Fresh {
-        long_enough: true,
-        clients,
-        partitions,
-        items,
+        long_enough,
+        clients: sizes.clients,
+        partitions: sizes.partitions,
+        items: sizes.items,
     }
 }
 
@@ -45,9 +85,24 @@ pub fn deliver(place: u64) -> Call {
 
 /// A showing with room enough for any frame.
 pub fn show(client: u64) -> Call {
-    Call::Show {
+    show_in(client, &[0xee; 600])
+}
+
+pub fn show_in(client: u64, output: &[u8]) -> Call {
+    let output = output.to_vec();
+    Call::Show { client, output }
+}
+
+pub fn start_read(client: u64, set: u64) -> Call {
+    Call::Read { client, set }
+}
+
+pub fn start_write(client: u64, set: u64, values: &[u8]) -> Call {
+    let values = values.to_vec();
+    Call::Write {
         client,
-        output: vec![0xee; 600],
+        set,
+        values,
     }
 }
 
