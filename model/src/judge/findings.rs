@@ -13,18 +13,20 @@ pub const FINDINGS: [(u8, Finding); 3] = [(1, unwritten), (2, fractured), (3, ow
 /// or the initial stamp with a value not 0.
 pub fn unwritten(log: &[LogFrame], place: usize) -> Option<String> {
     log[place].shown().iter().find_map(|entry| {
-        let (source, value) = (source(entry), entry.value);
+        let value = entry.value;
         if entry.stamp == Stamp::INITIAL {
-            return (value != 0).then(|| format!("{source} with value {value}, not 0"));
+            return (value != 0).then(|| format!("{} with value {value}, not 0", source(entry)));
         }
+        if log.iter().any(|write| write.written().contains(entry)) {
+            return None;
+        }
+        let source = source(entry);
         let written = log.iter().flat_map(LogFrame::written);
         let of_stamp: Vec<Entry> = written.filter(|wrote| wrote.stamp == entry.stamp).collect();
-        let mut of_item = of_stamp.iter().filter(|wrote| wrote.item == entry.item);
-        if of_item.clone().any(|wrote| wrote.value == value) {
-            None
-        } else if of_stamp.is_empty() {
+        let of_item = of_stamp.iter().find(|wrote| wrote.item == entry.item);
+        if of_stamp.is_empty() {
             Some(format!("{source}, a write that the log doesn't have"))
-        } else if let Some(wrote) = of_item.next() {
+        } else if let Some(wrote) = of_item {
             let other = wrote.value;
             Some(format!(
                 "{source} with value {value}, which wrote {other} there"

@@ -2,7 +2,7 @@
 
 use crate::block::Lent;
 use crate::cases::Case;
-use crate::clock::{steps, steps_prepared, steps_undone, Contender, Rounds};
+use crate::clock::{steps, steps_prepared, steps_undone, Contender, Figure, Rounds};
 use crate::floor;
 use koolvent_model::block::{Calls, Modelled};
 use koolvent_model::call::Call;
@@ -11,21 +11,21 @@ use koolvent_model::proved::store::Proved;
 use koolvent_model::store::Store;
 use std::hint::black_box;
 
-const ROUNDS: usize = 151;
+const ROUNDS: usize = 301;
 
 /// Nanoseconds of one call, and the store's time as a multiple of each other's.
 pub struct Row {
     pub name: &'static str,
-    pub store: f64,
+    pub store: Figure,
     /// The model on the block: it decodes the words, checks, makes the step, and encodes.
-    pub model: f64,
+    pub model: Figure,
     /// The model on tables that it has already: it checks and makes the step.
-    pub tables: f64,
+    pub tables: Figure,
     /// One plain pass over the words in use; at a fresh start one plain filling of the needed words.
-    pub floor: f64,
-    pub models: f64,
-    pub models_on_tables: f64,
-    pub floors: f64,
+    pub floor: Figure,
+    pub models: Figure,
+    pub models_on_tables: Figure,
+    pub floors: Figure,
 }
 
 const CONTENDERS: usize = 4;
@@ -39,10 +39,10 @@ pub fn rows(cases: &[Case]) -> Vec<Row> {
         let [store, model, tables, floor] = [0, 1, 2, 3].map(|other| CONTENDERS * place + other);
         Row {
             name: case.name,
-            store: rounds.median(store),
-            model: rounds.median(model),
-            tables: rounds.median(tables),
-            floor: rounds.median(floor),
+            store: rounds.time(store),
+            model: rounds.time(model),
+            tables: rounds.time(tables),
+            floor: rounds.time(floor),
             models: rounds.ratio(store, model),
             models_on_tables: rounds.ratio(store, tables),
             floors: rounds.ratio(store, floor),

@@ -39,8 +39,11 @@ pub fn read(name: &'static str, session: &Session, client: u64, set: u64) -> Cas
 }
 
 /// The check of all fields, and next to nothing else: a read of a client that doesn't exist.
-fn check(session: &Session) -> Case {
-    read("the check alone (refusal 3)", session, 9, SHEET)
+pub const CHECK: &str = "the check alone (refusal 3)";
+pub const CHECK_OF_A_FRESH_SHEET: &str = "the check alone, on a fresh sheet";
+
+fn check(name: &'static str, session: &Session) -> Case {
+    read(name, session, 9, SHEET)
 }
 
 fn write(session: &Session, client: u64) -> Case {
@@ -65,7 +68,11 @@ fn show(name: &'static str, session: &Session, client: u64) -> Case {
 /// Two clients, two partitions, four items: each call where the session of a write and a read of all items makes it.
 pub fn small() -> Vec<Case> {
     let mut session = Session::fresh(2, 2, 4);
-    let mut cases = vec![fresh(&session), write(&session, 1)];
+    let mut cases = vec![
+        fresh(&session),
+        check(CHECK_OF_A_FRESH_SHEET, &session),
+        write(&session, 1),
+    ];
     session.start_write(1, SHEET);
     cases.push(deliver("deliver a prepare", &session, PREPARE, 1));
     session.deliver(PREPARE, 1, 4);
@@ -84,7 +91,7 @@ pub fn small() -> Vec<Case> {
     cases.push(deliver("deliver the last got", &session, GOT, 2));
     session.deliver(GOT, 2, 1);
     cases.push(show("show a read of 4 items", &session, 2));
-    cases.push(check(&session));
+    cases.push(check(CHECK, &session));
     cases
 }
 
@@ -105,7 +112,7 @@ pub fn busy() -> Vec<Case> {
         deliver("deliver a got", &session, GOT, 7),
         deliver("deliver the last got", &session, GOT, 8),
         show("show a read of 64 items", &session, 1),
-        check(&session),
+        check(CHECK, &session),
     ]
 }
 

@@ -1,6 +1,6 @@
 //! The judge beside the model's judge: the slowest log that is found, and logs of growing size.
 
-use crate::clock::{quickest, steps, Contender, Rounds};
+use crate::clock::{quickest, steps, Contender, Figure, Rounds};
 use koolvent_model::frames::log::{LogFrame, Shown};
 use koolvent_model::judge::{judge, Verdict};
 use koolvent_model::proved;
@@ -23,10 +23,10 @@ pub struct Shape {
 pub struct Row {
     pub shape: Shape,
     pub bytes: usize,
-    pub judge: f64,
-    pub model: f64,
+    pub judge: Figure,
+    pub model: Figure,
     /// The judge's time as a multiple of the model's.
-    pub models: f64,
+    pub models: Figure,
 }
 
 /// The set of `width` items from `from` on, around the 64.
@@ -104,8 +104,8 @@ fn rows(logs: &[Log]) -> Vec<Row> {
     let row = |(place, log): (usize, &Log)| Row {
         shape: log.shape,
         bytes: log.text.len(),
-        judge: rounds.median(2 * place),
-        model: rounds.median(2 * place + 1),
+        judge: rounds.time(2 * place),
+        model: rounds.time(2 * place + 1),
         models: rounds.ratio(2 * place, 2 * place + 1),
     };
     logs.iter().enumerate().map(row).collect()

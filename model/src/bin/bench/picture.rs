@@ -41,10 +41,10 @@ fn of_calls(title: &str, label: &str, points: &[Point]) -> Panel {
         title: title.to_owned(),
         label: label.to_owned(),
         curves: vec![
-            curve(FLOOR, along(|point| point.row.floor)),
-            curve(TABLES, along(|point| point.row.tables)),
-            curve(MODEL, along(|point| point.row.model)),
-            curve(STORE, along(|point| point.row.store)),
+            curve(FLOOR, along(|point| point.row.floor.quickest)),
+            curve(TABLES, along(|point| point.row.tables.quickest)),
+            curve(MODEL, along(|point| point.row.model.quickest)),
+            curve(STORE, along(|point| point.row.store.quickest)),
         ],
     }
 }
@@ -54,15 +54,19 @@ fn of_sheets(measured: &Measured) -> Panel {
     let versions = |row: &crate::sheet::Row| row.versions as f64;
     let sqlite = rows
         .iter()
-        .filter_map(|row| Some((versions(row), row.sqlite?.time)));
+        .filter_map(|row| Some((versions(row), row.sqlite?.time.quickest)));
     let mut curves = vec![
         curve(
             MODEL,
-            rows.iter().map(|row| (versions(row), row.model)).collect(),
+            rows.iter()
+                .map(|row| (versions(row), row.model.quickest))
+                .collect(),
         ),
         curve(
             STORE,
-            rows.iter().map(|row| (versions(row), row.store)).collect(),
+            rows.iter()
+                .map(|row| (versions(row), row.store.quickest))
+                .collect(),
         ),
     ];
     let sqlite: Vec<(f64, f64)> = sqlite.collect();
@@ -85,11 +89,15 @@ fn of_logs(measured: &Measured) -> Panel {
         curves: vec![
             curve(
                 MODEL,
-                rows.iter().map(|row| (kilobytes(row), row.model)).collect(),
+                rows.iter()
+                    .map(|row| (kilobytes(row), row.model.quickest))
+                    .collect(),
             ),
             curve(
                 STORE,
-                rows.iter().map(|row| (kilobytes(row), row.judge)).collect(),
+                rows.iter()
+                    .map(|row| (kilobytes(row), row.judge.quickest))
+                    .collect(),
             ),
         ],
     }
@@ -128,7 +136,7 @@ fn picture(panels: &[Panel]) -> String {
         20,
         "What it costs, and what it is held against",
     );
-    let axes = "Medians of interleaved runs; time on a scale of powers of ten, so that equal distances are equal ratios.";
+    let axes = "The quickest of interleaved rounds; time on a scale of powers of ten, so that equal distances are equal ratios.";
     svg.text(MARGIN, 60.0, 13, axes);
     let corner = |place: usize| {
         let (column, row) = (place % COLUMNS, place / COLUMNS);
