@@ -33,11 +33,11 @@ bench:
 	cd model && cargo run --offline --quiet --profile bench --features proved$(SQLITE) --bin bench
 
 target/bin/%: $(SOURCES)
-	rt check $*
+	@tools/prove check $*
 	@touch $@
 
 target/staticlib/lib%.a: $(SOURCES)
-	rt staticlib $*
+	@tools/prove staticlib $*
 
 target/host/example: host/example.c host/koolvent.h $(LIBRARIES)
 	@mkdir -p $(@D)
@@ -48,10 +48,11 @@ explain:
 
 # Installed, programs and libraries have names that say whose they are.
 install: there = $(DESTDIR)$(PREFIX)
-install: $(DRIVERS) $(LIBRARIES)
+install: $(DRIVERS) $(LIBRARIES) explain
 	install -d $(there)/bin $(there)/include $(there)/lib/pkgconfig
 	install -m 755 target/bin/store_driver $(there)/bin/koolvent_store_driver
 	install -m 755 target/bin/judge_driver $(there)/bin/koolvent_judge_driver
+	install -m 755 model/target/release/explain $(there)/bin/koolvent_explain
 	install -m 644 target/staticlib/libstore.a $(there)/lib/libkoolvent_store.a
 	install -m 644 target/staticlib/libjudge.a $(there)/lib/libkoolvent_judge.a
 	install -m 644 host/koolvent.h $(there)/include/koolvent.h
