@@ -1,7 +1,7 @@
-# make run shows the store and its judge at work; make test proves and tests everything; make mutants tries the edits
-# under mutants/ (of one crate: CRATE=range), each of which the prover must refuse; make bench times the proved code
-# beside the model and, where it is installed, SQLite, and writes docs/PERFORMANCE.md and its picture; make install
-# puts the programs, the libraries and the header in place.
+# make run shows the store and its judge at work; make test proves and tests everything; make mutants
+# tries the edits under mutants/ (of one crate: CRATE=range), each of which the prover must refuse;
+# make bench times the proved code beside the model and, where it is installed, SQLite, and writes
+# docs/PERFORMANCE.md and its picture; make install puts programs, libraries and header in place.
 
 PREFIX ?= /usr/local
 SEED ?= 189

@@ -27,17 +27,16 @@ pub enum Answer {
 }
 
 impl Answer {
-    /// The number that a call returns: a refusal alone, or 0 in the lowest byte and what follows it above.
+    /// The number that a call returns: a refusal alone, or 0 in the lowest byte and what follows it
+    /// above.
     pub fn number(self) -> u64 {
         match self {
             Answer::Refused(refusal) => refusal,
             Answer::Fresh => 0,
             Answer::Started { messages } => messages << 8,
-            Answer::Delivered {
-                kind,
-                messages,
-                outcome,
-            } => kind << 8 | messages << 16 | outcome << 32,
+            Answer::Delivered { kind, messages, outcome } => {
+                kind << 8 | messages << 16 | outcome << 32
+            }
             Answer::Shown { length } => length << 8,
         }
     }
@@ -47,17 +46,15 @@ impl Answer {
         let answer = match call {
             _ if number & 0xff != 0 => Answer::Refused(number & 0xff),
             Call::Fresh { .. } => Answer::Fresh,
-            Call::Read { .. } | Call::Write { .. } => Answer::Started {
-                messages: number >> 8 & 0xffff,
-            },
+            Call::Read { .. } | Call::Write { .. } => {
+                Answer::Started { messages: number >> 8 & 0xffff }
+            }
             Call::Deliver { .. } => Answer::Delivered {
                 kind: number >> 8 & 0xff,
                 messages: number >> 16 & 0xffff,
                 outcome: number >> 32 & 0xff,
             },
-            Call::Show { .. } => Answer::Shown {
-                length: number >> 8 & 0xffff,
-            },
+            Call::Show { .. } => Answer::Shown { length: number >> 8 & 0xffff },
         };
         (answer.number() == number && answer.refusal() <= 14).then_some(answer)
     }
@@ -69,11 +66,9 @@ impl Answer {
             Answer::Refused(refusal) => vec![refusal as u8],
             Answer::Fresh => vec![0],
             Answer::Started { messages } => [&[0], &length(messages)[..]].concat(),
-            Answer::Delivered {
-                kind,
-                messages,
-                outcome,
-            } => [&[0, kind as u8], &length(messages)[..], &[outcome as u8]].concat(),
+            Answer::Delivered { kind, messages, outcome } => {
+                [&[0, kind as u8], &length(messages)[..], &[outcome as u8]].concat()
+            }
             Answer::Shown { length } => [&[0], &output[..length as usize]].concat(),
         }
     }

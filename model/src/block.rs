@@ -19,18 +19,11 @@ pub trait Calls {
     #[inline]
     fn call(&self, block: &mut [u64], call: &Call, output: &mut [u8]) -> u64 {
         match call {
-            Call::Fresh {
-                clients,
-                partitions,
-                items,
-                ..
-            } => self.fresh(block, *clients, *partitions, *items),
+            Call::Fresh { clients, partitions, items, .. } => {
+                self.fresh(block, *clients, *partitions, *items)
+            }
             Call::Read { client, set } => self.start_read(block, *client, *set),
-            Call::Write {
-                client,
-                set,
-                values,
-            } => self.start_write(block, *client, *set, values),
+            Call::Write { client, set, values } => self.start_write(block, *client, *set, values),
             Call::Deliver { place } => self.deliver(block, *place),
             Call::Show { client, .. } => self.show(block, *client, output),
         }
@@ -40,18 +33,12 @@ pub trait Calls {
 /// Makes the call on the block; a fresh on a block that is not long enough gets a part that isn't.
 pub fn make(served: &dyn Calls, block: &mut [u64], call: &Call) -> Event {
     let length = match call {
-        Call::Fresh {
-            long_enough: false, ..
-        } => block.len().min(NEEDED - 1),
+        Call::Fresh { long_enough: false, .. } => block.len().min(NEEDED - 1),
         _ => block.len(),
     };
     let mut output = call.output();
     let answer = served.call(&mut block[..length], call, &mut output);
-    Event {
-        call: call.clone(),
-        answer,
-        output,
-    }
+    Event { call: call.clone(), answer, output }
 }
 
 /// The model's store on blocks, by way of their layout; for tests alone with a fault.

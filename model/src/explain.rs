@@ -1,4 +1,5 @@
-//! Frames, answers, log lines and verdicts in plain sentences; of a malformed line, what is wrong with it.
+//! Frames, answers, log lines and verdicts in plain sentences; of a malformed line, what is wrong
+//! with it.
 //!
 //! Nothing of a session is run again; a log is judged.
 

@@ -29,10 +29,7 @@ pub enum Verdict {
 
 impl Verdict {
     /// The verdict on a log without fault.
-    pub const CLEAN: Verdict = Verdict::Judged {
-        finding: 0,
-        line: 0,
-    };
+    pub const CLEAN: Verdict = Verdict::Judged { finding: 0, line: 0 };
 
     /// The bytes of the answer.
     pub fn bytes(&self) -> Vec<u8> {
@@ -62,9 +59,7 @@ impl Verdict {
 
 /// A line number in two bytes. The limits of refusal 16 keep it at 257 or less.
 fn line_bytes(line: usize) -> [u8; 2] {
-    u16::try_from(line)
-        .expect("a judged log has at most 257 lines")
-        .to_be_bytes()
+    u16::try_from(line).expect("a judged log has at most 257 lines").to_be_bytes()
 }
 
 /// The verdict on a log.
@@ -82,10 +77,7 @@ pub fn reasoned(findings: &[(u8, Finding)], log: &[u8]) -> (Verdict, String) {
     let line_ends = log.iter().filter(|byte| **byte == b'\n').count();
     if log.len() > MOST_BYTES || line_ends > MOST_LINE_ENDS {
         let bytes = log.len();
-        return (
-            Verdict::TooLong,
-            format!("the log has {bytes} bytes and {line_ends} line ends"),
-        );
+        return (Verdict::TooLong, format!("the log has {bytes} bytes and {line_ends} line ends"));
     }
     let mut frames = Vec::new();
     for (line, frame) in (1..).zip(lines(log)) {

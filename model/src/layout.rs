@@ -1,6 +1,7 @@
 //! The tables as the words of a lent block, and back.
 //!
-//! Written from docs/LAYOUT.md alone. A stamp is one word, its number times 16 and its client added.
+//! Written from docs/LAYOUT.md alone. A stamp is one word, its number times 16 and its client
+//! added.
 
 mod after;
 mod decode;

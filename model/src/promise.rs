@@ -1,8 +1,10 @@
-//! Condition 3's promises over several calls, checked of a list of calls from the calls, answers and outputs alone.
+//! Condition 3's promises over several calls, checked of a list of calls from the calls, answers
+//! and outputs alone.
 //!
-//! The checker runs a list of labels beside the calls, as the steps say which messages join and leave, and never
-//! sees the store's tables. Each clause is one function and one `Clause`. That answers, outputs and tables are those of the
-//! steps and the refusal table is for whoever holds the list against the model's store.
+//! The checker runs a list of labels beside the calls, as the steps say which messages join and
+//! leave, and never sees the store's tables. Each clause is one function and one `Clause`. That
+//! answers, outputs and tables are those of the steps and the refusal table is for whoever holds
+//! the list against the model's store.
 
 mod checker;
 mod clauses;
@@ -31,7 +33,8 @@ pub enum Clause {
     Length,
     /// A read has exactly one message for each item it awaits.
     OneMessageForEachAwaited { client: u64, item: u64 },
-    /// A read is reported ended by the delivery of its n-th reply and no other, after n requests and n replies.
+    /// A read is reported ended by the delivery of its n-th reply and no other, after n requests
+    /// and n replies.
     ReadEnd,
     /// A write is reported ended by the delivery of its last prepared reply and no other.
     WriteEnd,
@@ -43,9 +46,11 @@ pub enum Clause {
     Unwritten { item: u64 },
     /// Where an entry's write also wrote another shown item, that one isn't shown older.
     Fractured { item: u64, older: u64 },
-    /// An entry's write was stored at all its partitions before the get behind the reply was delivered.
+    /// An entry's write was stored at all its partitions before the get behind the reply was
+    /// delivered.
     AnsweredBeforeStored { item: u64 },
-    /// No entry is older than a write of that item which the client had ended before the read's start.
+    /// No entry is older than a write of that item which the client had ended before the read's
+    /// start.
     OwnWriteMissed { item: u64 },
 }
 
@@ -66,15 +71,12 @@ pub struct Summary {
     pub written_entries_shown: usize,
 }
 
-/// Whether the events keep every clause of condition 3. The first is an accepted fresh; another accepted fresh
-/// begins a new list.
+/// Whether the events keep every clause of condition 3. The first is an accepted fresh; another
+/// accepted fresh begins a new list.
 pub fn check(events: &[Event]) -> Result<Summary, Violation> {
     let mut checker = Checker::default();
     for (place, event) in events.iter().enumerate() {
-        checker.check(place, event).map_err(|clause| Violation {
-            event: place,
-            clause,
-        })?;
+        checker.check(place, event).map_err(|clause| Violation { event: place, clause })?;
     }
     Ok(checker.summary)
 }

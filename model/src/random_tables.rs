@@ -16,11 +16,7 @@ pub struct Maker {
 impl Maker {
     pub fn new(seed: u64) -> Maker {
         let mut random = Random::new(seed);
-        let sizes = Sizes::new(
-            random.between(1, 3),
-            random.between(1, 3),
-            random.between(1, 4),
-        );
+        let sizes = Sizes::new(random.between(1, 3), random.between(1, 3), random.between(1, 4));
         Maker { random, sizes }
     }
 
@@ -90,10 +86,7 @@ impl Maker {
     }
 
     fn ended(&mut self) -> Ended {
-        let mut ended = Ended {
-            kind: self.random.pick(&[NONE, READ, WRITE]),
-            ..Ended::NONE
-        };
+        let mut ended = Ended { kind: self.random.pick(&[NONE, READ, WRITE]), ..Ended::NONE };
         if ended.kind == NONE {
             return ended;
         }
@@ -124,15 +117,8 @@ impl Maker {
         match self.random.below(5) {
             0 => Message::Prepare(self.version()),
             1 => Message::Prepared { item, stamp },
-            2 => Message::Commit {
-                partition: self.random.below(self.sizes.partitions),
-                stamp,
-            },
-            3 => Message::Get {
-                client,
-                item,
-                stamp: self.stamp(),
-            },
+            2 => Message::Commit { partition: self.random.below(self.sizes.partitions), stamp },
+            3 => Message::Get { client, item, stamp: self.stamp() },
             _ => Message::Got {
                 client,
                 item,

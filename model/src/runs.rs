@@ -93,7 +93,8 @@ pub fn tables_amid(sort: Sort, seed: u64) -> Tables {
 }
 
 impl Sort {
-    /// How many calls are made, deliveries of what is left at the end and showings after ends not counted.
+    /// How many calls are made, deliveries of what is left at the end and showings after ends not
+    /// counted.
     fn calls(self) -> u64 {
         match self {
             Sort::Small => 120,
@@ -104,16 +105,12 @@ impl Sort {
 
     fn sizes(self, random: &mut Random) -> Sizes {
         match self {
-            Sort::Small => Sizes::new(
-                random.between(1, 3),
-                random.between(1, 3),
-                random.between(1, 4),
-            ),
-            Sort::AnySize => Sizes::new(
-                random.between(1, 8),
-                random.between(1, 8),
-                random.between(1, 64),
-            ),
+            Sort::Small => {
+                Sizes::new(random.between(1, 3), random.between(1, 3), random.between(1, 4))
+            }
+            Sort::AnySize => {
+                Sizes::new(random.between(1, 8), random.between(1, 8), random.between(1, 64))
+            }
             Sort::Crowded => Sizes::new(8, random.between(1, 8), random.between(60, 64)),
         }
     }
@@ -158,17 +155,8 @@ impl<'a, 'b> Runner<'a, 'b> {
     }
 
     fn before_the_fresh(&mut self) {
-        let Sizes {
-            clients,
-            partitions,
-            items,
-        } = self.sizes;
-        let fresh = |long_enough, clients| Call::Fresh {
-            long_enough,
-            clients,
-            partitions,
-            items,
-        };
+        let Sizes { clients, partitions, items } = self.sizes;
+        let fresh = |long_enough, clients| Call::Fresh { long_enough, clients, partitions, items };
         self.call(Call::Deliver { place: 0 });
         self.call(fresh(true, 9));
         self.call(fresh(false, clients));

@@ -1,7 +1,7 @@
 //! Stamps, and the entries that latest and views hold.
 
-/// The number of a client's write, and the client (desk) that wrote. The greater number is later; with equal numbers,
-/// the greater client.
+/// The number of a client's write, and the client (desk) that wrote. The greater number is later;
+/// with equal numbers, the greater client.
 #[derive(Clone, Copy, Debug, Default, PartialEq, Eq, PartialOrd, Ord)]
 pub struct Stamp {
     pub number: u64,

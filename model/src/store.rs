@@ -27,18 +27,12 @@ impl Store {
 
     /// A store with these tables, whatever they hold.
     pub fn with_tables(tables: Tables) -> Store {
-        Store {
-            tables,
-            fault: None,
-        }
+        Store { tables, fault: None }
     }
 
     /// For tests alone: this store, wrong in one way.
     pub fn with_fault(self, fault: Fault) -> Store {
-        Store {
-            fault: Some(fault),
-            ..self
-        }
+        Store { fault: Some(fault), ..self }
     }
 
     fn has(&self, fault: Fault) -> bool {

@@ -8,14 +8,15 @@ const HELP: &str = "\
 explain says in plain sentences what the lines of the store and of its judge say.
 
     explain session FRAMES ANSWERS   each frame, its answer and what they say, side by side
-    explain log LOG                  what each line of a log says, and the verdict on it, with what bears that out
+    explain log LOG                  what each line of a log says, and the verdict, with reasons
     explain log LOG VERDICT          and whether VERDICT is another
     explain --help                   this text
 
-FRAMES, ANSWERS, LOG and VERDICT are files: what the store driver reads and prints, what the judge reads and prints.
-One of them may be -, which is standard input. The verdict is that of an independent judge, not of the proved one: hand
-over what that one printed to have them compared. A client is document 01's desk, a partition its cabinet, an item its
-line of a sheet. Of a malformed line it says what is wrong; columns count from 1. Installed, it is koolvent_explain.
+FRAMES, ANSWERS, LOG and VERDICT are files: what the store driver reads and prints, what the judge
+reads and prints. One of them may be -, which is standard input. The verdict is that of an
+independent judge, not of the proved one: hand over what that one printed to have them compared. A
+client is document 01's desk, a partition its cabinet, an item its line of a sheet. Of a malformed
+line it says what is wrong; columns count from 1. Installed, it is koolvent_explain.
 ";
 
 fn main() -> ExitCode {

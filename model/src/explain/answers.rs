@@ -31,9 +31,9 @@ fn accepted(frame: &Call, bytes: &[u8]) -> Option<String> {
             let (kind, ended) = (kind_name(*kind)?, ended(*outcome)?);
             Some(format!("a {kind}, {}{ended}", in_flight(*high, *low)))
         }
-        (Call::Show { .. }, [0, frame @ ..]) => LogFrame::parse(frame)
-            .ok()
-            .map(|frame| log::sentence(&frame)),
+        (Call::Show { .. }, [0, frame @ ..]) => {
+            LogFrame::parse(frame).ok().map(|frame| log::sentence(&frame))
+        }
         _ => None,
     }
 }

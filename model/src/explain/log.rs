@@ -7,8 +7,8 @@ use crate::judge::well_formed::lines;
 use crate::judge::{reasoned, Verdict};
 use crate::stamp::Stamp;
 
-/// What each line of the log says, and then the verdict on it, with what bears it out. A verdict that was handed over is
-/// told where it is another.
+/// What each line of the log says, and then the verdict on it, with what bears it out. A verdict
+/// that was handed over is told where it is another.
 pub fn log(log: &[u8], handed_over: Option<&[u8]>) -> String {
     let mut said = String::new();
     for (number, line) in (1..).zip(lines(log)) {
@@ -52,15 +52,9 @@ fn verdict_words(verdict: Verdict, why: &str) -> String {
 /// What the frame says.
 pub fn sentence(frame: &LogFrame) -> String {
     match frame {
-        LogFrame::Write {
-            client,
-            set,
-            number,
-            values,
-        } => format!(
-            "write {number} of client {client}: {}",
-            valued(*set, values)
-        ),
+        LogFrame::Write { client, set, number, values } => {
+            format!("write {number} of client {client}: {}", valued(*set, values))
+        }
         LogFrame::Read { client, .. } => {
             let entries: Vec<String> = frame.shown().iter().map(entry_words).collect();
             format!("client {client} shows {}", entries.join("; "))

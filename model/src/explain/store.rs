@@ -7,12 +7,7 @@ use crate::frames::hex::number;
 /// What the call asks for.
 pub fn sentence(call: &Call) -> String {
     match call {
-        Call::Fresh {
-            clients,
-            partitions,
-            items,
-            ..
-        } => {
+        Call::Fresh { clients, partitions, items, .. } => {
             let clients = count(*clients, "client");
             let partitions = count(*partitions, "partition");
             let items = count(*items, "item");
@@ -21,11 +16,9 @@ pub fn sentence(call: &Call) -> String {
         Call::Read { client, set } => {
             format!("client {client} starts to read {}", items_of(*set))
         }
-        Call::Write {
-            client,
-            set,
-            values,
-        } => format!("client {client} starts to write {}", written(*set, values)),
+        Call::Write { client, set, values } => {
+            format!("client {client} starts to write {}", written(*set, values))
+        }
         Call::Deliver { place } => format!("the message at place {place} is delivered"),
         Call::Show { client, .. } => format!("client {client} is asked what it ended last"),
     }
@@ -33,17 +26,10 @@ pub fn sentence(call: &Call) -> String {
 
 /// The values of a set that has as many, or how many there are.
 fn written(set: u64, bytes: &[u8]) -> String {
-    let values: Vec<u32> = bytes
-        .chunks_exact(4)
-        .map(|value| number(value) as u32)
-        .collect();
+    let values: Vec<u32> = bytes.chunks_exact(4).map(|value| number(value) as u32).collect();
     if set != 0 && values.len() == set.count_ones() as usize {
         valued(set, &values)
     } else {
-        format!(
-            "{}, with {}",
-            items_of(set),
-            count(values.len() as u64, "value")
-        )
+        format!("{}, with {}", items_of(set), count(values.len() as u64, "value"))
     }
 }

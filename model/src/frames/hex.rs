@@ -22,17 +22,12 @@ pub fn from_line(line: &[u8]) -> Result<Vec<u8>, String> {
     if !values.len().is_multiple_of(2) {
         return Err(format!("an odd number of digits, {}", values.len()));
     }
-    Ok(values
-        .chunks(2)
-        .map(|pair| pair[0] * 16 + pair[1])
-        .collect())
+    Ok(values.chunks(2).map(|pair| pair[0] * 16 + pair[1]).collect())
 }
 
 /// A number of some bytes, most significant byte first.
 pub fn number(bytes: &[u8]) -> u64 {
-    bytes
-        .iter()
-        .fold(0, |number, byte| number << 8 | u64::from(*byte))
+    bytes.iter().fold(0, |number, byte| number << 8 | u64::from(*byte))
 }
 
 fn digit(character: u8) -> Option<u8> {

@@ -11,7 +11,8 @@ const READ: u8 = 0x21;
 /// Bytes of kind, client and set, with which both frames begin.
 const HEAD: usize = 10;
 
-/// What a read shows of one item: the number and client (the writing desk) of its stamp, and its value.
+/// What a read shows of one item: the number and client (the writing desk) of its stamp, and its
+/// value.
 #[derive(Clone, Copy, Debug, PartialEq, Eq)]
 pub struct Shown {
     pub number: u32,
@@ -24,18 +25,9 @@ pub struct Shown {
 #[derive(Clone, Debug, PartialEq, Eq)]
 pub enum LogFrame {
     /// `20`: desk, set, number, values.
-    Write {
-        client: u8,
-        set: u64,
-        number: u32,
-        values: Vec<u32>,
-    },
+    Write { client: u8, set: u64, number: u32, values: Vec<u32> },
     /// `21`: desk, set, then per line number, writing desk, value.
-    Read {
-        client: u8,
-        set: u64,
-        shown: Vec<Shown>,
-    },
+    Read { client: u8, set: u64, shown: Vec<Shown> },
 }
 
 /// An item as a frame wrote or shows it.
@@ -51,12 +43,7 @@ impl LogFrame {
     pub fn bytes(&self) -> Vec<u8> {
         let mut bytes = Vec::new();
         match self {
-            LogFrame::Write {
-                client,
-                set,
-                number,
-                values,
-            } => {
+            LogFrame::Write { client, set, number, values } => {
                 bytes.extend([WRITE, *client]);
                 bytes.extend(set.to_be_bytes());
                 bytes.extend(number.to_be_bytes());
@@ -77,8 +64,8 @@ impl LogFrame {
         bytes
     }
 
-    /// The frame of these bytes, if the kind is known and the length is that of the set's items; or what is wrong.
-    /// Whether its client, set and numbers will do is for the judge.
+    /// The frame of these bytes, if the kind is known and the length is that of the set's items; or
+    /// what is wrong. Whether its client, set and numbers will do is for the judge.
     pub fn parse(bytes: &[u8]) -> Result<LogFrame, String> {
         let length = bytes.len();
         let what = match bytes.first() {
@@ -88,9 +75,7 @@ impl LogFrame {
             None => return Err("it is empty".to_owned()),
         };
         let Some((head, rest)) = bytes.split_at_checked(HEAD) else {
-            return Err(format!(
-                "wrong length: {length}, too short for a client and a set"
-            ));
+            return Err(format!("wrong length: {length}, too short for a client and a set"));
         };
         let (kind, client, set) = (head[0], head[1], number(&head[2..]));
         let items = set.count_ones() as usize;
@@ -99,11 +84,7 @@ impl LogFrame {
             _ => HEAD + 9 * items,
         };
         if length != right {
-            let items = if items == 1 {
-                "1 item"
-            } else {
-                &format!("{items} items")
-            };
+            let items = if items == 1 { "1 item" } else { &format!("{items} items") };
             return Err(format!(
                 "wrong length: a {what} of {items} has {right} bytes, this {length}"
             ));
@@ -115,11 +96,7 @@ impl LogFrame {
                 number: word(&rest[..4]),
                 values: rest[4..].chunks(4).map(word).collect(),
             },
-            _ => LogFrame::Read {
-                client,
-                set,
-                shown: rest.chunks(9).map(shown).collect(),
-            },
+            _ => LogFrame::Read { client, set, shown: rest.chunks(9).map(shown).collect() },
         })
     }
 
@@ -137,21 +114,11 @@ impl LogFrame {
 
     /// What a write wrote; nothing if the frame is a read.
     pub fn written(&self) -> Vec<Entry> {
-        let LogFrame::Write {
-            client,
-            set,
-            number,
-            values,
-        } = self
-        else {
+        let LogFrame::Write { client, set, number, values } = self else {
             return Vec::new();
         };
         let stamp = Stamp::new((*number).into(), (*client).into());
-        let entry = |(item, value): (u64, &u32)| Entry {
-            item,
-            stamp,
-            value: *value,
-        };
+        let entry = |(item, value): (u64, &u32)| Entry { item, stamp, value: *value };
         items(*set).zip(values).map(entry).collect()
     }
 
@@ -171,11 +138,7 @@ impl LogFrame {
 
 /// A read's nine bytes for one item.
 fn shown(bytes: &[u8]) -> Shown {
-    Shown {
-        number: word(&bytes[..4]),
-        client: bytes[4],
-        value: word(&bytes[5..]),
-    }
+    Shown { number: word(&bytes[..4]), client: bytes[4], value: word(&bytes[5..]) }
 }
 
 /// A number of four bytes.

@@ -27,11 +27,7 @@ pub fn parse(line: &[u8]) -> Result<Call, String> {
             return Ok(Call::Read { client, set });
         }
         [3, _, ref rest @ ..] if (8..=8 + 4 * 64).contains(&rest.len()) && rest.len() % 4 == 0 => {
-            return Ok(Call::Write {
-                client,
-                set: number(&rest[..8]),
-                values: rest[8..].to_vec(),
-            })
+            return Ok(Call::Write { client, set: number(&rest[..8]), values: rest[8..].to_vec() })
         }
         [4, ref place @ ..] if place.len() == 2 => {
             let place = number(place);
@@ -51,8 +47,8 @@ pub fn parse(line: &[u8]) -> Result<Call, String> {
     Err(format!("wrong length: {right}, this {}", bytes.len()))
 }
 
-/// The driver's answer, in hexadecimal, to one line with its 0a. Before an accepted fresh the store's sizes are 0, and the
-/// other well-formed frames answer 1.
+/// The driver's answer, in hexadecimal, to one line with its 0a. Before an accepted fresh the
+/// store's sizes are 0, and the other well-formed frames answer 1.
 pub fn answer_line(store: &mut Store, line: &[u8]) -> String {
     let Ok(call) = parse(line) else {
         return to_hex(&[MALFORMED]);

@@ -1,9 +1,11 @@
-//! The three findings, each by its definition: what of the read at this place of the log is at fault?
+//! The three findings, each by its definition: what of the read at this place of the log is at
+//! fault?
 
 use crate::frames::log::{Entry, LogFrame};
 use crate::stamp::Stamp;
 
-/// What of the read at this place of the log, counted from 0, has the fault, in words; nothing where none of it has.
+/// What of the read at this place of the log, counted from 0, has the fault, in words; nothing
+/// where none of it has.
 pub type Finding = fn(log: &[LogFrame], place: usize) -> Option<String>;
 
 /// The findings with their numbers, in the order in which they go before one another.
@@ -28,16 +30,15 @@ pub fn unwritten(log: &[LogFrame], place: usize) -> Option<String> {
             Some(format!("{source}, a write that the log doesn't have"))
         } else if let Some(wrote) = of_item {
             let other = wrote.value;
-            Some(format!(
-                "{source} with value {value}, which wrote {other} there"
-            ))
+            Some(format!("{source} with value {value}, which wrote {other} there"))
         } else {
             Some(format!("{source}, which didn't write that item"))
         }
     })
 }
 
-/// Finding 2: the write of a shown stamp also wrote another shown item, shown with an earlier stamp.
+/// Finding 2: the write of a shown stamp also wrote another shown item, shown with an earlier
+/// stamp.
 pub fn fractured(log: &[LogFrame], place: usize) -> Option<String> {
     let shown = log[place].shown();
     for entry in &shown {

@@ -28,10 +28,7 @@ pub fn random_long_log(random: &mut Random) -> Vec<u8> {
 
 /// The frames' lines.
 fn log_of(frames: &[LogFrame]) -> Vec<u8> {
-    frames
-        .iter()
-        .flat_map(|frame| frame.line().into_bytes())
-        .collect()
+    frames.iter().flat_map(|frame| frame.line().into_bytes()).collect()
 }
 
 /// Replaces, inserts or takes out one byte, or cuts the log off.

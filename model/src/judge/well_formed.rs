@@ -37,9 +37,7 @@ fn wrong_field(frame: &LogFrame, above: &[Result<LogFrame, String>]) -> Option<S
             let shown = frame.shown();
             let wrong = shown.iter().find(|entry| !is_stamp(entry.stamp))?;
             let (item, Stamp { number, client }) = (wrong.item, wrong.stamp);
-            Some(format!(
-                "item {item} from write {number} of client {client}"
-            ))
+            Some(format!("item {item} from write {number} of client {client}"))
         }
     }
 }
@@ -57,13 +55,13 @@ fn is_stamp(stamp: Stamp) -> bool {
 /// The first write above by the same client with a number that isn't lower.
 fn not_risen(client: u8, number: u32, above: &[Result<LogFrame, String>]) -> Option<String> {
     (1..).zip(above).find_map(|(line, frame)| match frame {
-        Ok(LogFrame::Write {
-            client: writer,
-            number: earlier,
-            ..
-        }) if *writer == client && *earlier >= number => Some(format!(
-            "write {number} of client {client} below its write {earlier}, log line {line}"
-        )),
+        Ok(LogFrame::Write { client: writer, number: earlier, .. })
+            if *writer == client && *earlier >= number =>
+        {
+            Some(format!(
+                "write {number} of client {client} below its write {earlier}, log line {line}"
+            ))
+        }
         _ => None,
     })
 }

@@ -40,26 +40,11 @@ type Visit<'a> = dyn FnMut(Field) + 'a;
 fn visit(tables: &Tables, to: &mut Visit) {
     let sizes = &tables.sizes;
     one(to, places::CLIENTS, sizes.clients, Sort::NumberOfClients);
-    one(
-        to,
-        places::PARTITIONS,
-        sizes.partitions,
-        Sort::NumberOfPartitions,
-    );
+    one(to, places::PARTITIONS, sizes.partitions, Sort::NumberOfPartitions);
     one(to, places::ITEMS, sizes.items, Sort::NumberOfItems);
     let (versions, messages) = (tables.versions.len(), tables.messages.len());
-    one(
-        to,
-        places::VERSIONS,
-        versions as u64,
-        Sort::NumberOfVersions,
-    );
-    one(
-        to,
-        places::MESSAGES,
-        messages as u64,
-        Sort::NumberOfMessages,
-    );
+    one(to, places::VERSIONS, versions as u64, Sort::NumberOfVersions);
+    one(to, places::MESSAGES, messages as u64, Sort::NumberOfMessages);
     for (item, latest) in (0..sizes.items as usize).zip(&tables.latest) {
         entry(to, places::latest(item), latest);
     }
@@ -102,23 +87,14 @@ fn running(to: &mut Visit, client: usize, record: &Client) {
     for item in items(record.set) {
         let place = item as usize;
         if record.mode != WRITING {
-            one(
-                to,
-                places::asked(client, place),
-                stamp_of(item),
-                Sort::Stamp,
-            );
+            one(to, places::asked(client, place), stamp_of(item), Sort::Stamp);
         }
-        one(
-            to,
-            places::value(client, place),
-            record.values[place],
-            Sort::Value,
-        );
+        one(to, places::value(client, place), record.values[place], Sort::Value);
     }
 }
 
-/// Nothing but the kind where none has ended; one stamp of a write, and of a read one for each item.
+/// Nothing but the kind where none has ended; one stamp of a write, and of a read one for each
+/// item.
 fn last(to: &mut Visit, client: usize, record: &Client) {
     let scalar = |scalar| places::scalar(client, scalar);
     let last = &record.last;
@@ -128,29 +104,14 @@ fn last(to: &mut Visit, client: usize, record: &Client) {
     }
     one(to, scalar(Scalar::LastSet), last.set, Sort::Set);
     if last.kind == WRITE {
-        one(
-            to,
-            scalar(Scalar::LastStamp),
-            stamp_word(last.stamp),
-            Sort::Stamp,
-        );
+        one(to, scalar(Scalar::LastStamp), stamp_word(last.stamp), Sort::Stamp);
     }
     for item in items(last.set) {
         let item = item as usize;
         if last.kind == READ {
-            one(
-                to,
-                places::last_stamp(client, item),
-                stamp_word(last.stamps[item]),
-                Sort::Stamp,
-            );
+            one(to, places::last_stamp(client, item), stamp_word(last.stamps[item]), Sort::Stamp);
         }
-        one(
-            to,
-            places::last_value(client, item),
-            last.values[item],
-            Sort::Value,
-        );
+        one(to, places::last_value(client, item), last.values[item], Sort::Value);
     }
 }
 

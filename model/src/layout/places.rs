@@ -112,7 +112,5 @@ pub fn client_at(place: usize) -> Option<usize> {
 /// The message whose words hold this place.
 pub fn message_at(place: usize) -> Option<usize> {
     let words = IN_FLIGHT..NEEDED;
-    words
-        .contains(&place)
-        .then(|| (place - IN_FLIGHT) / MESSAGE_WORDS)
+    words.contains(&place).then(|| (place - IN_FLIGHT) / MESSAGE_WORDS)
 }

@@ -27,14 +27,7 @@ impl Checker {
             (Call::Read { client, set }, Answer::Started { .. }) => {
                 self.history.start_read(place, *client, *set);
             }
-            (
-                Call::Write {
-                    client,
-                    set,
-                    values,
-                },
-                Answer::Started { .. },
-            ) => {
+            (Call::Write { client, set, values }, Answer::Started { .. }) => {
                 self.history.start_write(place, *client, *set, values);
             }
             (Call::Deliver { place: at }, _) => self.deliver(place, *at, answer)?,

@@ -47,7 +47,8 @@ pub(super) fn kind_is_that_of_the_message(label: &Label, kind: u64) -> Result<()
     holds(kind == label.kind as u64, Clause::Kind)
 }
 
-/// The delivery of a read's n-th reply, and no other, reports it ended, after exactly n requests and n replies.
+/// The delivery of a read's n-th reply, and no other, reports it ended, after exactly n requests
+/// and n replies.
 pub(super) fn read_ends_with_its_last_reply_alone(
     history: &History,
     label: &Label,
@@ -97,7 +98,8 @@ pub(super) fn length_is_that_of_the_list(history: &History, answer: Answer) -> R
     }
 }
 
-/// Every running read has exactly one get or got of its client in the list for each item without a reply.
+/// Every running read has exactly one get or got of its client in the list for each item without a
+/// reply.
 pub(super) fn one_message_for_each_awaited_item(history: &History) -> Result<(), Clause> {
     let running = history.transactions.iter().filter(|of| of.ended.is_none());
     for transaction in running {

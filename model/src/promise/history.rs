@@ -1,6 +1,7 @@
 //! The list of labels beside the calls: which message lies where, and whose it is.
 //!
-//! A message is of the client whose start put it there, or of the same client as the message whose delivery did.
+//! A message is of the client whose start put it there, or of the same client as the message whose
+//! delivery did.
 
 use crate::frames::hex;
 use crate::set::{items, size};
@@ -94,10 +95,7 @@ pub(super) struct History {
 
 impl History {
     pub(super) fn new(partitions: u64) -> History {
-        History {
-            partitions,
-            ..History::default()
-        }
+        History { partitions, ..History::default() }
     }
 
     /// An accepted read start: one get per item joins.
@@ -112,9 +110,7 @@ impl History {
     /// An accepted write start: one prepare per item joins.
     pub(super) fn start_write(&mut self, event: usize, client: u64, set: u64, values: &[u8]) {
         let items: Vec<u64> = items(set).collect();
-        let values = values
-            .chunks_exact(4)
-            .map(|value| hex::number(value) as u32);
+        let values = values.chunks_exact(4).map(|value| hex::number(value) as u32);
         let number = 1 + self.writes().filter(|(of, _)| of.client == client).count();
         let write = Write {
             stamp: Stamp::new(number as u64, client),
@@ -128,21 +124,9 @@ impl History {
 
     fn start(&mut self, event: usize, client: u64, set: u64, part: Part, kind: Kind) {
         let transaction = self.transactions.len();
-        self.transactions.push(Transaction {
-            client,
-            set,
-            started: event,
-            ended: None,
-            part,
-        });
+        self.transactions.push(Transaction { client, set, started: event, ended: None, part });
         for item in items(set) {
-            self.messages.push(Label {
-                kind,
-                client,
-                item,
-                transaction,
-                answered: 0,
-            });
+            self.messages.push(Label { kind, client, item, transaction, answered: 0 });
         }
     }
 
@@ -164,10 +148,7 @@ impl History {
             Kind::Get => self.join(label, Kind::Got, label.item, event),
             Kind::Got => {
                 for read in self.running_reads_mut(label.client) {
-                    read.replies.push(Reply {
-                        item: label.item,
-                        answered: label.answered,
-                    });
+                    read.replies.push(Reply { item: label.item, answered: label.answered });
                 }
             }
         }
@@ -191,12 +172,7 @@ impl History {
     }
 
     fn join(&mut self, sender: Label, kind: Kind, item: u64, answered: usize) {
-        self.messages.push(Label {
-            kind,
-            item,
-            answered,
-            ..sender
-        });
+        self.messages.push(Label { kind, item, answered, ..sender });
     }
 
     /// A delivery of the client's message reported an end.
@@ -215,11 +191,12 @@ impl History {
 
     fn running_reads_mut(&mut self, client: u64) -> impl Iterator<Item = &mut Read> {
         let all = self.transactions.iter_mut();
-        all.filter(move |of| of.client == client && of.ended.is_none())
-            .filter_map(|of| match &mut of.part {
+        all.filter(move |of| of.client == client && of.ended.is_none()).filter_map(|of| {
+            match &mut of.part {
                 Part::Read(read) => Some(read),
                 Part::Write(_) => None,
-            })
+            }
+        })
     }
 
     /// The client's transaction that ended last, if none of it is running.
@@ -228,8 +205,7 @@ impl History {
             return None;
         }
         let all = self.transactions.iter();
-        all.filter(|of| of.client == client)
-            .max_by_key(|of| of.ended)
+        all.filter(|of| of.client == client).max_by_key(|of| of.ended)
     }
 
     /// All accepted writes so far.

@@ -8,7 +8,8 @@ use crate::frames::log::{Entry, LogFrame};
 use crate::set::size;
 use crate::stamp::Stamp;
 
-/// Checks a showing; of an accepted one of a read, gives how many entries it shows that are not initial.
+/// Checks a showing; of an accepted one of a read, gives how many entries it shows that are not
+/// initial.
 pub(super) fn check(
     history: &History,
     client: u64,
@@ -97,7 +98,8 @@ fn entries_of_the_read(last: &Transaction, frame: &LogFrame) -> Result<Vec<Entry
     Ok(frame.shown())
 }
 
-/// An entry is initial, or its write is an accepted write of the list with that stamp, item and value.
+/// An entry is initial, or its write is an accepted write of the list with that stamp, item and
+/// value.
 fn put_there_by_a_write<'a>(
     history: &'a History,
     entry: &Entry,
@@ -108,26 +110,22 @@ fn put_there_by_a_write<'a>(
     let mut writes = history.writes().map(|(_, write)| write);
     let found = writes
         .find(|write| write.stamp == entry.stamp && write.value(entry.item) == Some(entry.value));
-    found
-        .map(Some)
-        .ok_or(Clause::Unwritten { item: entry.item })
+    found.map(Some).ok_or(Clause::Unwritten { item: entry.item })
 }
 
-/// Wherever the read shows an entry of a write that also wrote another item it shows, that one isn't older.
+/// Wherever the read shows an entry of a write that also wrote another item it shows, that one
+/// isn't older.
 fn no_sibling_is_older(write: &Write, entry: &Entry, entries: &[Entry]) -> Result<(), Clause> {
-    let older = entries
-        .iter()
-        .find(|other| write.value(other.item).is_some() && other.stamp < entry.stamp);
+    let older =
+        entries.iter().find(|other| write.value(other.item).is_some() && other.stamp < entry.stamp);
     match older {
-        Some(older) => Err(Clause::Fractured {
-            item: entry.item,
-            older: older.item,
-        }),
+        Some(older) => Err(Clause::Fractured { item: entry.item, older: older.item }),
         None => Ok(()),
     }
 }
 
-/// The entry's write was stored at all its partitions before the get behind the item's reply was delivered.
+/// The entry's write was stored at all its partitions before the get behind the item's reply was
+/// delivered.
 fn stored_before_the_answer(write: &Write, read: &Read, entry: &Entry) -> Result<(), Clause> {
     let reply = read.replies.iter().find(|reply| reply.item == entry.item);
     let in_time = match (write.stored, reply) {
@@ -141,7 +139,8 @@ fn stored_before_the_answer(write: &Write, read: &Read, entry: &Entry) -> Result
     }
 }
 
-/// No entry is older than a write of that item which the client itself had ended before starting the read.
+/// No entry is older than a write of that item which the client itself had ended before starting
+/// the read.
 fn no_own_write_is_missed(
     history: &History,
     read: &Transaction,

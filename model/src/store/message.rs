@@ -13,19 +13,9 @@ pub enum Message {
     /// Kind 3: the write of that stamp may become latest at this partition (cabinet).
     Commit { partition: u64, stamp: Stamp },
     /// Kind 4: the version of the item with exactly this stamp is wanted.
-    Get {
-        client: u64,
-        item: u64,
-        stamp: Stamp,
-    },
+    Get { client: u64, item: u64, stamp: Stamp },
     /// Kind 5: that version, and the item's latest.
-    Got {
-        client: u64,
-        item: u64,
-        value: u64,
-        stamp: Stamp,
-        latest: Entry,
-    },
+    Got { client: u64, item: u64, value: u64, stamp: Stamp, latest: Entry },
 }
 
 /// What a message is, part by part; a part that its kind doesn't have is none.
@@ -53,36 +43,16 @@ impl Message {
                 set: Some(version.set),
                 ..parts
             },
-            Message::Prepared { item, stamp } => Parts {
-                kind: 2,
-                item: Some(item),
-                stamp,
-                ..parts
-            },
-            Message::Commit { partition, stamp } => Parts {
-                kind: 3,
-                partition: Some(partition),
-                stamp,
-                ..parts
-            },
-            Message::Get {
-                client,
-                item,
-                stamp,
-            } => Parts {
-                kind: 4,
-                client: Some(client),
-                item: Some(item),
-                stamp,
-                ..parts
-            },
-            Message::Got {
-                client,
-                item,
-                value,
-                stamp,
-                latest,
-            } => Parts {
+            Message::Prepared { item, stamp } => {
+                Parts { kind: 2, item: Some(item), stamp, ..parts }
+            }
+            Message::Commit { partition, stamp } => {
+                Parts { kind: 3, partition: Some(partition), stamp, ..parts }
+            }
+            Message::Get { client, item, stamp } => {
+                Parts { kind: 4, client: Some(client), item: Some(item), stamp, ..parts }
+            }
+            Message::Got { client, item, value, stamp, latest } => Parts {
                 kind: 5,
                 client: Some(client),
                 item: Some(item),

@@ -46,9 +46,7 @@ fn named_things_exist(tables: &Tables) -> bool {
         && parts(tables).all(|parts| {
             parts.client.is_none_or(|client| tables.has_client(client))
                 && parts.item.is_none_or(item_exists)
-                && parts
-                    .partition
-                    .is_none_or(|partition| partition < tables.sizes.partitions)
+                && parts.partition.is_none_or(|partition| partition < tables.sizes.partitions)
         })
 }
 
@@ -124,27 +122,20 @@ fn prepared_and_commits_are_of_writes(tables: &Tables) -> bool {
 
 /// A writing client has one stamp for all its items.
 fn writers_have_one_stamp(tables: &Tables) -> bool {
-    tables
-        .existing_clients()
-        .filter(|client| client.mode == WRITING)
-        .all(|client| {
-            let first = running_stamps(client).next();
-            running_stamps(client).all(|stamp| Some(stamp) == first)
-        })
+    tables.existing_clients().filter(|client| client.mode == WRITING).all(|client| {
+        let first = running_stamps(client).next();
+        running_stamps(client).all(|stamp| Some(stamp) == first)
+    })
 }
 
 /// Awaited items lie in the client's set.
 fn awaited_lie_in_the_set(tables: &Tables) -> bool {
-    tables
-        .existing_clients()
-        .all(|client| lies_in(client.awaited, client.set))
+    tables.existing_clients().all(|client| lies_in(client.awaited, client.set))
 }
 
 /// A client is idle exactly when it awaits none.
 fn idle_exactly_when_none_awaited(tables: &Tables) -> bool {
-    tables
-        .existing_clients()
-        .all(|client| (client.mode == IDLE) == (client.awaited == 0))
+    tables.existing_clients().all(|client| (client.mode == IDLE) == (client.awaited == 0))
 }
 
 /// The parts of the messages in flight.
@@ -168,9 +159,7 @@ fn running_stamps(client: &Client) -> impl Iterator<Item = Stamp> + '_ {
 /// The stamps of a client's last ended transaction.
 fn last_stamps(client: &Client) -> Vec<Stamp> {
     match client.last.kind {
-        READ => items(client.last.set)
-            .map(|item| client.last.stamps[item as usize])
-            .collect(),
+        READ => items(client.last.set).map(|item| client.last.stamps[item as usize]).collect(),
         WRITE => vec![client.last.stamp],
         _ => Vec::new(),
     }

@@ -15,24 +15,15 @@ impl Store {
         for item in items(set) {
             let stamp = self.stamp_to_ask_for(client, item);
             stamps[item as usize] = stamp;
-            self.tables.messages.push(Message::Get {
-                client,
-                item,
-                stamp,
-            });
+            self.tables.messages.push(Message::Get { client, item, stamp });
         }
         let record = self.tables.client_mut(client);
-        *record = Client {
-            mode: READING,
-            set,
-            awaited: set,
-            stamps,
-            values: [0; ITEMS],
-            ..*record
-        };
+        *record =
+            Client { mode: READING, set, awaited: set, stamps, values: [0; ITEMS], ..*record };
     }
 
-    /// The latest stamp among the view's own entry for the item and all view entries whose set contains it.
+    /// The latest stamp among the view's own entry for the item and all view entries whose set
+    /// contains it.
     fn stamp_to_ask_for(&self, client: u64, item: u64) -> Stamp {
         let view = &self.tables.view(client)[..self.tables.sizes.items as usize];
         let mut chosen = view[item as usize].stamp;
@@ -51,28 +42,13 @@ impl Store {
         let mut stamps = [Stamp::INITIAL; ITEMS];
         let mut values = [0; ITEMS];
         for (item, value) in items(set).zip(given.chunks(4)) {
-            let value = value
-                .iter()
-                .fold(0, |number, byte| number * 256 + u64::from(*byte));
+            let value = value.iter().fold(0, |number, byte| number * 256 + u64::from(*byte));
             stamps[item as usize] = stamp;
             values[item as usize] = value;
-            self.tables.messages.push(Message::Prepare(Version {
-                item,
-                value,
-                stamp,
-                set,
-            }));
+            self.tables.messages.push(Message::Prepare(Version { item, value, stamp, set }));
         }
         let record = self.tables.client_mut(client);
-        *record = Client {
-            mode: WRITING,
-            count,
-            set,
-            awaited: set,
-            stamps,
-            values,
-            ..*record
-        };
+        *record = Client { mode: WRITING, count, set, awaited: set, stamps, values, ..*record };
         if self.has(Fault::ViewAtStart) {
             self.see_own_write(client, stamp, set);
         }
@@ -87,26 +63,17 @@ impl Store {
         match message {
             Message::Prepare(version) => {
                 self.tables.versions.push(version);
-                self.tables.messages.push(Message::Prepared {
-                    item: version.item,
-                    stamp: version.stamp,
-                });
+                self.tables
+                    .messages
+                    .push(Message::Prepared { item: version.item, stamp: version.stamp });
                 NONE_ENDED
             }
             Message::Prepared { item, stamp } => self.deliver_prepared(item, stamp),
             Message::Commit { partition, stamp } => self.deliver_commit(partition, stamp),
-            Message::Get {
-                client,
-                item,
-                stamp,
-            } => self.deliver_get(client, item, stamp),
-            Message::Got {
-                client,
-                item,
-                value,
-                latest,
-                ..
-            } => self.deliver_got(client, item, value, latest),
+            Message::Get { client, item, stamp } => self.deliver_get(client, item, stamp),
+            Message::Got { client, item, value, latest, .. } => {
+                self.deliver_got(client, item, value, latest)
+            }
         }
     }
 
@@ -119,20 +86,12 @@ impl Store {
             return NONE_ENDED;
         }
         let set = record.set;
-        let ended = Ended {
-            kind: WRITE,
-            set,
-            stamp,
-            values: record.values,
-            ..Ended::NONE
-        };
+        let ended = Ended { kind: WRITE, set, stamp, values: record.values, ..Ended::NONE };
         *record = Client::resting(record.count, ended);
         self.see_own_write(client, stamp, set);
         for partition in 0..self.tables.sizes.partitions {
             if items(set).any(|item| self.tables.partition_of(item) == partition) {
-                self.tables
-                    .messages
-                    .push(Message::Commit { partition, stamp });
+                self.tables.messages.push(Message::Commit { partition, stamp });
             }
         }
         WRITE_ENDED
@@ -153,7 +112,8 @@ impl Store {
         }
     }
 
-    /// Each item of the partition with a stored version of the stamp takes it as latest if it is later.
+    /// Each item of the partition with a stored version of the stamp takes it as latest if it is
+    /// later.
     fn deliver_commit(&mut self, partition: u64, stamp: Stamp) -> u64 {
         for item in 0..self.tables.sizes.items {
             if self.tables.partition_of(item) != partition {

@@ -18,11 +18,7 @@ pub(super) fn refused(
     call: &Call,
     refusal: u64,
 ) -> Result<u64, Difference> {
-    let event = Event {
-        call: call.clone(),
-        answer: refusal,
-        output: call.output(),
-    };
+    let event = Event { call: call.clone(), answer: refusal, output: call.output() };
     hold(served, block, &event, block)
 }
 

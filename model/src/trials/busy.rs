@@ -28,8 +28,8 @@ impl Busy {
         Busy::holding(tables, seed)
     }
 
-    /// A block of these tables, and some words past its needed length. By the seed, words that are no field are 0,
-    /// anything, or what long use could leave.
+    /// A block of these tables, and some words past its needed length. By the seed, words that are
+    /// no field are 0, anything, or what long use could leave.
     pub fn holding(tables: Tables, seed: u64) -> Busy {
         let mut random = Random::new(seed);
         let length = NEEDED + random.below(4) as usize;
@@ -43,14 +43,11 @@ impl Busy {
         for field in &fields {
             words[field.place] = field.word;
         }
-        Busy {
-            tables,
-            words,
-            fields,
-        }
+        Busy { tables, words, fields }
     }
 
-    /// The place of a field: as often one of the header or a client's scalars, of a message, or of any field.
+    /// The place of a field: as often one of the header or a client's scalars, of a message, or of
+    /// any field.
     pub(super) fn some_place(&self, random: &mut Random) -> usize {
         let before = |place| self.fields.partition_point(|field| field.place < place);
         let chosen = match random.below(3) {

@@ -22,8 +22,8 @@ pub struct Runs {
     pub most_versions: usize,
 }
 
-/// The run of each seed: answers, outputs and tables are the model's, condition 3's promises hold of the list of calls,
-/// and its log is clean.
+/// The run of each seed: answers, outputs and tables are the model's, condition 3's promises hold
+/// of the list of calls, and its log is clean.
 pub fn random_runs(
     served: &dyn Calls,
     sort: Sort,
@@ -81,13 +81,7 @@ impl Beside<'_> {
         let length = NEEDED + random.below(4) as usize;
         let mut words: Vec<u64> = (0..length).map(|_| random.number()).collect();
         words[..3].fill(0);
-        Beside {
-            served,
-            past: words[NEEDED..].to_vec(),
-            words,
-            calls: 0,
-            held: Ok(()),
-        }
+        Beside { served, past: words[NEEDED..].to_vec(), words, calls: 0, held: Ok(()) }
     }
 
     fn watch(&mut self, event: &Event, tables: &Tables) {
@@ -106,9 +100,7 @@ impl Beside<'_> {
             return Err(found(format!("answers {given:#x}, the model {model:#x}")));
         }
         if self.words[NEEDED..] != self.past {
-            return Err(found(
-                "words past the needed length have changed".to_owned(),
-            ));
+            return Err(found("words past the needed length have changed".to_owned()));
         }
         let decoded = decode(&self.words);
         if tables.sizes.are_allowed() && decoded.as_ref() != Some(tables) {

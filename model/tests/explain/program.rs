@@ -6,10 +6,7 @@ use std::path::PathBuf;
 use std::process::{Command, Output, Stdio};
 
 fn explain(words: &[&str]) -> Output {
-    Command::new(env!("CARGO_BIN_EXE_explain"))
-        .args(words)
-        .output()
-        .expect("the program")
+    Command::new(env!("CARGO_BIN_EXE_explain")).args(words).output().expect("the program")
 }
 
 /// A file for one test.
@@ -21,14 +18,8 @@ fn file(name: &str, text: &str) -> String {
 
 #[test]
 fn a_session() {
-    let frames: String = SESSION
-        .iter()
-        .map(|(frame, _, _)| format!("{frame}\n"))
-        .collect();
-    let answers: String = SESSION
-        .iter()
-        .map(|(_, answer, _)| format!("{answer}\n"))
-        .collect();
+    let frames: String = SESSION.iter().map(|(frame, _, _)| format!("{frame}\n")).collect();
+    let answers: String = SESSION.iter().map(|(_, answer, _)| format!("{answer}\n")).collect();
     let frames = file("session_frames", &frames);
     let output = explain(&["session", &frames, &file("session_answers", &answers)]);
     assert!(output.status.success());
@@ -46,10 +37,7 @@ fn a_log_with_and_without_its_verdict() {
     let handed_over = file("verdict", "00000000\n");
     for words in [&["log", &log][..], &["log", &log, &handed_over]] {
         let output = explain(words);
-        assert_eq!(
-            String::from_utf8_lossy(&output.stdout),
-            format!("{line}{verdict}")
-        );
+        assert_eq!(String::from_utf8_lossy(&output.stdout), format!("{line}{verdict}"));
     }
 }
 
@@ -62,8 +50,7 @@ fn a_log_on_standard_input() {
         .spawn()
         .expect("the program");
     let mut to = program.stdin.take().expect("piped");
-    to.write_all(b"21020000000000000001000000000000000000\n")
-        .expect("a program that reads");
+    to.write_all(b"21020000000000000001000000000000000000\n").expect("a program that reads");
     drop(to);
     let output = program.wait_with_output().expect("the program's output");
     let said = "log line 1: client 2 shows item 0 initial\n\

@@ -13,10 +13,7 @@ const HALF_READ: &str = "2102000000000000000300000001010000000700000000000000000
 
 #[test]
 fn clean() {
-    assert_eq!(
-        said("", "00000000"),
-        "verdict: clean: no read of the log is at fault"
-    );
+    assert_eq!(said("", "00000000"), "verdict: clean: no read of the log is at fault");
 }
 
 #[test]
@@ -94,9 +91,7 @@ fn too_long() {
 #[test]
 fn a_verdict_handed_over_that_is_another() {
     let text = [WRITE, HALF_READ].concat();
-    for verdict in [
-        "00000000", "0f0001", "00010002", "00020001", "0F", "0002000",
-    ] {
+    for verdict in ["00000000", "0f0001", "00010002", "00020001", "0F", "0002000"] {
         let other = format!("the verdict handed over is another: {verdict}");
         assert_eq!(said(&text, verdict), other);
     }
@@ -105,10 +100,7 @@ fn a_verdict_handed_over_that_is_another() {
 #[test]
 fn without_a_verdict_handed_over_it_is_said_all_the_same() {
     let text = [WRITE, HALF_READ].concat();
-    let both = [
-        log(text.as_bytes(), None),
-        log(text.as_bytes(), Some(b"00020002\n")),
-    ];
+    let both = [log(text.as_bytes(), None), log(text.as_bytes(), Some(b"00020002\n"))];
     assert_eq!(both[0], both[1]);
     assert!(both[0].contains("verdict: log line 2 is fractured"));
 }

@@ -1,4 +1,5 @@
-//! Verdicts on every small log, on every log with one byte spoiled, and on every log cut off, as counted and found by hand.
+//! Verdicts on every small log, on every log with one byte spoiled, and on every log cut off, as
+//! counted and found by hand.
 
 use koolvent_model::judge::generate::every_small_log;
 use koolvent_model::judge::{examples, judge, Verdict};
@@ -43,20 +44,14 @@ fn every_small_log_by_what_was_counted() {
     assert_eq!(tally.malformed, 6 * 9 * 35 * 9);
     assert_eq!(tally.unwritten, 10 * (9 * 35 - 89) * 9);
     assert_eq!(tally.fractured, 10 * 16 * 9);
-    assert_eq!(
-        tally.own_write_missed,
-        2 * (25 + 46) + 4 * (2 + 1) * (25 + 38)
-    );
+    assert_eq!(tally.own_write_missed, 2 * (25 + 46) + 4 * (2 + 1) * (25 + 38));
     assert_eq!(tally.clean, 10 * 73 * 9 - tally.own_write_missed);
 }
 
 /// Short well-formed logs with several frames.
 fn good_logs() -> Vec<Vec<u8>> {
-    let names = [
-        "session",
-        "clean read above a fault",
-        "equal numbers, sibling of a greater client",
-    ];
+    let names =
+        ["session", "clean read above a fault", "equal numbers, sibling of a greater client"];
     let logs: Vec<Vec<u8>> = examples::all()
         .into_iter()
         .filter(|example| names.contains(&example.name))

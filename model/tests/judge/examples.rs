@@ -60,10 +60,7 @@ fn example_names_are_unique() {
 #[test]
 fn verdicts_as_bytes_and_as_numbers() {
     let malformed = Verdict::Malformed { line: 257 };
-    let missed = Verdict::Judged {
-        finding: 3,
-        line: 256,
-    };
+    let missed = Verdict::Judged { finding: 3, line: 256 };
     assert_eq!(Verdict::TooLong.bytes(), [16]);
     assert_eq!(malformed.bytes(), [15, 1, 1]);
     assert_eq!(missed.bytes(), [0, 3, 1, 0]);

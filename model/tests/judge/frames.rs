@@ -23,21 +23,9 @@ fn write() -> LogFrame {
 }
 
 fn read() -> LogFrame {
-    let initial = Shown {
-        number: 0,
-        client: 0,
-        value: 0,
-    };
-    let written = Shown {
-        number: 0x0a0b_0c0d,
-        client: 2,
-        value: 0x0102_0304,
-    };
-    LogFrame::Read {
-        client: 8,
-        set: 0b101,
-        shown: vec![initial, written],
-    }
+    let initial = Shown { number: 0, client: 0, value: 0 };
+    let written = Shown { number: 0x0a0b_0c0d, client: 2, value: 0x0102_0304 };
+    LogFrame::Read { client: 8, set: 0b101, shown: vec![initial, written] }
 }
 
 /// The bytes of a line without its 0a.
@@ -74,10 +62,7 @@ fn hex_takes_lowercase_digits_alone_and_an_even_number() {
 fn frames_have_the_bytes_of_the_paper() {
     assert_eq!(write().bytes(), WRITE);
     assert_eq!(read().bytes(), READ);
-    assert_eq!(
-        write().line(),
-        "200380000000000000020001020300000007fffefdfc\n"
-    );
+    assert_eq!(write().line(), "200380000000000000020001020300000007fffefdfc\n");
     assert_eq!(LogFrame::parse(WRITE), Ok(write()));
     assert_eq!(LogFrame::parse(READ), Ok(read()));
 }
@@ -106,23 +91,14 @@ fn other_kinds_are_refused() {
 #[test]
 fn parsing_leaves_clients_sets_and_numbers_to_the_judge() {
     let frames = [
-        LogFrame::Write {
-            client: 0,
-            set: 0,
-            number: 0,
-            values: vec![],
-        },
+        LogFrame::Write { client: 0, set: 0, number: 0, values: vec![] },
         LogFrame::Write {
             client: 255,
             set: u64::MAX,
             number: u32::MAX,
             values: vec![u32::MAX; 64],
         },
-        LogFrame::Read {
-            client: 9,
-            set: 0,
-            shown: vec![],
-        },
+        LogFrame::Read { client: 9, set: 0, shown: vec![] },
     ];
     let lengths = [14, 270, 10];
     for (frame, length) in frames.into_iter().zip(lengths) {

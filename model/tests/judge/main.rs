@@ -1,4 +1,5 @@
-//! The model's judge held against document 01: hand-worked logs, frames byte for byte, and wrong judges that are told apart.
+//! The model's judge held against document 01: hand-worked logs, frames byte for byte, and wrong
+//! judges that are told apart.
 
 mod counted;
 mod examples;

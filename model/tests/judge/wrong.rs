@@ -58,14 +58,12 @@ fn made_up_line_is_caught() {
 #[test]
 fn own_writes_counted_below_the_read_are_caught() {
     fn anywhere(log: &[LogFrame], place: usize) -> Option<String> {
-        let own = log
-            .iter()
-            .filter(|frame| frame.client() == log[place].client());
+        let own = log.iter().filter(|frame| frame.client() == log[place].client());
         let own: Vec<_> = own.flat_map(LogFrame::written).collect();
-        let fault = log[place].shown().iter().any(|entry| {
-            own.iter()
-                .any(|own| own.item == entry.item && entry.stamp < own.stamp)
-        });
+        let fault = log[place]
+            .shown()
+            .iter()
+            .any(|entry| own.iter().any(|own| own.item == entry.item && entry.stamp < own.stamp));
         fault.then(String::new)
     }
     let wrong = judge_with([unwritten, fractured, anywhere]);
@@ -162,9 +160,7 @@ fn writes_of_any_client_counted_as_own_are_caught() {
     fn of_any_client(log: &[LogFrame], place: usize) -> Option<String> {
         let above: Vec<_> = log[..place].iter().flat_map(LogFrame::written).collect();
         let fault = log[place].shown().iter().any(|entry| {
-            above
-                .iter()
-                .any(|write| write.item == entry.item && entry.stamp < write.stamp)
+            above.iter().any(|write| write.item == entry.item && entry.stamp < write.stamp)
         });
         fault.then(String::new)
     }
@@ -174,12 +170,8 @@ fn writes_of_any_client_counted_as_own_are_caught() {
 
 #[test]
 fn findings_in_another_order_are_caught() {
-    let later_first = |log: &[u8]| {
-        judge_by(
-            &[(1, unwritten), (3, own_write_missed), (2, fractured)],
-            log,
-        )
-    };
+    let later_first =
+        |log: &[u8]| judge_by(&[(1, unwritten), (3, own_write_missed), (2, fractured)], log);
     assert_caught(&later_first, "fractured and missed on one line");
 }
 
@@ -188,9 +180,7 @@ fn lowest_finding_of_the_whole_log_is_caught() {
     let lowest = |log: &[u8]| {
         let findings: [(u8, Finding); 3] = [(1, unwritten), (2, fractured), (3, own_write_missed)];
         let verdicts = findings.map(|finding| judge_by(&[finding], log));
-        let fault = verdicts
-            .into_iter()
-            .find(|verdict| *verdict != Verdict::CLEAN);
+        let fault = verdicts.into_iter().find(|verdict| *verdict != Verdict::CLEAN);
         fault.unwrap_or(Verdict::CLEAN)
     };
     assert_caught(&lowest, "missed above unwritten");

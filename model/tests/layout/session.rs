@@ -20,8 +20,8 @@ fn assert_words(store: &Store, rows: &[(usize, &[u64])]) {
     assert_eq!(decode(&words).as_ref(), Some(&store.tables));
 }
 
-/// Document 01's session up to its first read's end, on three items so that each section has words that stay 0.
-/// Stamp (1, client 1) is 17.
+/// Document 01's session up to its first read's end, on three items so that each section has words
+/// that stay 0. Stamp (1, client 1) is 17.
 #[test]
 fn the_words_of_the_session() {
     let mut store = Store::new();
@@ -32,12 +32,7 @@ fn the_words_of_the_session() {
     let prepares: [u64; 16] = [1, 0, 0, 7, 17, 3, 0, 0, 1, 0, 1, 8, 17, 3, 0, 0];
     assert_words(
         &store,
-        &[
-            (0, &[2, 2, 3, 0, 2]),
-            (16, &[2, 1, 3, 3, 17]),
-            (1744, &[7, 8]),
-            (5328, &prepares),
-        ],
+        &[(0, &[2, 2, 3, 0, 2]), (16, &[2, 1, 3, 3, 17]), (1744, &[7, 8]), (5328, &prepares)],
     );
 
     store.deliver(0);
@@ -73,24 +68,15 @@ fn the_words_of_the_session() {
     store.deliver(1);
     let get: [u64; 8] = [4, 2, 1, 0, 0, 0, 0, 0];
     let got: [u64; 8] = [5, 2, 0, 0, 0, 0, 17, 3];
-    let reading: [(usize, &[u64]); 5] = [
-        (0, &[2, 2, 3, 2, 3]),
-        (24, &[1, 0, 3, 3]),
-        (5328, &commit),
-        (5336, &get),
-        (5344, &got),
-    ];
+    let reading: [(usize, &[u64]); 5] =
+        [(0, &[2, 2, 3, 2, 3]), (24, &[1, 0, 3, 3]), (5328, &commit), (5336, &get), (5344, &got)];
     assert_words(&store, &[&written[..], &reading].concat());
 
     store.deliver(1);
     store.deliver(1);
     store.deliver(1);
-    let read: [(usize, &[u64]); 4] = [
-        (0, &[2, 2, 3, 2, 1]),
-        (24, &[0, 0, 0, 0, 0, 1, 3]),
-        (336, &[17, 3]),
-        (5328, &commit),
-    ];
+    let read: [(usize, &[u64]); 4] =
+        [(0, &[2, 2, 3, 2, 1]), (24, &[0, 0, 0, 0, 0, 1, 3]), (336, &[17, 3]), (5328, &commit)];
     assert_words(&store, &[&written[..], &read].concat());
 
     store.start_read(2, 0b110);

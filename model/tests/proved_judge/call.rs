@@ -1,4 +1,5 @@
-//! The exported call. Its logs are more than 50,000: 45,360 small ones and 40,000 random ones alone.
+//! The exported call. Its logs are more than 50,000: 45,360 small ones and 40,000 random ones
+//! alone.
 
 use koolvent_model::judge::generate::{every_small_log, random_log, random_long_log, spoil};
 use koolvent_model::judge::{examples, judge, Verdict};
@@ -56,12 +57,7 @@ const FINDINGS: [Sort; 3] = [Sort::Finding(1), Sort::Finding(2), Sort::Finding(3
 #[test]
 fn examples_worked_out_by_hand() {
     for example in examples::all() {
-        assert_eq!(
-            agreed(&example.log).text(),
-            example.verdict,
-            "{}",
-            example.name
-        );
+        assert_eq!(agreed(&example.log).text(), example.verdict, "{}", example.name);
     }
 }
 
@@ -167,9 +163,7 @@ fn noise() {
     for _ in 0..5_000 {
         let length = random.below(200);
         let any: Vec<u8> = (0..length).map(|_| random.below(256) as u8).collect();
-        let digits: Vec<u8> = (0..length)
-            .map(|_| b"012\n"[random.below(4) as usize])
-            .collect();
+        let digits: Vec<u8> = (0..length).map(|_| b"012\n"[random.below(4) as usize]).collect();
         agreed(&any);
         agreed(&digits);
     }

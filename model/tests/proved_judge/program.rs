@@ -61,10 +61,7 @@ fn random_and_spoiled_logs() {
         agreed(&log, 1 + random.below(500) as usize);
     }
     for _ in 0..50 {
-        agreed(
-            &random_long_log(&mut random),
-            1 + random.below(8_000) as usize,
-        );
+        agreed(&random_long_log(&mut random), 1 + random.below(8_000) as usize);
     }
 }
 
@@ -81,8 +78,6 @@ fn inputs_of_any_length() {
 #[test]
 fn a_failed_read_gives_no_verdict() {
     let folder = File::open(env!("CARGO_MANIFEST_DIR")).expect("the package's folder");
-    let output = start(folder.into())
-        .wait_with_output()
-        .expect("the program's output");
+    let output = start(folder.into()).wait_with_output().expect("the program's output");
     assert_eq!(output.stdout, b"");
 }

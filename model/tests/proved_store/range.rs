@@ -1,5 +1,5 @@
-//! Refusal 1 held against the model's 'in range' of what the words encode: every field with ten numbers each, and
-//! words at random, more than 300,000 damages in all.
+//! Refusal 1 held against the model's 'in range' of what the words encode: every field with ten
+//! numbers each, and words at random, more than 300,000 damages in all.
 
 use koolvent_model::block::Calls;
 use koolvent_model::layout::Sort as Field;
@@ -95,10 +95,9 @@ fn every_field_of_crowded_blocks() {
 
 #[test]
 fn words_at_random() {
-    for (sort, seeds, times) in [
-        (Sort::Small, 330_000..330_200, 20_000),
-        (Sort::AnySize, 340_000..340_200, 20_000),
-    ] {
+    for (sort, seeds, times) in
+        [(Sort::Small, 330_000..330_200, 20_000), (Sort::AnySize, 340_000..340_200, 20_000)]
+    {
         let judged = judged(sort, seeds, |busy, random, judged| {
             random_words(&valid, busy, 250, random, judged)
         });

@@ -32,11 +32,7 @@ impl Talk {
                 }
             }
         });
-        Talk {
-            program,
-            to,
-            answers,
-        }
+        Talk { program, to, answers }
     }
 
     fn say(&mut self, bytes: &[u8]) {
@@ -59,9 +55,7 @@ impl Talk {
         let status = status.expect("a process that runs");
         let line = status.lines().find(|line| line.starts_with("VmHWM:"));
         let number = line.and_then(|line| line.split_whitespace().nth(1));
-        number
-            .and_then(|number| number.parse().ok())
-            .expect("a number")
+        number.and_then(|number| number.parse().ok()).expect("a number")
     }
 }
 
@@ -101,11 +95,7 @@ fn a_line_then_its_answer_then_the_next() {
     for line in LINES {
         let line = format!("{line}\n");
         talk.say(line.as_bytes());
-        assert_eq!(
-            talk.answer(),
-            answer_line(&mut model, line.as_bytes()),
-            "{line}"
-        );
+        assert_eq!(talk.answer(), answer_line(&mut model, line.as_bytes()), "{line}");
     }
     assert!(talk.is_silent());
 }
@@ -117,11 +107,7 @@ fn several_lines_at_once_have_all_their_answers() {
     talk.say((LINES.join("\n") + "\n").as_bytes());
     for line in LINES {
         let line = format!("{line}\n");
-        assert_eq!(
-            talk.answer(),
-            answer_line(&mut model, line.as_bytes()),
-            "{line}"
-        );
+        assert_eq!(talk.answer(), answer_line(&mut model, line.as_bytes()), "{line}");
     }
 }
 
@@ -153,9 +139,6 @@ fn a_line_of_many_megabytes_takes_no_more_memory() {
         talk.say(&[b'0'; 1 << 20]);
     }
     talk.say(b"\n02010000000000000003\n");
-    assert_eq!(
-        (talk.answer(), talk.answer()),
-        ("0f".into(), "000002".into())
-    );
+    assert_eq!((talk.answer(), talk.answer()), ("0f".into(), "000002".into()));
     assert!(talk.most_memory() < before + 1_024);
 }

@@ -24,18 +24,10 @@ fn a_start_gives_the_message_list_length() {
 
 #[test]
 fn a_delivery_gives_kind_length_and_outcome() {
-    let answer = Answer::Delivered {
-        kind: 5,
-        messages: 0x0102,
-        outcome: READ_ENDED,
-    };
+    let answer = Answer::Delivered { kind: 5, messages: 0x0102, outcome: READ_ENDED };
     assert_eq!(answer.bytes(&[]), [0, 5, 1, 2, 1]);
     assert_eq!(answer.number(), 0x01_0102_0500);
-    let answer = Answer::Delivered {
-        kind: 2,
-        messages: 1,
-        outcome: WRITE_ENDED,
-    };
+    let answer = Answer::Delivered { kind: 2, messages: 1, outcome: WRITE_ENDED };
     assert_eq!(answer.bytes(&[]), [0, 2, 0, 1, 2]);
     assert_eq!(answer.number(), 0x02_0001_0200);
 }
@@ -51,20 +43,13 @@ fn a_showing_gives_the_frame_and_its_length() {
 #[test]
 fn a_number_is_an_answer_only_to_a_call_that_can_give_it() {
     let delivery = Call::Deliver { place: 0 };
-    let delivered = Answer::Delivered {
-        kind: 5,
-        messages: 0x0102,
-        outcome: READ_ENDED,
-    };
+    let delivered = Answer::Delivered { kind: 5, messages: 0x0102, outcome: READ_ENDED };
     assert_eq!(Answer::of(&delivery, 0x01_0102_0500), Some(delivered));
     assert_eq!(Answer::of(&delivery, 1 << 40), None);
     assert_eq!(Answer::of(&delivery, 10), Some(Answer::Refused(10)));
     assert_eq!(Answer::of(&delivery, 15), None);
     assert_eq!(Answer::of(&delivery, 0x010a), None);
     let read = Call::Read { client: 1, set: 1 };
-    assert_eq!(
-        Answer::of(&read, 0x8000),
-        Some(Answer::Started { messages: 128 })
-    );
+    assert_eq!(Answer::of(&read, 0x8000), Some(Answer::Started { messages: 128 }));
     assert_eq!(Answer::of(&read, 1 << 24), None);
 }

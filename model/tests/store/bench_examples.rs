@@ -19,11 +19,7 @@ fn fresh_of_the_largest_sizes_is_accepted_and_of_nine_clients_is_2() {
 /// Fresh tables with so many gets in flight.
 fn tables_with_load(load: usize) -> Tables {
     let mut tables = tables(2, 2, 2);
-    let get = Message::Get {
-        client: 2,
-        item: 0,
-        stamp: Stamp::INITIAL,
-    };
+    let get = Message::Get { client: 2, item: 0, stamp: Stamp::INITIAL };
     tables.messages = vec![get; load];
     tables
 }
@@ -39,10 +35,7 @@ fn starts_of_two(tables: &Tables) -> [Answer; 2] {
 fn at_load_126_two_items_are_accepted_and_at_127_they_are_8() {
     let accepted = Answer::Started { messages: 128 };
     assert_eq!(starts_of_two(&tables_with_load(126)), [accepted; 2]);
-    assert_eq!(
-        starts_of_two(&tables_with_load(127)),
-        [Answer::Refused(8); 2]
-    );
+    assert_eq!(starts_of_two(&tables_with_load(127)), [Answer::Refused(8); 2]);
 }
 
 #[test]

@@ -1,4 +1,5 @@
-//! The store's model held against document 01: its session, examples, steps, refusals and condition 3.
+//! The store's model held against document 01: its session, examples, steps, refusals and condition
+//! 3.
 
 mod answers;
 mod bench_examples;

@@ -39,14 +39,7 @@ fn every_good_frame_is_parsed() {
     }
     let set = 3;
     let values = vec![0, 0, 0, 7, 0, 0, 0, 8];
-    assert_eq!(
-        parsed(GOOD[2].as_bytes()),
-        Some(Call::Write {
-            client: 1,
-            set,
-            values
-        })
-    );
+    assert_eq!(parsed(GOOD[2].as_bytes()), Some(Call::Write { client: 1, set, values }));
 }
 
 #[test]
@@ -55,11 +48,7 @@ fn every_truncation_of_a_good_frame_is_malformed_unless_shorter_by_whole_values(
         for length in 0..frame.len() {
             let shorter = &frame.as_bytes()[..length];
             let whole_values = frame.starts_with("03") && length >= 20 && length % 8 == 4;
-            assert_eq!(
-                parsed(shorter).is_some(),
-                whole_values,
-                "{length} of {frame}"
-            );
+            assert_eq!(parsed(shorter).is_some(), whole_values, "{length} of {frame}");
         }
     }
 }

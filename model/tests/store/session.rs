@@ -22,19 +22,13 @@ pub const SESSION: [(&str, &str); 19] = [
     ("040001", "0004000300"),
     ("040001", "0005000200"),
     ("040001", "0005000101"),
-    (
-        "0502",
-        "0021020000000000000003000000000000000000000000000000000000",
-    ),
+    ("0502", "0021020000000000000003000000000000000000000000000000000000"),
     ("02020000000000000003", "000003"),
     ("040001", "0004000300"),
     ("040001", "0004000300"),
     ("040001", "0005000200"),
     ("040001", "0005000101"),
-    (
-        "0502",
-        "0021020000000000000003000000010100000007000000010100000008",
-    ),
+    ("0502", "0021020000000000000003000000010100000007000000010100000008"),
 ];
 
 /// The session as a list of calls, each with what the paper has for an answer.
@@ -54,11 +48,7 @@ pub fn session() -> Vec<Event> {
             }
             _ => number(&bytes[1..]) << 8,
         };
-        Event {
-            call,
-            answer,
-            output,
-        }
+        Event { call, answer, output }
     };
     SESSION.iter().map(event).collect()
 }
@@ -85,10 +75,7 @@ fn the_second_read_shows_item_1_while_its_commit_is_still_in_flight() {
     for (line, _) in SESSION {
         answer_line(&mut store, format!("{line}\n").as_bytes());
     }
-    let commit = Message::Commit {
-        partition: 1,
-        stamp: Stamp::new(1, 1),
-    };
+    let commit = Message::Commit { partition: 1, stamp: Stamp::new(1, 1) };
     let tables = &store.tables;
     assert_eq!(tables.messages, [commit]);
     assert_eq!(tables.client(2).last.set, set_of(&[0, 1]));

@@ -131,9 +131,8 @@ impl Calls for Wrong {
         };
         let before = block.to_vec();
         let stored = places::version(9);
-        let answer = self.made(block, |block| {
-            MODEL.fresh(block, size(clients), size(partitions), size(items))
-        });
+        let answer = self
+            .made(block, |block| MODEL.fresh(block, size(clients), size(partitions), size(items)));
         match self {
             Wrong::FreshLeavesAWord if answer == 0 => block[stored] = before[stored],
             Wrong::FreshPastTheEnd if answer == 0 => block[NEEDED..].fill(0),

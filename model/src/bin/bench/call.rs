@@ -1,4 +1,5 @@
-//! One call: the proved store, the model on the same block, the model on tables of its own, and the floor.
+//! One call: the proved store, the model on the same block, the model on tables of its own, and the
+//! floor.
 
 use crate::block::Lent;
 use crate::cases::Case;
@@ -21,7 +22,8 @@ pub struct Row {
     pub model: Figure,
     /// The model on tables that it has already: it checks and makes the step.
     pub tables: Figure,
-    /// One plain pass over the words in use; at a fresh start one plain filling of the needed words.
+    /// One plain pass over the words in use; at a fresh start one plain filling of the needed
+    /// words.
     pub floor: Figure,
     pub models: Figure,
     pub models_on_tables: Figure,
@@ -52,12 +54,7 @@ pub fn rows(cases: &[Case]) -> Vec<Row> {
 }
 
 fn contenders(case: &Case) -> [Contender<'_>; CONTENDERS] {
-    [
-        on_block(Proved, case),
-        on_block(Modelled::default(), case),
-        on_tables(case),
-        floor(case),
-    ]
+    [on_block(Proved, case), on_block(Modelled::default(), case), on_tables(case), floor(case)]
 }
 
 /// Makes the call on the lent block.
@@ -76,7 +73,8 @@ fn assert_alike(case: &Case) {
     assert_eq!(store.output, model.output, "{}", case.name);
 }
 
-/// The block, ready for the call over and over. What a fresh start costs doesn't depend on what the block held.
+/// The block, ready for the call over and over. What a fresh start costs doesn't depend on what the
+/// block held.
 fn lent(case: &Case) -> Lent {
     let mut once = Lent::new(&case.block, &case.block);
     if !matches!(case.call, Call::Fresh { .. }) {

@@ -19,17 +19,8 @@ fn case(name: &'static str, session: &Session, call: Call) -> Case {
 }
 
 fn fresh(session: &Session) -> Case {
-    let Sizes {
-        clients,
-        partitions,
-        items,
-    } = session.tables().sizes;
-    let call = Call::Fresh {
-        long_enough: true,
-        clients,
-        partitions,
-        items,
-    };
+    let Sizes { clients, partitions, items } = session.tables().sizes;
+    let call = Call::Fresh { long_enough: true, clients, partitions, items };
     case("fresh", session, call)
 }
 
@@ -47,11 +38,7 @@ fn check(name: &'static str, session: &Session) -> Case {
 }
 
 fn write(session: &Session, client: u64) -> Case {
-    let call = Call::Write {
-        client,
-        set: SHEET,
-        values: some_values(SHEET),
-    };
+    let call = Call::Write { client, set: SHEET, values: some_values(SHEET) };
     case("start a write of 4 items", session, call)
 }
 
@@ -65,14 +52,12 @@ fn show(name: &'static str, session: &Session, client: u64) -> Case {
     case(name, session, Call::Show { client, output })
 }
 
-/// Two clients, two partitions, four items: each call where the session of a write and a read of all items makes it.
+/// Two clients, two partitions, four items: each call where the session of a write and a read of
+/// all items makes it.
 pub fn small() -> Vec<Case> {
     let mut session = Session::fresh(2, 2, 4);
-    let mut cases = vec![
-        fresh(&session),
-        check(CHECK_OF_A_FRESH_SHEET, &session),
-        write(&session, 1),
-    ];
+    let mut cases =
+        vec![fresh(&session), check(CHECK_OF_A_FRESH_SHEET, &session), write(&session, 1)];
     session.start_write(1, SHEET);
     cases.push(deliver("deliver a prepare", &session, PREPARE, 1));
     session.deliver(PREPARE, 1, 4);
@@ -95,7 +80,8 @@ pub fn small() -> Vec<Case> {
     cases
 }
 
-/// Eight clients, eight partitions, 64 items, 500 stored versions, 120 messages: one block for all calls.
+/// Eight clients, eight partitions, 64 items, 500 stored versions, 120 messages: one block for all
+/// calls.
 pub fn busy() -> Vec<Case> {
     let session = busy_session();
     let tables = session.tables();
@@ -116,8 +102,9 @@ pub fn busy() -> Vec<Case> {
     ]
 }
 
-/// Every client has written 60 items and read all 64. Then writes by 2 and 3 whose 15 commits lie in the pile, writes by
-/// 4, 5 and 6 under way with 4 and 1 prepared replies and 4 prepares, and reads by 3, 7 and 8 with 63 gets and 33 gots.
+/// Every client has written 60 items and read all 64. Then writes by 2 and 3 whose 15 commits lie
+/// in the pile, writes by 4, 5 and 6 under way with 4 and 1 prepared replies and 4 prepares, and
+/// reads by 3, 7 and 8 with 63 gets and 33 gots.
 fn busy_session() -> Session {
     let mut session = Session::fresh(8, 8, 64);
     for client in 1..=8 {

@@ -1,14 +1,14 @@
-//! Times in nanoseconds: batches that are long for the clock, rounds that interleave all contenders, and of these the
-//! quickest and the median.
+//! Times in nanoseconds: batches that are long for the clock, rounds that interleave all
+//! contenders, and of these the quickest and the median.
 
 use std::time::{Duration, Instant};
 
-/// How long all contenders are run, untimed, before their first round: caches, branch predictors and the processor's
-/// clock are steady by then.
+/// How long all contenders are run, untimed, before their first round: caches, branch predictors
+/// and the processor's clock are steady by then.
 const WARM_UP: Duration = Duration::from_secs(2);
 
-/// How long a batch lasts, some thousand times what the clock costs. A step goes before each, untimed: others had
-/// their turn since the last, and the caches are theirs.
+/// How long a batch lasts, some thousand times what the clock costs. A step goes before each,
+/// untimed: others had their turn since the last, and the caches are theirs.
 const BATCH: Duration = Duration::from_micros(50);
 const MOST_STEPS: usize = 2_000;
 
@@ -35,10 +35,7 @@ pub fn steps<'a>(mut step: impl FnMut() + 'a) -> Contender<'a> {
     let steps = steps_of_a_batch(&mut step);
     Box::new(move || {
         step();
-        Sample {
-            step: per_step(steps, &mut step),
-            off: 0.0,
-        }
+        Sample { step: per_step(steps, &mut step), off: 0.0 }
     })
 }
 
@@ -59,14 +56,12 @@ pub fn steps_undone<'a, State: 'a>(
             step(&mut state);
             undo(&mut state);
         });
-        Sample {
-            step: both,
-            off: per_step(steps, || undo(&mut state)),
-        }
+        Sample { step: both, off: per_step(steps, || undo(&mut state)) }
     })
 }
 
-/// The step alone, timed one by one because preparing it takes longer than itself; less what the clock costs.
+/// The step alone, timed one by one because preparing it takes longer than itself; less what the
+/// clock costs.
 pub fn steps_prepared<'a, State: 'a>(
     mut state: State,
     prepare: impl Fn(&mut State) + 'a,
@@ -116,8 +111,8 @@ impl Rounds {
         Rounds { samples }
     }
 
-    /// The time of one contender. Of its quickest round each part is the quickest, since the difference of two times of
-    /// one round is small also where what is taken off was disturbed.
+    /// The time of one contender. Of its quickest round each part is the quickest, since the
+    /// difference of two times of one round is small also where what is taken off was disturbed.
     pub fn time(&self, contender: usize) -> Figure {
         let samples = &self.samples[contender];
         let least = |part: fn(&Sample) -> f64| samples.iter().map(part).fold(f64::MAX, f64::min);
@@ -127,8 +122,8 @@ impl Rounds {
         }
     }
 
-    /// How many times the other's time one's is. The median is that of the rounds' ratios: a machine that is slower for
-    /// a while is slower for both.
+    /// How many times the other's time one's is. The median is that of the rounds' ratios: a
+    /// machine that is slower for a while is slower for both.
     pub fn ratio(&self, one: usize, other: usize) -> Figure {
         let both = self.times(one).into_iter().zip(self.times(other));
         Figure {

@@ -13,12 +13,13 @@ pub struct Limit {
     pub met: Option<bool>,
 }
 
-/// On the busy block the check alone is at most so many floors, a call so many floors and so many times the model.
+/// On the busy block the check alone is at most so many floors, a call so many floors and so many
+/// times the model.
 const CHECK_FLOORS: f64 = 2.8;
 const FLOORS: f64 = 3.5;
 const MODELS: f64 = 1.0;
-/// Floors of the check of a fresh small sheet before stamps were gathered (on an AMD EPYC, quickest round), and how many
-/// times as many it may take.
+/// Floors of the check of a fresh small sheet before stamps were gathered (on an AMD EPYC, quickest
+/// round), and how many times as many it may take.
 const FRESH_SHEET_WAS: f64 = 3.34;
 const FRESH_SHEET: f64 = 1.1;
 /// A write and a read on a fresh small sheet are so many times faster than SQLite.
@@ -103,19 +104,12 @@ fn at_most(limit: String, found: Figure, most: f64) -> Limit {
 /// The call with the greatest ratio, and how many are over the limit.
 fn worst(limit: String, rows: &[Row], of: impl Fn(&Row) -> Figure, most: f64) -> Limit {
     let worst = |part: fn(Figure) -> f64| {
-        let greatest = rows
-            .iter()
-            .max_by(|a, b| part(of(a)).total_cmp(&part(of(b))));
+        let greatest = rows.iter().max_by(|a, b| part(of(a)).total_cmp(&part(of(b))));
         let greatest = greatest.expect("a call");
         let over = rows.iter().filter(|row| part(of(row)) > most).count();
         let (found, name, all) = (ratio(part(of(greatest))), greatest.name, rows.len());
         (format!("{found} ({name}); {over} of {all} over"), over)
     };
     let (quickest, over) = worst(|figure| figure.quickest);
-    Limit {
-        limit,
-        quickest,
-        median: worst(|figure| figure.median).0,
-        met: Some(over == 0),
-    }
+    Limit { limit, quickest, median: worst(|figure| figure.median).0, met: Some(over == 0) }
 }

@@ -1,5 +1,6 @@
-//! `make bench`: times the proved code beside the model, beside one plain pass over the same words, and beside SQLite in
-//! memory, in one run. It prints what it finds, and writes docs/performance.svg and docs/PERFORMANCE.md.
+//! `make bench`: times the proved code beside the model, beside one plain pass over the same words,
+//! and beside SQLite in memory, in one run. It prints what it finds, and writes
+//! docs/performance.svg and docs/PERFORMANCE.md.
 
 mod block;
 mod call;

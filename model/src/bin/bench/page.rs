@@ -45,10 +45,7 @@ fn ratios(figure: Figure) -> String {
 /// The whole page.
 pub fn page(measured: &Measured) -> String {
     let tables = [
-        calls_table(
-            "The small sheet: 2 clients, 2 partitions, 4 items",
-            &measured.small,
-        ),
+        calls_table("The small sheet: 2 clients, 2 partitions, 4 items", &measured.small),
         calls_table(
             "The busy block: 8 clients, 8 partitions, 64 items, 500 versions, 120 messages",
             &measured.busy,
@@ -75,10 +72,7 @@ fn limits_table(measured: &Measured) -> String {
             Some(false) => "missed",
             None => "not measured",
         };
-        line(
-            &mut text,
-            &[&limit.limit, &limit.quickest, &limit.median, met],
-        );
+        line(&mut text, &[&limit.limit, &limit.quickest, &limit.median, met]);
     }
     text
 }
@@ -103,13 +97,10 @@ fn cannot(measured: &Measured) -> String {
         sqlite.time.quickest / passes,
         sqlite.times.quickest,
     );
-    let slower = measured
-        .sheet
-        .iter()
-        .find(|row| match (row.floor, row.sqlite) {
-            (Some(floor), Some(sqlite)) => floor.time.quickest > sqlite.time.quickest,
-            _ => false,
-        });
+    let slower = measured.sheet.iter().find(|row| match (row.floor, row.sqlite) {
+        (Some(floor), Some(sqlite)) => floor.time.quickest > sqlite.time.quickest,
+        _ => false,
+    });
     if let (Some(slower), Some(sqlite)) = (slower, life.sqlite) {
         let (versions, faster) = (slower.versions, sqlite.times.quickest);
         write!(
@@ -142,9 +133,7 @@ fn calls_table(title: &str, rows: &[call::Row]) -> String {
             [row.models, row.models_on_tables, row.floors].map(ratios);
         line(
             &mut text,
-            &[
-                row.name, &store, &model, &tables, &floor, &to_model, &to_tables, &to_floor,
-            ],
+            &[row.name, &store, &model, &tables, &floor, &to_model, &to_tables, &to_floor],
         );
     }
     text
@@ -165,21 +154,13 @@ fn sheets_table(rows: &[sheet::Row]) -> String {
     let mut text = format!("## {title}\n\n") + &heading(&head, "|---|--:|--:|--:|--:|--:|--:|");
     let beside = |beside: Option<sheet::Beside>, none: &str| {
         let time = beside.map_or(none.to_owned(), |beside| times(beside.time));
-        (
-            time,
-            beside.map_or(String::new(), |beside| ratios(beside.times)),
-        )
+        (time, beside.map_or(String::new(), |beside| ratios(beside.times)))
     };
     for row in rows {
         let (floor, to_floor) = beside(row.floor, "not measured");
         let (sqlite, to_store) = beside(row.sqlite, "not installed");
         let [store, model] = [row.store, row.model].map(times);
-        line(
-            &mut text,
-            &[
-                &row.name, &store, &model, &floor, &sqlite, &to_floor, &to_store,
-            ],
-        );
+        line(&mut text, &[&row.name, &store, &model, &floor, &sqlite, &to_floor, &to_store]);
     }
     text
 }

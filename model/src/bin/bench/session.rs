@@ -26,9 +26,7 @@ pub fn first_items(count: u64) -> u64 {
 
 /// Value bytes for the items of a set.
 pub fn some_values(set: u64) -> Vec<u8> {
-    (0..set.count_ones())
-        .flat_map(|place| (1_000_000 * (place + 1)).to_be_bytes())
-        .collect()
+    (0..set.count_ones()).flat_map(|place| (1_000_000 * (place + 1)).to_be_bytes()).collect()
 }
 
 impl Session {

@@ -1,5 +1,5 @@
-//! A transaction each way on the small sheet: client 1 writes its four items, client 2 reads them, all messages are
-//! delivered in turn, both are shown.
+//! A transaction each way on the small sheet: client 1 writes its four items, client 2 reads them,
+//! all messages are delivered in turn, both are shown.
 
 use crate::block::Lent;
 use crate::clock::{steps, steps_undone, Contender, Figure, Rounds};
@@ -66,11 +66,7 @@ fn on_sheets(versions: &[u64]) -> Vec<Row> {
     let of_one = |versions: &u64| {
         let block = sheet_with(*versions);
         assert_alike(&block);
-        beside(vec![
-            once(Proved, &block),
-            once(Modelled::default(), &block),
-            passes(&block),
-        ])
+        beside(vec![once(Proved, &block), once(Modelled::default(), &block), passes(&block)])
     };
     let of_each: Vec<Vec<Contender>> = versions.iter().map(of_one).collect();
     let each = of_each.first().map_or(0, Vec::len);
@@ -98,18 +94,14 @@ fn beside<'a>(mut contenders: Vec<Contender<'a>>) -> Vec<Contender<'a>> {
     contenders
 }
 
-/// The row of the store, which is the contender at the place, the model behind it, the floor where there is one, and perhaps
-/// SQLite behind them all.
+/// The row of the store, which is the contender at the place, the model behind it, the floor where
+/// there is one, and perhaps SQLite behind them all.
 fn row(versions: u64, rounds: &Rounds, place: usize, floor: Option<usize>) -> Row {
     let last = floor.unwrap_or(place + 1) + 1;
-    let sqlite = cfg!(feature = "sqlite").then(|| Beside {
-        time: rounds.time(last),
-        times: rounds.ratio(last, place),
-    });
-    let floor = floor.map(|floor| Beside {
-        time: rounds.time(floor),
-        times: rounds.ratio(place, floor),
-    });
+    let sqlite = cfg!(feature = "sqlite")
+        .then(|| Beside { time: rounds.time(last), times: rounds.ratio(last, place) });
+    let floor =
+        floor.map(|floor| Beside { time: rounds.time(floor), times: rounds.ratio(place, floor) });
     Row {
         name: format!("on a sheet with {versions} stored versions"),
         versions,

@@ -61,18 +61,12 @@ fn writes_and_empty_reads(lines: u64, random: &mut Random) -> Vec<LogFrame> {
 }
 
 fn empty_read(client: u8, set: u64) -> LogFrame {
-    LogFrame::Read {
-        client,
-        set,
-        shown: Vec::new(),
-    }
+    LogFrame::Read { client, set, shown: Vec::new() }
 }
 
 /// A nonempty part of a nonempty set.
 fn subset(set: u64, random: &mut Random) -> u64 {
-    let part = (0..64)
-        .filter(|_| random.once_in(2))
-        .fold(0, |part, item| part | 1 << item);
+    let part = (0..64).filter(|_| random.once_in(2)).fold(0, |part, item| part | 1 << item);
     if set & part == 0 {
         set
     } else {
@@ -96,12 +90,7 @@ fn spoil_field(frames: &mut [LogFrame], random: &mut Random) {
     let place = random.place(frames.len());
     let bad_client = random.pick(&[0, 9, 255]);
     match &mut frames[place] {
-        LogFrame::Write {
-            client,
-            set,
-            number,
-            values,
-        } => match random.below(6) {
+        LogFrame::Write { client, set, number, values } => match random.below(6) {
             0 => *client = bad_client,
             1 => *client = 1 + random.below(8) as u8,
             2 => *number = random.pick(&[0, 1, 2, number.saturating_sub(1)]),

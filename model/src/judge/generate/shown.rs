@@ -3,11 +3,7 @@
 use crate::frames::log::{LogFrame, Shown};
 use crate::random::Random;
 
-const INITIAL: Shown = Shown {
-    number: 0,
-    client: 0,
-    value: 0,
-};
+const INITIAL: Shown = Shown { number: 0, client: 0, value: 0 };
 
 /// Entries for the read at this place; none if there is a write.
 pub fn random_entries(log: &[LogFrame], place: usize, random: &mut Random) -> Vec<Shown> {
@@ -49,9 +45,7 @@ fn some_frames<'a>(log: &'a [LogFrame], random: &mut Random) -> Vec<&'a LogFrame
 
 /// All that the client itself wrote above this place.
 fn own_frames(log: &[LogFrame], place: usize, client: u8) -> impl Iterator<Item = &LogFrame> {
-    log[..place]
-        .iter()
-        .filter(move |frame| frame.client() == client)
+    log[..place].iter().filter(move |frame| frame.client() == client)
 }
 
 /// The latest of the frames' entries for the item.
@@ -73,12 +67,7 @@ fn any_entry(log: &[LogFrame], item: u32, random: &mut Random) -> Shown {
 /// What a write leaves to be shown of the item.
 fn entry(frame: &LogFrame, item: u32) -> Option<Shown> {
     match frame {
-        LogFrame::Write {
-            client,
-            set,
-            number,
-            values,
-        } if set >> item & 1 == 1 => {
+        LogFrame::Write { client, set, number, values } if set >> item & 1 == 1 => {
             let smaller_items = set & ((1 << item) - 1);
             Some(Shown {
                 number: *number,

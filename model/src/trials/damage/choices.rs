@@ -20,12 +20,7 @@ impl Chooser<'_> {
             0 => greatest + 1,
             _ => self.random.between(1, greatest),
         };
-        Call::Fresh {
-            long_enough: true,
-            clients: size(8),
-            partitions: size(8),
-            items: size(64),
-        }
+        Call::Fresh { long_enough: true, clients: size(8), partitions: size(8), items: size(64) }
     }
 
     pub(super) fn read(&mut self) -> Call {
@@ -41,11 +36,7 @@ impl Chooser<'_> {
             0 => self.random.below(260),
             _ => 4 * size(set),
         };
-        Call::Write {
-            client,
-            set,
-            values: self.random.bytes(length as usize),
-        }
+        Call::Write { client, set, values: self.random.bytes(length as usize) }
     }
 
     /// The damaged message, or one of the damaged client's, or any.
@@ -77,21 +68,15 @@ impl Chooser<'_> {
             }
             false => 14,
         };
-        let room = self
-            .random
-            .pick(&[0, frame - 1, frame, frame, frame + 3, 600]);
-        Call::Show {
-            client,
-            output: self.random.bytes(room as usize),
-        }
+        let room = self.random.pick(&[0, frame - 1, frame, frame, frame + 3, 600]);
+        Call::Show { client, output: self.random.bytes(room as usize) }
     }
 
     /// Mostly the damaged client, or one that is idle.
     fn client(&mut self) -> u64 {
         let clients = self.tables.sizes.clients;
-        let idle: Vec<u64> = (1..=clients)
-            .filter(|client| self.tables.client(*client).mode == IDLE)
-            .collect();
+        let idle: Vec<u64> =
+            (1..=clients).filter(|client| self.tables.client(*client).mode == IDLE).collect();
         match places::client_at(self.damaged) {
             Some(client) if self.random.percent(50) => client as u64,
             _ if !idle.is_empty() && self.random.percent(90) => self.random.pick(&idle),

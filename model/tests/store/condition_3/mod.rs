@@ -42,21 +42,13 @@ fn breaks(clause: Clause, event: usize, change: impl FnOnce(&mut Vec<Event>)) {
 
 fn event(call: Call, answer: u64) -> Event {
     let output = call.output();
-    Event {
-        call,
-        answer,
-        output,
-    }
+    Event { call, answer, output }
 }
 
 #[test]
 fn a_write_and_its_read_keep_every_clause() {
-    let expected = Summary {
-        reads_ended: 1,
-        writes_ended: 1,
-        reads_shown: 1,
-        written_entries_shown: 2,
-    };
+    let expected =
+        Summary { reads_ended: 1, writes_ended: 1, reads_shown: 1, written_entries_shown: 2 };
     assert_eq!(check(&own_read()), Ok(expected));
 }
 

@@ -12,8 +12,8 @@ fn first_items(count: u32) -> u64 {
     u64::MAX >> (64 - count)
 }
 
-/// The largest tables, where client 3 has a running transaction of 64 items and still awaits item 0 alone, and so
-/// many gets lie in flight.
+/// The largest tables, where client 3 has a running transaction of 64 items and still awaits item 0
+/// alone, and so many gets lie in flight.
 fn with_replies_come(mode: u64, messages: usize) -> Tables {
     let mut tables = tables(8, 8, 64);
     *tables.client_mut(3) = Client {
@@ -24,11 +24,7 @@ fn with_replies_come(mode: u64, messages: usize) -> Tables {
         stamps: [Stamp::new(1, 3); 64],
         ..Client::INITIAL
     };
-    let get = Message::Get {
-        client: 3,
-        item: 5,
-        stamp: Stamp::INITIAL,
-    };
+    let get = Message::Get { client: 3, item: 5, stamp: Stamp::INITIAL };
     tables.messages = vec![get; messages];
     tables
 }
@@ -83,10 +79,7 @@ fn a_load_over_128_is_1() {
 #[test]
 fn the_last_prepared_reply_of_a_full_store_is_accepted_and_its_commits_fit() {
     let mut full = with_replies_come(WRITING, 64);
-    full.messages.push(Message::Prepared {
-        item: 0,
-        stamp: Stamp::new(1, 3),
-    });
+    full.messages.push(Message::Prepared { item: 0, stamp: Stamp::new(1, 3) });
     assert_eq!(full.load(), 128);
     let (answer, after, _) = made(&full, deliver(64));
     assert_eq!(answer.bytes(&[]), [0, 2, 0, 64 + 8, 2]);
@@ -136,11 +129,7 @@ fn over_512_versions_and_prepares_is_1() {
 #[test]
 fn the_load_is_looked_at_before_the_versions() {
     let mut full = with_versions(512, 0);
-    let get = Message::Get {
-        client: 1,
-        item: 0,
-        stamp: Stamp::INITIAL,
-    };
+    let get = Message::Get { client: 1, item: 0, stamp: Stamp::INITIAL };
     full.messages = vec![get; 128];
     refused(&full, 8, start_write(2, 1, &[0; 4]));
 }

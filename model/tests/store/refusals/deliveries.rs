@@ -6,12 +6,10 @@ use koolvent_model::stamp::{Entry, Stamp};
 use koolvent_model::store::message::Message;
 use koolvent_model::store::tables::{Client, Tables, IDLE, READING, WRITING};
 
-const STAMP: Stamp = Stamp {
-    number: 3,
-    client: 1,
-};
+const STAMP: Stamp = Stamp { number: 3, client: 1 };
 
-/// Client 1 in a mode with the set {0, 1} and one stamp for both items, awaiting item 0 unless idle.
+/// Client 1 in a mode with the set {0, 1} and one stamp for both items, awaiting item 0 unless
+/// idle.
 fn with_client(mode: u64) -> Tables {
     let mut tables = tables(2, 2, 3);
     let mut client = Client {
@@ -27,10 +25,7 @@ fn with_client(mode: u64) -> Tables {
 }
 
 fn with_message(mut tables: Tables, message: Message) -> Tables {
-    let other = Message::Commit {
-        partition: 0,
-        stamp: Stamp::new(1, 2),
-    };
+    let other = Message::Commit { partition: 0, stamp: Stamp::new(1, 2) };
     tables.messages = vec![other, message, other];
     tables
 }
@@ -40,13 +35,7 @@ fn prepared(item: u64, stamp: Stamp) -> Message {
 }
 
 fn got(client: u64, item: u64, stamp: Stamp) -> Message {
-    Message::Got {
-        client,
-        item,
-        value: 5,
-        stamp,
-        latest: Entry::INITIAL,
-    }
+    Message::Got { client, item, value: 5, stamp, latest: Entry::INITIAL }
 }
 
 #[test]
@@ -67,11 +56,7 @@ fn a_prepare_of_an_item_and_stamp_already_stored_is_11() {
     let prepare = |item, stamp| Message::Prepare(version(item, 2, stamp, &[0, 1]));
     let stored = with_message(tables.clone(), prepare(0, STAMP));
     refused(&stored, 11, deliver(1));
-    for fresh in [
-        prepare(1, STAMP),
-        prepare(0, Stamp::new(3, 2)),
-        prepare(0, Stamp::new(4, 1)),
-    ] {
+    for fresh in [prepare(1, STAMP), prepare(0, Stamp::new(3, 2)), prepare(0, Stamp::new(4, 1))] {
         let fresh = with_message(tables.clone(), fresh);
         accepted(&fresh, deliver(1));
     }
@@ -134,18 +119,10 @@ fn a_got_that_is_not_awaited_with_its_item_and_stamp_is_11() {
 
 #[test]
 fn a_get_of_a_version_that_is_not_stored_is_12() {
-    let get = |item, stamp| Message::Get {
-        client: 2,
-        item,
-        stamp,
-    };
+    let get = |item, stamp| Message::Get { client: 2, item, stamp };
     let mut tables = tables(2, 2, 3);
     tables.versions = vec![version(0, 1, STAMP, &[0, 1])];
-    for message in [
-        get(1, STAMP),
-        get(0, Stamp::new(3, 2)),
-        get(0, Stamp::new(2, 1)),
-    ] {
+    for message in [get(1, STAMP), get(0, Stamp::new(3, 2)), get(0, Stamp::new(2, 1))] {
         let tables = with_message(tables.clone(), message);
         refused(&tables, 12, deliver(1));
     }

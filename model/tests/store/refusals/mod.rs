@@ -1,4 +1,5 @@
-//! The refusal table: each refusal under its stated condition, in order, and leaving everything as it was.
+//! The refusal table: each refusal under its stated condition, in order, and leaving everything as
+//! it was.
 
 mod capacities;
 mod deliveries;

@@ -13,11 +13,7 @@ fn everything_amiss() -> Tables {
     tables.client_mut(1).mode = READING;
     tables.client_mut(1).set = 1;
     tables.client_mut(1).awaited = 1;
-    let get = Message::Get {
-        client: 1,
-        item: 0,
-        stamp: Stamp::INITIAL,
-    };
+    let get = Message::Get { client: 1, item: 0, stamp: Stamp::INITIAL };
     tables.messages = vec![get; 128];
     tables
 }
@@ -70,27 +66,16 @@ fn a_showing_is_tested_1_3_4_13_14() {
     refused(&tables, 4, show_in(1, &[]));
     let mut tables = idle(tables);
     refused(&tables, 13, show_in(1, &[]));
-    tables.client_mut(1).last = Ended {
-        kind: READ,
-        set: 1,
-        ..Ended::NONE
-    };
+    tables.client_mut(1).last = Ended { kind: READ, set: 1, ..Ended::NONE };
     refused(&tables, 14, show_in(1, &[]));
 }
 
 #[test]
 fn a_delivery_is_tested_1_10_and_then_by_kind() {
     let mut tables = everything_amiss();
-    tables.messages[0] = Message::Get {
-        client: 1,
-        item: 1,
-        stamp: Stamp::new(1, 1),
-    };
+    tables.messages[0] = Message::Get { client: 1, item: 1, stamp: Stamp::new(1, 1) };
     tables.messages[1] = Message::Prepare(tables.versions.pop().unwrap());
-    tables.messages[2] = Message::Prepared {
-        item: 0,
-        stamp: Stamp::new(1, 1),
-    };
+    tables.messages[2] = Message::Prepared { item: 0, stamp: Stamp::new(1, 1) };
     refused(&tables, 10, deliver(128));
     refused(&tables, 12, deliver(0));
     refused(&tables, 11, deliver(2));

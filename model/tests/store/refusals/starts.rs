@@ -12,12 +12,7 @@ const NOBODY: [u64; 5] = [0, 3, 9, 1 << 63, u64::MAX];
 /// Two clients, of which client 1 reads item 0.
 fn with_a_reader() -> Tables {
     let mut tables = tables(2, 2, 3);
-    *tables.client_mut(1) = Client {
-        mode: READING,
-        set: 1,
-        awaited: 1,
-        ..Client::INITIAL
-    };
+    *tables.client_mut(1) = Client { mode: READING, set: 1, awaited: 1, ..Client::INITIAL };
     tables
 }
 
@@ -123,12 +118,8 @@ fn a_showing_before_any_end_is_13() {
 fn a_showing_with_less_room_than_the_frame_is_14_and_leaves_the_output() {
     for (kind, length) in [(READ, 10 + 2 * 9), (WRITE, 14 + 2 * 4)] {
         let mut tables = tables(2, 2, 3);
-        tables.client_mut(1).last = Ended {
-            kind,
-            set: set_of(&[0, 2]),
-            stamp: Stamp::new(1, 1),
-            ..Ended::NONE
-        };
+        tables.client_mut(1).last =
+            Ended { kind, set: set_of(&[0, 2]), stamp: Stamp::new(1, 1), ..Ended::NONE };
         for short in [0, 1, length - 1] {
             refused(&tables, 14, show_in(1, &vec![0xee; short]));
         }

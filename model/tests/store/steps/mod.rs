@@ -12,21 +12,11 @@ use koolvent_model::store::message::Message;
 use koolvent_model::store::tables::{Client, Tables, WRITING};
 
 fn get(client: u64, item: u64, stamp: Stamp) -> Message {
-    Message::Get {
-        client,
-        item,
-        stamp,
-    }
+    Message::Get { client, item, stamp }
 }
 
 fn got(client: u64, item: u64, value: u64, stamp: Stamp, latest: Entry) -> Message {
-    Message::Got {
-        client,
-        item,
-        value,
-        stamp,
-        latest,
-    }
+    Message::Got { client, item, value, stamp, latest }
 }
 
 /// Delivers the only message of the tables and gives the tables after it.

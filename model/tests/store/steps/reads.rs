@@ -62,17 +62,10 @@ fn the_last_got_ends_the_read_and_leaves_its_client_no_set() {
     let mut before = tables(2, 2, 3);
     *before.client_mut(2) = reading(&[1]);
     let mut expected = before.clone();
-    let mut last = Ended {
-        kind: READ,
-        set: set_of(&[0, 1]),
-        ..Ended::NONE
-    };
+    let mut last = Ended { kind: READ, set: set_of(&[0, 1]), ..Ended::NONE };
     last.stamps[1] = Stamp::new(1, 1);
     last.values[1] = 9;
-    *expected.client_mut(2) = Client {
-        last,
-        ..Client::INITIAL
-    };
+    *expected.client_mut(2) = Client { last, ..Client::INITIAL };
     let reply = got(2, 1, 9, Stamp::new(1, 1), Entry::INITIAL);
     let (answer, after) = delivered(before, reply);
     assert_eq!(answer.bytes(&[]), [0, 5, 0, 0, 1]);
@@ -96,10 +89,7 @@ fn gets_and_commits_are_accepted_whatever_their_client_does() {
     for record in [Client::INITIAL, writing(&[0]), reading(&[1])] {
         let mut before = tables(2, 2, 3);
         *before.client_mut(1) = record;
-        let commit = Message::Commit {
-            partition: 0,
-            stamp: Stamp::new(1, 1),
-        };
+        let commit = Message::Commit { partition: 0, stamp: Stamp::new(1, 1) };
         for message in [commit, get(1, 2, Stamp::INITIAL)] {
             let (answer, after) = delivered(before.clone(), message);
             assert_eq!(answer.bytes(&[])[0], 0, "{message:?}");

@@ -102,10 +102,7 @@ fn a_write_start_sends_one_prepare_an_item_ascending_and_leaves_the_view() {
         Message::Prepare(version(0, 7, Stamp::new(1, 1), &[0, 2])),
         Message::Prepare(version(2, 8, Stamp::new(1, 1), &[0, 2])),
     ];
-    let (answer, after, _) = made(
-        &before,
-        start_write(1, set_of(&[0, 2]), &value_bytes(&[7, 8])),
-    );
+    let (answer, after, _) = made(&before, start_write(1, set_of(&[0, 2]), &value_bytes(&[7, 8])));
     assert_eq!(answer, Answer::Started { messages: 2 });
     assert_eq!(after, expected);
 }

@@ -6,8 +6,8 @@ use koolvent_model::stamp::{Entry, Stamp};
 use koolvent_model::store::tables::{Sizes, Tables, Version};
 use koolvent_model::store::Store;
 
-/// The answer to a call on these tables, the tables after it, and its output. Where the proved library is at hand, it
-/// gives the same on the block of these tables.
+/// The answer to a call on these tables, the tables after it, and its output. Where the proved
+/// library is at hand, it gives the same on the block of these tables.
 pub fn made(before: &Tables, call: Call) -> (Answer, Tables, Vec<u8>) {
     let mut store = Store::with_tables(before.clone());
     let (answer, event) = store.make(call);
@@ -42,10 +42,7 @@ mod proved {
 
 /// Makes the calls one after another.
 pub fn make_all(store: &mut Store, calls: &[Call]) -> Vec<Event> {
-    calls
-        .iter()
-        .map(|call| store.make(call.clone()).1)
-        .collect()
+    calls.iter().map(|call| store.make(call.clone()).1).collect()
 }
 
 pub fn fresh(clients: u64, partitions: u64, items: u64) -> Call {
@@ -63,20 +60,13 @@ pub fn fresh_on(long_enough: bool, sizes: Sizes) -> Call {
 }
 
 pub fn read(client: u64, items: &[u64]) -> Call {
-    Call::Read {
-        client,
-        set: set_of(items),
-    }
+    Call::Read { client, set: set_of(items) }
 }
 
 /// A write of ascending items, each with its value.
 pub fn write(client: u64, items: &[(u64, u32)]) -> Call {
     let (items, values): (Vec<u64>, Vec<u32>) = items.iter().copied().unzip();
-    Call::Write {
-        client,
-        set: set_of(&items),
-        values: value_bytes(&values),
-    }
+    Call::Write { client, set: set_of(&items), values: value_bytes(&values) }
 }
 
 pub fn deliver(place: u64) -> Call {
@@ -99,11 +89,7 @@ pub fn start_read(client: u64, set: u64) -> Call {
 
 pub fn start_write(client: u64, set: u64, values: &[u8]) -> Call {
     let values = values.to_vec();
-    Call::Write {
-        client,
-        set,
-        values,
-    }
+    Call::Write { client, set, values }
 }
 
 pub fn set_of(items: &[u64]) -> u64 {
@@ -111,10 +97,7 @@ pub fn set_of(items: &[u64]) -> u64 {
 }
 
 pub fn value_bytes(values: &[u32]) -> Vec<u8> {
-    values
-        .iter()
-        .flat_map(|value| value.to_be_bytes())
-        .collect()
+    values.iter().flat_map(|value| value.to_be_bytes()).collect()
 }
 
 pub fn entry(number: u64, client: u64, items: &[u64]) -> Entry {
@@ -122,12 +105,7 @@ pub fn entry(number: u64, client: u64, items: &[u64]) -> Entry {
 }
 
 pub fn version(item: u64, value: u64, stamp: Stamp, items: &[u64]) -> Version {
-    Version {
-        item,
-        value,
-        stamp,
-        set: set_of(items),
-    }
+    Version { item, value, stamp, set: set_of(items) }
 }
 
 /// Fresh tables.
@@ -138,8 +116,7 @@ pub fn tables(clients: u64, partitions: u64, items: u64) -> Tables {
 /// Fresh tables with so many stored versions, all of item 0 and client 1.
 pub fn tables_with_versions(sizes: Sizes, count: u64) -> Tables {
     let mut tables = Tables::fresh(sizes);
-    tables.versions = (1..=count)
-        .map(|number| version(0, number, Stamp::new(number, 1), &[0]))
-        .collect();
+    tables.versions =
+        (1..=count).map(|number| version(0, number, Stamp::new(number, 1), &[0])).collect();
     tables
 }
