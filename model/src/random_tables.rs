@@ -7,28 +7,32 @@ use crate::store::tables::{
     Client, Ended, Sizes, Tables, Version, IDLE, NONE, READ, READING, WRITE, WRITING,
 };
 
-/// Makes tables whose fields are in range, otherwise unlike any that calls leave.
-pub struct Maker {
-    pub random: Random,
-    pub sizes: Sizes,
+/// The tables that a seed gives.
+pub fn random_tables(seed: u64) -> Tables {
+    Maker::new(seed).tables()
+}
+
+struct Maker {
+    random: Random,
+    sizes: Sizes,
 }
 
 impl Maker {
-    pub fn new(seed: u64) -> Maker {
+    fn new(seed: u64) -> Maker {
         let mut random = Random::new(seed);
         let sizes = Sizes::new(random.between(1, 3), random.between(1, 3), random.between(1, 4));
         Maker { random, sizes }
     }
 
-    pub fn item(&mut self) -> u64 {
+    fn item(&mut self) -> u64 {
         self.random.below(self.sizes.items)
     }
 
-    pub fn client(&mut self) -> u64 {
+    fn client(&mut self) -> u64 {
         self.random.between(1, self.sizes.clients)
     }
 
-    pub fn set(&mut self) -> u64 {
+    fn set(&mut self) -> u64 {
         self.random.number() & (u64::MAX >> (64 - self.sizes.items))
     }
 
@@ -129,7 +133,7 @@ impl Maker {
         }
     }
 
-    pub fn tables(&mut self) -> Tables {
+    fn tables(&mut self) -> Tables {
         let mut tables = Tables::fresh(self.sizes);
         for item in 0..self.sizes.items as usize {
             tables.latest[item] = self.entry();

@@ -32,9 +32,7 @@ pub struct Run {
     pub log: Vec<u8>,
     pub most_versions: usize,
     pub greatest_load: u64,
-    /// How often each refusal was answered, before the fresh as well.
-    pub refused: [usize; 17],
-    pub store: Store,
+    store: Store,
 }
 
 /// Which message is delivered next.
@@ -60,11 +58,6 @@ struct Runner<'a, 'b> {
     log_lines: usize,
     run: Run,
     watch: &'a mut Watch<'b>,
-}
-
-/// The run that a seed gives.
-pub fn run(sort: Sort, seed: u64) -> Run {
-    run_watched(sort, seed, &mut |_, _| ())
 }
 
 /// The run that a seed gives, watched call by call, from those before the accepted fresh on.
@@ -138,7 +131,6 @@ impl<'a, 'b> Runner<'a, 'b> {
                 log: Vec::new(),
                 most_versions: 0,
                 greatest_load: 0,
-                refused: [0; 17],
                 store: Store::new(),
             },
             watch,
@@ -171,7 +163,6 @@ impl<'a, 'b> Runner<'a, 'b> {
         let (answer, event) = self.run.store.make(call);
         (self.watch)(&event, &self.run.store.tables);
         if let Answer::Refused(refusal) = answer {
-            self.run.refused[refusal as usize] += 1;
             let after = &self.run.store.tables;
             assert_eq!(*after, before, "refusal {refusal} changed the tables");
         }

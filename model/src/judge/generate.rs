@@ -4,12 +4,11 @@ mod frames;
 mod shown;
 mod small;
 
-pub use frames::random_frames;
 pub use small::every_small_log;
 
 use crate::frames::log::LogFrame;
 use crate::random::Random;
-use frames::frames_of;
+use frames::{frames_of, random_frames};
 
 /// A random log. Most are well formed, and among those each finding is frequent.
 pub fn random_log(random: &mut Random) -> Vec<u8> {

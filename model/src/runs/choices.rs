@@ -32,9 +32,9 @@ impl Runner<'_, '_> {
     /// Delivers what is in flight; then nobody waits.
     pub(super) fn deliver_all(&mut self) {
         while !self.run.store.tables.messages.is_empty() {
-            let refused = self.run.refused;
             self.deliver_next();
-            assert_eq!(self.run.refused, refused, "a delivery was refused");
+            let last = self.run.events.last().expect("the delivery");
+            assert_eq!(last.answer & 0xff, 0, "a delivery was refused");
         }
         let mut clients = self.run.store.tables.existing_clients();
         assert!(clients.all(|client| client.mode == IDLE));

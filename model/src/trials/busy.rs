@@ -3,7 +3,7 @@
 use super::leftovers::leftovers;
 use crate::layout::{fields, places, Field, NEEDED};
 use crate::random::Random;
-use crate::random_tables::Maker;
+use crate::random_tables::random_tables;
 use crate::runs::{tables_amid, Sort};
 use crate::store::tables::{Tables, LOAD_CAPACITY};
 
@@ -23,7 +23,7 @@ impl Busy {
 
     /// A block of tables unlike any that calls leave.
     pub fn unlike_any(seed: u64) -> Busy {
-        let mut tables = Maker::new(seed).tables();
+        let mut tables = random_tables(seed);
         tables.messages.truncate(LOAD_CAPACITY as usize);
         Busy::holding(tables, seed)
     }
