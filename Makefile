@@ -26,9 +26,7 @@ mutants:
 	@tools/mutants $(CRATE)
 
 bench: SQLITE = $(shell echo 'int main(void) { return 0; }' | gcc -x c - -lsqlite3 -o /dev/null 2>/dev/null && echo ,sqlite)
-bench:
-	rt staticlib judge
-	rt staticlib store
+bench: $(LIBRARIES)
 	@$(if $(SQLITE),,echo 'libsqlite3 is not installed (libsqlite3-dev in Debian): measured without it')
 	cd model && cargo run --offline --quiet --profile bench --features proved$(SQLITE) --bin bench
 
