@@ -19,22 +19,26 @@
  *         answer = koolvent_deliver(block, KOOLVENT_WORDS, 0);        any message in flight, in any order
  *     answer = koolvent_show(block, KOOLVENT_WORDS, 1, frame, sizeof frame);
  *
- * A start puts messages in flight, one for each item; a delivery takes one out, does what it says, and may put others
- * in flight. They are numbered 0, 1, .. by their place: the one delivered is taken out, those after it move up by
- * one, and new ones join at the end. On a block that only the calls have written since a fresh start, a delivery at any
- * place below the number in flight is accepted. example.c plays a whole session.
+ * A start puts messages in flight, one for each item, by ascending item; a delivery takes one out, does what it says,
+ * and may put others in flight. They are numbered 0, 1, .. by their place: the one delivered is taken out, those after
+ * it move up by one, and new ones join at the end. On a block that only the calls have written since a fresh start, a
+ * delivery at any place below the number in flight is accepted. example.c plays a whole session.
  *
  * What is proved. Each call's answer, and every word and byte that was lent as the call leaves it, are fixed by what
  * it was given, for all numbers, lengths and contents of the block, damaged ones included; a refused call changes
- * nothing. Reads are as said above on every block that koolvent_fresh made and only the calls have written since.
+ * nothing. Reads are as said above on every block that koolvent_fresh made and only the calls have written since. A
+ * block that something else wrote is refused where a number in it is out of range, and only there: garbage that happens
+ * to be in range is taken for a store.
  *
  * What no proof covers, and the host must see to:
  *   - a block is aligned to 8 bytes, as an array of uint64_t is;
  *   - a length is no more than what is there: words for a block, bytes for the others;
  *   - no pointer is null, even where the length is 0;
  *   - block, values and output do not overlap;
- *   - one caller at a time: while a call runs, nobody else reads or writes what was lent to it;
- *   - between calls the host leaves the block's words as they are. (It may copy and keep them: that is a backup.)
+ *   - one caller at a time: while a call runs, nobody else reads or writes what was lent to it. Two threads may work on
+ *     two blocks, and on the judge beside them: nothing is shared;
+ *   - between calls the host leaves the block's words as they are. It may copy them: a copy of all KOOLVENT_WORDS words,
+ *     wherever it lies, is a store like the first and goes on from there by itself.
  *
  * Link with libstore.a (the five calls on a block) and libjudge.a (the judge); installed, with -lkoolvent_store and
  * -lkoolvent_judge, or by pkg-config: koolvent. For Linux on x86-64.
@@ -52,7 +56,7 @@ extern "C" {
 /* ---- Sizes and limits ---- */
 
 /* The words of 64 bits that a block needs, whatever its sizes. More may be lent: no call changes them. */
-#define KOOLVENT_WORDS 6352
+#define KOOLVENT_WORDS 6416
 
 /* The most clients (desks; numbered from 1), partitions (cabinets; from 0) and items (lines; from 0), 1 being the
  * least of each. Item k lies in partition k mod the number of partitions. */
@@ -93,8 +97,9 @@ extern "C" {
 
 enum koolvent_refusal {
     KOOLVENT_ACCEPTED = 0,
-    /* The block is shorter than KOOLVENT_WORDS; or (not for koolvent_fresh) it holds a number out of its range: it is
-     * damaged, or koolvent_fresh was never accepted on it. */
+    /* The block is shorter than KOOLVENT_WORDS; or (not for koolvent_fresh) it holds a number out of its range, a load
+     * over KOOLVENT_MOST_LOAD, or versions and prepares over KOOLVENT_MOST_VERSIONS: it is damaged, or koolvent_fresh was
+     * never accepted on it. */
     KOOLVENT_REFUSED_BLOCK = 1,
     /* koolvent_fresh: a size is 0 or over its limit. */
     KOOLVENT_REFUSED_SIZES = 2,
@@ -131,7 +136,8 @@ enum koolvent_refusal {
     KOOLVENT_REFUSED_LOG_TOO_LONG = 16
 };
 
-/* The refusal of any answer, or KOOLVENT_ACCEPTED. */
+/* The refusal of any answer, or KOOLVENT_ACCEPTED. A call on a block that is refused answers exactly that number, with
+ * nothing above the lowest byte; of the judge's, KOOLVENT_REFUSED_MALFORMED alone has a line beside it. */
 static inline unsigned koolvent_refusal(uint64_t answer)
 {
     return (unsigned)(answer & 0xff);
@@ -266,6 +272,17 @@ static inline uint32_t koolvent_number(const uint8_t *bytes)
 static inline uint64_t koolvent_frame_set(const uint8_t *frame)
 {
     return (uint64_t)koolvent_number(frame + 2) << 32 | koolvent_number(frame + 6);
+}
+
+/* The number of a write's frame, and the value at a place, from 0, among its items. */
+static inline uint32_t koolvent_frame_number(const uint8_t *frame)
+{
+    return koolvent_number(frame + 10);
+}
+
+static inline uint32_t koolvent_frame_value(const uint8_t *frame, unsigned place)
+{
+    return koolvent_number(frame + KOOLVENT_WRITE_FRAME_BYTES((size_t)place));
 }
 
 /* What a read shows of an item: the number of the write and the client that wrote it, both 0 for none; the value. */

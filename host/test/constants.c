@@ -146,7 +146,9 @@ static void starts(void)
 /* Refusals that no block gives which only the calls have written. The words are those of docs/LAYOUT.md. */
 static void damaged_blocks(void)
 {
-    enum { MODE = 16, COUNT = 17, SET = 18, AWAITED = 19, STAMP_OF_MESSAGE = 5328 + 4 };
+    enum { MODE = 16, COUNT = 17, SET = 18, AWAITED = 19 };
+    /* Messages come last, 8 words each. */
+    enum { STAMP_OF_MESSAGE = KOOLVENT_WORDS - 8 * KOOLVENT_MOST_LOAD + 4 };
 
     fresh(1, 1, 1);
     block[COUNT] = UINT32_MAX;
@@ -181,8 +183,10 @@ static void frames(void)
     SAME(koolvent_shown_bytes(answer), KOOLVENT_WRITE_FRAME_BYTES(8));
     SAME(output[0], KOOLVENT_WRITE_FRAME);
     SAME(koolvent_frame_set(output), set);
-    SAME(koolvent_number(output + KOOLVENT_WRITE_FRAME_BYTES(7)), 0x0102030b);
     SAME(memcmp(output + 14, "\1\2\3\4\1\2\3\5", 8), 0);
+    SAME(koolvent_frame_number(output), 1);
+    for (item = 0; item < 8; item++)
+        SAME(koolvent_frame_value(output, item), 0x01020304 + item);
 
     read_items(2, set);
     deliver_all();
@@ -202,6 +206,25 @@ static void frames(void)
         room++;
     SAME(room, KOOLVENT_FRAME_ROOM);
     SAME(koolvent_shown_bytes(show(1, room)), KOOLVENT_READ_FRAME_BYTES(64));
+}
+
+/* A copy of a block goes on elsewhere, and the first goes on without it. */
+static void copies(void)
+{
+    static uint64_t elsewhere[KOOLVENT_WORDS];
+    uint8_t frame[KOOLVENT_FRAME_ROOM];
+
+    fresh(1, 1, 2);
+    koolvent_put_value(values, 7);
+    write_items(1, 1, 4);
+    deliver(0);
+    memcpy(elsewhere, block, sizeof elsewhere);
+    fresh(1, 1, 2);
+    while (koolvent_refusal(koolvent_deliver(elsewhere, KOOLVENT_WORDS, 0)) == KOOLVENT_ACCEPTED)
+        ;
+    SAME(koolvent_refusal(koolvent_show(elsewhere, KOOLVENT_WORDS, 1, frame, sizeof frame)), KOOLVENT_ACCEPTED);
+    SAME(koolvent_frame_value(frame, 0), 7);
+    SAME(show(1, ROOM), KOOLVENT_REFUSED_NOTHING_ENDED);
 }
 
 static uint64_t judge(const char *log)
@@ -261,6 +284,7 @@ int main(void)
     starts();
     damaged_blocks();
     frames();
+    copies();
     verdicts();
     return differences > 0;
 }

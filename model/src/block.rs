@@ -1,8 +1,8 @@
 //! The five calls on a lent block of words, whoever serves them.
 
+use crate::answer::Answer;
+use crate::call::{Call, Event};
 use crate::layout::{decode, store_fresh, store_step, NEEDED};
-use crate::promise::{Call, Event};
-use crate::store::answer::Answer;
 use crate::store::fault::Fault;
 use crate::store::tables::Sizes;
 use crate::store::Store;
@@ -14,41 +14,31 @@ pub trait Calls {
     fn start_write(&self, block: &mut [u64], client: u64, set: u64, values: &[u8]) -> u64;
     fn deliver(&self, block: &mut [u64], place: u64) -> u64;
     fn show(&self, block: &[u64], client: u64, output: &mut [u8]) -> u64;
+
+    /// Makes the call, with this output for a showing.
+    #[inline]
+    fn call(&self, block: &mut [u64], call: &Call, output: &mut [u8]) -> u64 {
+        match call {
+            Call::Fresh { clients, partitions, items, .. } => {
+                self.fresh(block, *clients, *partitions, *items)
+            }
+            Call::Read { client, set } => self.start_read(block, *client, *set),
+            Call::Write { client, set, values } => self.start_write(block, *client, *set, values),
+            Call::Deliver { place } => self.deliver(block, *place),
+            Call::Show { client, .. } => self.show(block, *client, output),
+        }
+    }
 }
 
 /// Makes the call on the block; a fresh on a block that is not long enough gets a part that isn't.
 pub fn make(served: &dyn Calls, block: &mut [u64], call: &Call) -> Event {
-    let mut lent = Vec::new();
-    let answer = match call {
-        Call::Fresh {
-            long_enough,
-            clients,
-            partitions,
-            items,
-        } => {
-            let length = match long_enough {
-                true => block.len(),
-                false => block.len().min(NEEDED - 1),
-            };
-            served.fresh(&mut block[..length], *clients, *partitions, *items)
-        }
-        Call::Read { client, set } => served.start_read(block, *client, *set),
-        Call::Write {
-            client,
-            set,
-            values,
-        } => served.start_write(block, *client, *set, values),
-        Call::Deliver { place } => served.deliver(block, *place),
-        Call::Show { client, output } => {
-            lent = output.clone();
-            served.show(block, *client, &mut lent)
-        }
+    let length = match call {
+        Call::Fresh { long_enough: false, .. } => block.len().min(NEEDED - 1),
+        _ => block.len(),
     };
-    Event {
-        call: call.clone(),
-        answer,
-        output: lent,
-    }
+    let mut output = call.output();
+    let answer = served.call(&mut block[..length], call, &mut output);
+    Event { call: call.clone(), answer, output }
 }
 
 /// The model's store on blocks, by way of their layout; for tests alone with a fault.

@@ -1,7 +1,6 @@
 //! The log judge: the first read of a log at fault, by the published definitions of read
 //! atomicity and reading one's own writes. It knows nothing of the store.
 
-pub mod by_item;
 pub mod examples;
 pub mod findings;
 pub mod generate;
@@ -10,6 +9,7 @@ pub mod well_formed;
 use crate::frames::hex::to_hex;
 use crate::frames::log::LogFrame;
 use findings::{Finding, FINDINGS};
+use well_formed::lines;
 
 /// The most bytes in a log.
 const MOST_BYTES: usize = 32_768;
@@ -29,10 +29,7 @@ pub enum Verdict {
 
 impl Verdict {
     /// The verdict on a log without fault.
-    pub const CLEAN: Verdict = Verdict::Judged {
-        finding: 0,
-        line: 0,
-    };
+    pub const CLEAN: Verdict = Verdict::Judged { finding: 0, line: 0 };
 
     /// The bytes of the answer.
     pub fn bytes(&self) -> Vec<u8> {
@@ -62,9 +59,7 @@ impl Verdict {
 
 /// A line number in two bytes. The limits of refusal 16 keep it at 257 or less.
 fn line_bytes(line: usize) -> [u8; 2] {
-    u16::try_from(line)
-        .expect("a judged log has at most 257 lines")
-        .to_be_bytes()
+    u16::try_from(line).expect("a judged log has at most 257 lines").to_be_bytes()
 }
 
 /// The verdict on a log.
@@ -74,27 +69,35 @@ pub fn judge(log: &[u8]) -> Verdict {
 
 /// The verdict on a log by these findings, the first in the list going before the others.
 pub fn judge_by(findings: &[(u8, Finding)], log: &[u8]) -> Verdict {
+    reasoned(findings, log).0
+}
+
+/// The verdict, and what bears it out.
+pub fn reasoned(findings: &[(u8, Finding)], log: &[u8]) -> (Verdict, String) {
     let line_ends = log.iter().filter(|byte| **byte == b'\n').count();
     if log.len() > MOST_BYTES || line_ends > MOST_LINE_ENDS {
-        return Verdict::TooLong;
+        let bytes = log.len();
+        return (Verdict::TooLong, format!("the log has {bytes} bytes and {line_ends} line ends"));
     }
-    match well_formed::frames(log) {
-        Err(line) => Verdict::Malformed { line },
-        Ok(frames) => first_fault(findings, &frames),
+    let mut frames = Vec::new();
+    for (line, frame) in (1..).zip(lines(log)) {
+        match frame {
+            Ok(frame) => frames.push(frame),
+            Err(wrong) => return (Verdict::Malformed { line }, wrong),
+        }
     }
+    first_fault(findings, &frames)
 }
 
 /// The first line at fault, and there the first of the findings.
-fn first_fault(findings: &[(u8, Finding)], log: &[LogFrame]) -> Verdict {
+fn first_fault(findings: &[(u8, Finding)], log: &[LogFrame]) -> (Verdict, String) {
     for place in 0..log.len() {
-        for (finding, holds) in findings {
-            if holds(log, place) {
-                return Verdict::Judged {
-                    finding: *finding,
-                    line: place + 1,
-                };
+        for (finding, fault) in findings {
+            if let Some(fault) = fault(log, place) {
+                let (finding, line) = (*finding, place + 1);
+                return (Verdict::Judged { finding, line }, fault);
             }
         }
     }
-    Verdict::CLEAN
+    (Verdict::CLEAN, String::new())
 }

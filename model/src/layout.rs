@@ -1,6 +1,7 @@
 //! The tables as the words of a lent block, and back.
 //!
-//! Written from docs/LAYOUT.md alone. A stamp is one word, its number times 16 and its client added.
+//! Written from docs/LAYOUT.md alone. A stamp is one word, its number times 16 and its client
+//! added.
 
 mod after;
 mod decode;
@@ -14,7 +15,7 @@ pub use fields::{encode, fields, Field};
 pub use places::NEEDED;
 pub use sort::Sort;
 
-use crate::store::stamp::Stamp;
+use crate::stamp::Stamp;
 
 fn stamp_word(stamp: Stamp) -> u64 {
     stamp.number * 16 + stamp.client

@@ -1,18 +1,17 @@
-//! Condition 3, checked of a list of calls from the calls, answers and outputs alone.
+//! Condition 3's promises over several calls, checked of a list of calls from the calls, answers
+//! and outputs alone.
 //!
-//! The checker runs a list of labels beside the calls, as the steps say which messages join and leave, and never
-//! sees the store's tables. Each clause of the condition is one function and one `Clause`.
+//! The checker runs a list of labels beside the calls, as the steps say which messages join and
+//! leave, and never sees the store's tables. Each clause is one function and one `Clause`. That
+//! answers, outputs and tables are those of the steps and the refusal table is for whoever holds
+//! the list against the model's store.
 
-mod answers;
 mod checker;
 mod clauses;
-mod event;
 mod history;
-mod refusals;
 mod showings;
 
-pub use event::{Call, Event};
-
+use crate::call::Event;
 use checker::Checker;
 
 /// A clause of condition 3 that an event of the list breaks.
@@ -34,7 +33,8 @@ pub enum Clause {
     Length,
     /// A read has exactly one message for each item it awaits.
     OneMessageForEachAwaited { client: u64, item: u64 },
-    /// A read is reported ended by the delivery of its n-th reply and no other, after n requests and n replies.
+    /// A read is reported ended by the delivery of its n-th reply and no other, after n requests
+    /// and n replies.
     ReadEnd,
     /// A write is reported ended by the delivery of its last prepared reply and no other.
     WriteEnd,
@@ -46,12 +46,12 @@ pub enum Clause {
     Unwritten { item: u64 },
     /// Where an entry's write also wrote another shown item, that one isn't shown older.
     Fractured { item: u64, older: u64 },
-    /// An entry's write was stored at all its partitions before the get behind the reply was delivered.
+    /// An entry's write was stored at all its partitions before the get behind the reply was
+    /// delivered.
     AnsweredBeforeStored { item: u64 },
-    /// No entry is older than a write of that item which the client had ended before the read's start.
+    /// No entry is older than a write of that item which the client had ended before the read's
+    /// start.
     OwnWriteMissed { item: u64 },
-    /// A call is refused as the refusal table says; 0 is accepted.
-    Refusal { stated: u8, answered: u8 },
 }
 
 /// The first event that breaks a clause, counted from 0, and the clause.
@@ -69,21 +69,14 @@ pub struct Summary {
     pub reads_shown: usize,
     /// Entries shown that were not initial.
     pub written_entries_shown: usize,
-    pub greatest_load: u64,
-    pub items_written: u64,
-    /// How often each refusal was answered.
-    pub refused: [usize; 17],
 }
 
-/// Whether the events keep every clause of condition 3. The first is an accepted fresh; another accepted fresh
-/// begins a new list.
+/// Whether the events keep every clause of condition 3. The first is an accepted fresh; another
+/// accepted fresh begins a new list.
 pub fn check(events: &[Event]) -> Result<Summary, Violation> {
     let mut checker = Checker::default();
     for (place, event) in events.iter().enumerate() {
-        checker.check(place, event).map_err(|clause| Violation {
-            event: place,
-            clause,
-        })?;
+        checker.check(place, event).map_err(|clause| Violation { event: place, clause })?;
     }
     Ok(checker.summary)
 }

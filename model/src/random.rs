@@ -31,6 +31,16 @@ impl Random {
         first + self.below(last - first + 1)
     }
 
+    /// A place in a list of this length, which isn't 0.
+    pub fn place(&mut self, length: usize) -> usize {
+        self.below(length as u64) as usize
+    }
+
+    /// True once in so many times.
+    pub fn once_in(&mut self, times: u64) -> bool {
+        self.below(times) == 0
+    }
+
     /// True so many times in a hundred.
     pub fn percent(&mut self, times: u64) -> bool {
         self.below(100) < times
@@ -38,7 +48,7 @@ impl Random {
 
     /// One of the choices, of which there is at least one.
     pub fn pick<T: Copy>(&mut self, choices: &[T]) -> T {
-        choices[self.below(choices.len() as u64) as usize]
+        choices[self.place(choices.len())]
     }
 
     /// So many bytes.

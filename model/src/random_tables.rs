@@ -1,38 +1,38 @@
 //! Random tables whose fields are in range, otherwise unlike any that calls leave.
 
 use crate::random::Random;
+use crate::stamp::{Entry, Stamp};
 use crate::store::message::Message;
-use crate::store::stamp::{Entry, Stamp};
 use crate::store::tables::{
     Client, Ended, Sizes, Tables, Version, IDLE, NONE, READ, READING, WRITE, WRITING,
 };
 
-/// Makes tables whose fields are in range, otherwise unlike any that calls leave.
-pub struct Maker {
-    pub random: Random,
-    pub sizes: Sizes,
+/// The tables that a seed gives.
+pub fn random_tables(seed: u64) -> Tables {
+    Maker::new(seed).tables()
+}
+
+struct Maker {
+    random: Random,
+    sizes: Sizes,
 }
 
 impl Maker {
-    pub fn new(seed: u64) -> Maker {
+    fn new(seed: u64) -> Maker {
         let mut random = Random::new(seed);
-        let sizes = Sizes::new(
-            random.between(1, 3),
-            random.between(1, 3),
-            random.between(1, 4),
-        );
+        let sizes = Sizes::new(random.between(1, 3), random.between(1, 3), random.between(1, 4));
         Maker { random, sizes }
     }
 
-    pub fn item(&mut self) -> u64 {
+    fn item(&mut self) -> u64 {
         self.random.below(self.sizes.items)
     }
 
-    pub fn client(&mut self) -> u64 {
+    fn client(&mut self) -> u64 {
         self.random.between(1, self.sizes.clients)
     }
 
-    pub fn set(&mut self) -> u64 {
+    fn set(&mut self) -> u64 {
         self.random.number() & (u64::MAX >> (64 - self.sizes.items))
     }
 
@@ -90,10 +90,7 @@ impl Maker {
     }
 
     fn ended(&mut self) -> Ended {
-        let mut ended = Ended {
-            kind: self.random.pick(&[NONE, READ, WRITE]),
-            ..Ended::NONE
-        };
+        let mut ended = Ended { kind: self.random.pick(&[NONE, READ, WRITE]), ..Ended::NONE };
         if ended.kind == NONE {
             return ended;
         }
@@ -124,15 +121,8 @@ impl Maker {
         match self.random.below(5) {
             0 => Message::Prepare(self.version()),
             1 => Message::Prepared { item, stamp },
-            2 => Message::Commit {
-                partition: self.random.below(self.sizes.partitions),
-                stamp,
-            },
-            3 => Message::Get {
-                client,
-                item,
-                stamp: self.stamp(),
-            },
+            2 => Message::Commit { partition: self.random.below(self.sizes.partitions), stamp },
+            3 => Message::Get { client, item, stamp: self.stamp() },
             _ => Message::Got {
                 client,
                 item,
@@ -143,7 +133,7 @@ impl Maker {
         }
     }
 
-    pub fn tables(&mut self) -> Tables {
+    fn tables(&mut self) -> Tables {
         let mut tables = Tables::fresh(self.sizes);
         for item in 0..self.sizes.items as usize {
             tables.latest[item] = self.entry();

@@ -1,14 +1,11 @@
 //! Random runs: a list of calls from an accepted fresh, refused ones included, with its log.
 
 mod choices;
-mod make;
 
-pub use make::make;
-
+use crate::answer::{Answer, NONE_ENDED};
+use crate::call::{Call, Event};
 use crate::frames::hex::to_hex;
-use crate::promise::{Call, Event};
 use crate::random::Random;
-use crate::store::answer::{Answer, Outcome};
 use crate::store::tables::{Sizes, Tables};
 use crate::store::Store;
 
@@ -34,9 +31,8 @@ pub struct Run {
     /// Each ended transaction, shown right after its end, up to the judge's limits.
     pub log: Vec<u8>,
     pub most_versions: usize,
-    /// How often each refusal was answered, before the fresh as well.
-    pub refused: [usize; 17],
-    pub store: Store,
+    pub greatest_load: u64,
+    store: Store,
 }
 
 /// Which message is delivered next.
@@ -62,11 +58,6 @@ struct Runner<'a, 'b> {
     log_lines: usize,
     run: Run,
     watch: &'a mut Watch<'b>,
-}
-
-/// The run that a seed gives.
-pub fn run(sort: Sort, seed: u64) -> Run {
-    run_watched(sort, seed, &mut |_, _| ())
 }
 
 /// The run that a seed gives, watched call by call, from those before the accepted fresh on.
@@ -95,7 +86,8 @@ pub fn tables_amid(sort: Sort, seed: u64) -> Tables {
 }
 
 impl Sort {
-    /// How many calls are made, deliveries of what is left at the end and showings after ends not counted.
+    /// How many calls are made, deliveries of what is left at the end and showings after ends not
+    /// counted.
     fn calls(self) -> u64 {
         match self {
             Sort::Small => 120,
@@ -106,16 +98,12 @@ impl Sort {
 
     fn sizes(self, random: &mut Random) -> Sizes {
         match self {
-            Sort::Small => Sizes::new(
-                random.between(1, 3),
-                random.between(1, 3),
-                random.between(1, 4),
-            ),
-            Sort::AnySize => Sizes::new(
-                random.between(1, 8),
-                random.between(1, 8),
-                random.between(1, 64),
-            ),
+            Sort::Small => {
+                Sizes::new(random.between(1, 3), random.between(1, 3), random.between(1, 4))
+            }
+            Sort::AnySize => {
+                Sizes::new(random.between(1, 8), random.between(1, 8), random.between(1, 64))
+            }
             Sort::Crowded => Sizes::new(8, random.between(1, 8), random.between(60, 64)),
         }
     }
@@ -142,7 +130,7 @@ impl<'a, 'b> Runner<'a, 'b> {
                 events: Vec::new(),
                 log: Vec::new(),
                 most_versions: 0,
-                refused: [0; 17],
+                greatest_load: 0,
                 store: Store::new(),
             },
             watch,
@@ -159,17 +147,8 @@ impl<'a, 'b> Runner<'a, 'b> {
     }
 
     fn before_the_fresh(&mut self) {
-        let Sizes {
-            clients,
-            partitions,
-            items,
-        } = self.sizes;
-        let fresh = |long_enough, clients| Call::Fresh {
-            long_enough,
-            clients,
-            partitions,
-            items,
-        };
+        let Sizes { clients, partitions, items } = self.sizes;
+        let fresh = |long_enough, clients| Call::Fresh { long_enough, clients, partitions, items };
         self.call(Call::Deliver { place: 0 });
         self.call(fresh(true, 9));
         self.call(fresh(false, clients));
@@ -181,25 +160,24 @@ impl<'a, 'b> Runner<'a, 'b> {
     /// Makes the call; shows and logs what it ended.
     fn call(&mut self, call: Call) -> Answer {
         let before = self.run.store.tables.clone();
-        let (answer, event) = make(&mut self.run.store, call);
+        let (answer, event) = self.run.store.make(call);
         (self.watch)(&event, &self.run.store.tables);
         if let Answer::Refused(refusal) = answer {
-            self.run.refused[usize::from(refusal)] += 1;
             let after = &self.run.store.tables;
             assert_eq!(*after, before, "refusal {refusal} changed the tables");
         }
         let ended = match (&event.call, &answer) {
-            (_, Answer::Delivered { outcome, .. }) if *outcome == Outcome::NoneEnded => None,
-            (Call::Deliver { place }, Answer::Delivered { .. }) => {
+            (Call::Deliver { place }, Answer::Delivered { outcome, .. })
+                if *outcome != NONE_ENDED =>
+            {
                 Some(before.messages[*place as usize].client())
             }
             _ => None,
         };
         self.run.events.push(event);
-        self.run.most_versions = self
-            .run
-            .most_versions
-            .max(self.run.store.tables.versions.len());
+        let tables = &self.run.store.tables;
+        self.run.most_versions = self.run.most_versions.max(tables.versions.len());
+        self.run.greatest_load = self.run.greatest_load.max(tables.load());
         if let Some(client) = ended {
             self.show_and_log(client);
         }
@@ -209,10 +187,11 @@ impl<'a, 'b> Runner<'a, 'b> {
     fn show_and_log(&mut self, client: u64) {
         let room = 586 + self.random.below(20) as usize;
         let output = self.random.bytes(room);
-        let Answer::Shown(frame) = self.call(Call::Show { client, output }) else {
+        let Answer::Shown { length } = self.call(Call::Show { client, output }) else {
             panic!("a showing after an end was refused");
         };
-        let line = to_hex(&frame) + "\n";
+        let shown = self.run.events.last().expect("the showing");
+        let line = to_hex(&shown.output[..length as usize]) + "\n";
         if self.log_lines < LOG_LINES && self.run.log.len() + line.len() <= LOG_BYTES {
             self.run.log.extend(line.bytes());
             self.log_lines += 1;

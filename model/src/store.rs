@@ -1,14 +1,11 @@
 //! The store on plain tables: five calls, each a check against the refusal table and then a step.
 
-pub mod answer;
 mod calls;
 pub mod fault;
 pub mod message;
 pub mod range;
 mod refusals;
-pub mod set;
 mod shown;
-pub mod stamp;
 mod steps;
 pub mod tables;
 
@@ -30,18 +27,12 @@ impl Store {
 
     /// A store with these tables, whatever they hold.
     pub fn with_tables(tables: Tables) -> Store {
-        Store {
-            tables,
-            fault: None,
-        }
+        Store { tables, fault: None }
     }
 
     /// For tests alone: this store, wrong in one way.
     pub fn with_fault(self, fault: Fault) -> Store {
-        Store {
-            fault: Some(fault),
-            ..self
-        }
+        Store { fault: Some(fault), ..self }
     }
 
     fn has(&self, fault: Fault) -> bool {

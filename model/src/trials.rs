@@ -1,5 +1,5 @@
-//! Trials of whoever serves the five calls on a block, or tells valid blocks from others: held against the model,
-//! call by call and word by word.
+//! Trials of whoever serves the five calls on a block, or tells valid blocks from others: held
+//! against the model, call by call and word by word.
 
 mod agreement;
 mod brimming;

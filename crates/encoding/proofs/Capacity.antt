@@ -8,7 +8,8 @@ use native.Mathlib.Omega.{arith}
 use Rattle.basics.specs.Lists.{counted, table}
 use Rattle.basics.proofs.Lists.{length-table}
 use Rattle.protocol.specs.Tables.{nothing, resting}
-use Rattle.protocol.specs.Range.{isClient, isPrepare, arrived, total, load, occupied}
+use Rattle.protocol.specs.Message.{isPrepare}
+use Rattle.protocol.specs.Range.{isClient, arrived, total, load, occupied}
 use Rattle.layout.specs.Layout.{mostVersions, mostMessages}
 use Rattle.layout.specs.Layout.{at, header, versionsAt, messagesAt}
 use Rattle.layout.specs.Decode.{sizesIn, clientIn, versionIn, messageIn}

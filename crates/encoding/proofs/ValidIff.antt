@@ -15,7 +15,8 @@ use Rattle.protocol.specs.declared.Message.{Message}
 use Rattle.protocol.specs.declared.Message.the-variants.{Prepare, Prepared, Commit, Get, Got}
 use Rattle.protocol.specs.Tables.{Sizes, Tables, Client, Ended, nothing, read, write}
 use Rattle.protocol.specs.Steps.{version}
-use Rattle.protocol.specs.Range.{capacities, isIdle, isWriting, isPrepare, arrived, load}
+use Rattle.protocol.specs.Message.{isPrepare}
+use Rattle.protocol.specs.Range.{capacities, isIdle, isWriting, arrived, load}
 use Rattle.protocol.specs.Range.{occupied, valid}
 use Rattle.protocol.proofs.Ranges.Values.{SizesInRange, IsClient, EntryInRange, VersionInRange}
 use Rattle.protocol.proofs.Ranges.Values.{MessageInRange}
@@ -150,7 +151,7 @@ arrived-same b z d c h r =
 
 prepare-same : (b : List ℕ) (i : ℕ) (m : Message) → HoldsMessage b i m
     → isPrepare (messageIn b i) ≡ isPrepare m
-unfolding messageIn messageOf isPrepare
+unfolding messageIn messageOf
 prepare-same b i (Prepare v) h = rw (h .0)
 prepare-same b i (Prepared k stamp) h = rw (h .0)
 prepare-same b i (Commit p stamp) h = rw (h .0)

@@ -9,15 +9,15 @@ use lib.ListN.{length, getD}
 use borrow.Author.Tests.{ltb-false, lt-ltb, le-ltb}
 use Rattle.basics.proofs.Cases.{or-neither}
 use Rattle.basics.specs.Lists.{counted}
-use Rattle.judge_log.specs.Cut.{framesIn}
-use Rattle.judge_log.proofs.Cuts.{length-framesIn}
-use Rattle.judge_log.specs.Log.{tooLong, framesOf}
-use Rattle.judge.specs.Findings.{findings, faultAt, lowest, judged, checked}
+use Rattle.judge_frames.specs.Cut.{framesIn}
+use Rattle.judge_frames.proofs.Cuts.{length-framesIn}
+use Rattle.log.specs.Log.{tooLong, framesOf}
+use Rattle.findings.specs.Findings.{findings, faultAt, lowest, judged, checked}
 use Rattle.judge_log.specs.Scan.{Scanning, ScannedOf}
 use Rattle.judge_log.proofs.Scanning.{scan-start}
-use Rattle.judge_log.specs.Some.{firstFrom}
+use Rattle.log.specs.Some.{firstFrom}
 use Rattle.judge_log.specs.declared.scan.Scanned.the-variants.{Lines, Bad}
-use Rattle.judge.specs.declared.Verdict.the-variants.{Malformed, Judged}
+use Rattle.findings.specs.declared.Verdict.the-variants.{Malformed, Judged}
 
 module _ (bytes starts : List ℕ) (n line : ℕ)
     (first : line ≡ firstFrom n 0 (faultAt (framesIn bytes starts n))) where

@@ -1,6 +1,5 @@
--- The findings as the judge searches for them: item by item of a read, write by write. Each law
--- takes a definition to such a search.
-use mathlib.Core.Bool.{Bool, true, false, _&&_, _||_, true≢false}
+-- Laws that take a definition of the findings to the search for it.
+use mathlib.Core.Bool.{Bool, true, false, _&&_, _||_}
 use mathlib.Core.List.{List, []}
 use mathlib.Core.Path.{_≡_, refl, sym, ap, ap₂, _∙_}
 use Prim.Native.Nat.{ℕ, _≤_, _<_}
@@ -11,40 +10,15 @@ use lib.Seq.{length-take-le, getD-take}
 use borrow.Author.Tests.{ltb-true, lt-ltb, ne-eqb}
 use Rattle.basics.proofs.Cases.{and-left, and-right, and-both, test-ext}
 use Rattle.itemset.specs.Set.{has}
-use Rattle.judge_log.specs.Some.{some, someFrom}
-use Rattle.judge_log.proofs.Some.{some-at, at-some, someFrom-at, at-someFrom, someFrom-or}
-use Rattle.judge_log.proofs.Some.{someFrom-ext}
-use Rattle.judge.specs.Findings.{holdsAt, faultAt, behind, isUnwritten, fractures, outdates}
-use Rattle.judge_log.specs.Log.{clientOf, written, writtenStamp, shown, shownStamp, shownValue}
-use Rattle.judge_log.specs.Cut.{frameIn, framesIn}
-use Rattle.judge_log.proofs.Cuts.{length-framesIn, framesIn-at, framesIn-take}
-use Rattle.judge.specs.Search.{behindAt, faultsOf, findingOf, writeFault, itemFault}
-
-pub and-short : (a b c : Bool) → (a && b) ≡ false → (a && (b && c)) ≡ false
-and-short true true c e = absurd (true≢false e)
-and-short true false c e = refl
-and-short false b c e = refl
-
-pub behindAt-shown : (r : List ℕ) (items wrote stamp item : ℕ)
-    → (has items item && has wrote item) ≡ true
-    → behindAt r items wrote stamp item ≡ ltb (shownStamp r item) stamp
-unfolding behindAt
-behindAt-shown r items wrote stamp item e =
-    rw (and-left (has items item) (has wrote item) e, and-right (has items item) (has wrote item) e)
-
-pub behindAt-not : (r : List ℕ) (items wrote stamp item : ℕ)
-    → (has items item && has wrote item) ≡ false → behindAt r items wrote stamp item ≡ false
-unfolding behindAt
-behindAt-not r items wrote stamp item e =
-    and-short (has items item) (has wrote item) (ltb (shownStamp r item) stamp) e
-
-pub behind-search : (r w : List ℕ) (items wrote stamp : ℕ) → items ≡ shown r → wrote ≡ written w
-    → stamp ≡ writtenStamp w
-    → someFrom 64 0 (behindAt r items wrote stamp) ≡ behind r w
-unfolding behindAt behind
-behind-search r w items wrote stamp p q s = rw (p, q, s)
-
--- ---- the search for the first read at fault
+use Rattle.log.specs.Some.{some, someFrom}
+use Rattle.log.proofs.Some.{some-at, at-some, someFrom-at, at-someFrom, someFrom-or}
+use Rattle.log.proofs.Some.{someFrom-ext}
+use Rattle.findings.specs.Findings.{holdsAt, faultAt, isUnwritten, fractures, outdates}
+use Rattle.log.specs.Log.{clientOf, shown, shownStamp, shownValue}
+use Rattle.judge_frames.specs.Cut.{frameIn, framesIn}
+use Rattle.judge_frames.proofs.Cuts.{length-framesIn, framesIn-at, framesIn-take}
+use Rattle.judge_findings.specs.Tests.{faultsOf}
+use Rattle.judge.specs.Search.{findingOf, writeFault, itemFault}
 
 and-ors : (p a b d : Bool) → (p && (a || (b || d))) ≡ ((p && a) || ((p && b) || (p && d)))
 and-ors true a b d = refl

@@ -1,5 +1,2 @@
--- The definitions that the contracts of `judge` cite.
-pub mod Findings
+-- The definitions that the contracts of `judge` cite; those of its promise stand in `findings`.
 pub mod Search
-pub mod Marks
-pub mod Published

@@ -1,26 +1,14 @@
--- The findings as the judge searches for them: item by item of a read, write by write. Each law
--- takes a definition to such a search.
+-- The findings as the judge searches for them: item by item of a read, write by write.
 use mathlib.Core.Bool.{Bool, cond, _&&_, _||_}
 use mathlib.Core.List.{List, []}
 use Prim.Native.Nat.{ℕ}
 use lib.Dec.{eqb, ltb}
 use Rattle.itemset.specs.Set.{has}
-use Rattle.judge_log.specs.Some.{someFrom}
-use Rattle.judge.specs.Findings.{isUnwritten, unwritten, fractures, fractured, outdates}
-use Rattle.judge.specs.Findings.{ownWriteMissed}
-use Rattle.judge_log.specs.Log.{clientOf, shown, shownStamp, shownValue}
-use Rattle.judge_log.specs.Cut.{frameIn, framesIn}
-
--- r shows the item, one of those written, with an earlier stamp
-unfoldable pub behindAt : List ℕ → ℕ → ℕ → ℕ → ℕ → Bool
-behindAt r items wrote stamp item =
-    has items item && (has wrote item && ltb (shownStamp r item) stamp)
-
--- ---- the search for the first read at fault
-
--- w, above the read r or not, has it at fault at the item
-unfoldable pub faultsOf : List ℕ → ℕ → ℕ → ℕ → List ℕ → Bool → Bool
-faultsOf r of item stamp w above = fractures r item stamp w || (above && outdates of item stamp w)
+use Rattle.log.specs.Some.{someFrom}
+use Rattle.findings.specs.Findings.{isUnwritten, unwritten, fractured, ownWriteMissed}
+use Rattle.judge_findings.specs.Tests.{faultsOf}
+use Rattle.log.specs.Log.{clientOf, shown, shownStamp, shownValue}
+use Rattle.judge_frames.specs.Cut.{frameIn, framesIn}
 
 -- the finding of a number
 abbrev pub findingOf : ℕ → List (List ℕ) → ℕ → ℕ → Bool

@@ -1,33 +1,22 @@
 // The judge of a log (document 01: findings). It knows the published definitions and nothing of the store.
-mod findings;
-mod marks;
 mod search;
 
-use crate::marks::mark_lines;
 use crate::search::first_fault;
 use crate::search::lowest;
+use findings::Verdict;
+use judge_findings::marks::mark_lines;
 use judge_log::limits::too_long;
 use judge_log::scan::Scanned;
 use judge_log::scan::scan;
 ghost use mathlib.Core.Path.{_≡_};
 ghost use Prim.Native.Nat.{_≤_};
-ghost use Rattle.judge_log.specs.Cut.{framesIn};
+ghost use Rattle.judge_frames.specs.Cut.{framesIn};
 ghost use mathlib.Core.Bool.{false};
-ghost use Rattle.judge_log.specs.Log.{tooLong, framesOf};
+ghost use Rattle.log.specs.Log.{tooLong, framesOf};
 ghost use Rattle.judge_log.specs.Scan.{Scanning};
-ghost use Rattle.judge.specs.Findings.{judged, checked, verdict, numberOf};
-ghost use Rattle.judge.specs.Marks.{Table};
-ghost use Rattle.judge.specs.Published.{Says};
-
-// What the judge answers.
-pub enum Verdict {
-    // Over 32,768 bytes or over 256 line ends: refusal 16.
-    TooLong,
-    // Refusal 15, with the first malformed line, counted from 1.
-    Malformed { line: u16 },
-    // The finding, 1 to 3, with the first line at fault; 0 and 0 where the log is clean.
-    Judged { finding: u8, line: u16 },
-}
+ghost use Rattle.findings.specs.Findings.{judged, checked, verdict, numberOf};
+ghost use Rattle.judge_findings.specs.Marks.{Table};
+ghost use Rattle.findings.specs.Published.{Says};
 
 // Well-formed frames, marked: the first line at fault and there the lowest finding.
 fn judge_marked(bytes: &[u8], starts: &[usize], marks: &[u64], n: usize) -> Verdict

@@ -1,20 +1,20 @@
 // The first read at fault, and the lowest finding there (document 01: findings).
-use crate::findings::faults_at;
-use crate::findings::is_fractured;
-use crate::findings::is_missed;
-use crate::findings::is_unwritten;
-use judge_log::cut::frame;
-use judge_log::fields::client;
-use judge_log::fields::shown;
-use judge_log::fields::shown_stamp;
-use judge_log::fields::shown_value;
+use judge_findings::faults::faults_at;
+use judge_findings::faults::is_fractured;
+use judge_findings::faults::is_missed;
+use judge_findings::faults::is_unwritten;
+use judge_frames::cut::frame;
+use judge_frames::fields::client;
+use judge_frames::fields::shown;
+use judge_frames::fields::shown_stamp;
+use judge_frames::fields::shown_value;
 ghost use mathlib.Core.Path.{_≡_};
 ghost use Prim.Native.Nat.{_<_};
-ghost use Rattle.judge_log.specs.Cut.{framesIn};
-ghost use Rattle.judge.specs.Findings.{findings, holdsAt, lowest as lowestOf, faultAt};
-ghost use Rattle.judge.specs.Marks.{Table};
+ghost use Rattle.judge_frames.specs.Cut.{framesIn};
+ghost use Rattle.findings.specs.Findings.{findings, holdsAt, lowest as lowestOf, faultAt};
+ghost use Rattle.judge_findings.specs.Marks.{Table};
 ghost use Rattle.judge.specs.Search.{findingOf};
-ghost use Rattle.judge_log.specs.Some.{firstFrom};
+ghost use Rattle.log.specs.Some.{firstFrom};
 
 // The first line at fault, counted from 0; `n` where there is none.
 pub fn first_fault(bytes: &[u8], starts: &[usize], marks: &[u64], n: usize) -> usize

@@ -14,14 +14,14 @@ use borrow.Author.Tests.{lt-ltb, le-ltb, leb-true, leb-false}
 use Rattle.basics.specs.Lists.{counted}
 use Rattle.hex.specs.Line.{lineLength, lineEnd}
 use Rattle.hex.specs.Text.{isHex, bytesOf}
-use Rattle.judge_log.specs.Cut.{part, framesIn}
-use Rattle.judge_log.specs.Log.{firstLine, joined, linesOf, framesOf, malformedAt, textOf}
-use Rattle.judge_log.specs.Log.{frameOf, writeShaped, readShaped, malformed}
+use Rattle.judge_frames.specs.Cut.{part, framesIn}
+use Rattle.log.specs.Log.{firstLine, joined, linesOf, framesOf, malformedAt, textOf}
+use Rattle.log.specs.Log.{frameOf, shaped, malformed}
 use Rattle.basics.proofs.Cases.{by-test}
 use Rattle.hex.proofs.Line.{lineEnd-ge}
 use Rattle.hex.proofs.Text.{length-bytesOf}
-use Rattle.judge_log.proofs.Cuts.{part-new, framesIn-sets, framesIn-mark}
-use Rattle.judge_log.proofs.Some.{firstFrom-here, firstFrom-next, firstFrom-end}
+use Rattle.judge_frames.proofs.Cuts.{part-new, framesIn-sets, framesIn-mark}
+use Rattle.log.proofs.Some.{firstFrom-here, firstFrom-next, firstFrom-end}
 use Rattle.judge_log.specs.Scan.{Room, Scanning, Step, lineAt}
 
 -- ---- the frame of the line at a place
@@ -83,7 +83,7 @@ module _ (log : List ℕ) (at : ℕ) where
 
 -- no frame is well-formed that is empty
 pub malformed-empty : (above : List (List ℕ)) → malformed above [] ≡ true
-unfolding malformed writeShaped readShaped
+unfolding malformed shaped
 malformed-empty above = refl
 
 -- ---- a line taken

@@ -7,9 +7,9 @@ use lib.Dec.{eqb}
 use lib.ListN.{length, getD, take, drop}
 use Rattle.basics.specs.Lists.{counted}
 use Rattle.hex.specs.Line.{lineLength, lineEnd}
-use Rattle.judge_log.specs.Cut.{framesIn}
-use Rattle.judge_log.specs.Log.{firstLine, framesOf, malformedAt, frameOf, malformed}
-use Rattle.judge_log.specs.Some.{firstFrom}
+use Rattle.judge_frames.specs.Cut.{framesIn}
+use Rattle.log.specs.Log.{firstLine, framesOf, malformedAt, frameOf, malformed}
+use Rattle.log.specs.Some.{firstFrom}
 use Rattle.judge_log.specs.declared.scan.Scanned.{Scanned}
 use Rattle.judge_log.specs.declared.scan.Scanned.the-variants.{Lines, Bad}
 use Rattle.judge_log.specs.declared.scan.Taken.{Taken}

@@ -1,28 +1,24 @@
 // Which frames are well-formed (document 01: log frames).
-use crate::fields::byte;
-use crate::fields::client;
-use crate::fields::set;
-use crate::fields::word;
-use crate::fields::write_number;
+use judge_frames::fields::byte;
+use judge_frames::fields::client;
+use judge_frames::fields::frame_end;
+use judge_frames::fields::has_read;
+use judge_frames::fields::has_write;
+use judge_frames::fields::shown;
+use judge_frames::fields::shown_count;
+use judge_frames::fields::word;
+use judge_frames::fields::write_number;
+use judge_frames::fields::written;
 ghost use mathlib.Core.Path.{_≡_};
 ghost use Prim.Native.Nat.{_≤_};
-ghost use Rattle.itemset.specs.Set.{count};
-ghost use Rattle.judge_log.specs.Log.{setOf, isClient, isWhole, entryNumber, entryWriter, entriesWhole, writeShaped, readShaped, reaches as reachesOf};
+ghost use Rattle.log.specs.Log.{isClient, isWhole, entryNumber, entryWriter, entriesWhole, readShaped, writeShaped, shaped as shapedAs, reaches as reachesOf};
 ghost use Rattle.judge_log.specs.Parsed.{parsed};
 
 // What a line's frame parses to.
 pub enum Parsed {
-    // A client's frame, with the number of its write; 0 where it is a read.
+    // A client's frame, with the number of its write; 0 where it has no write part.
     Frame { client: u64, number: u64 },
     Malformed,
-}
-
-// How many items the frame's set has.
-fn items(f: &[u8]) -> usize
-    ensures { λ r. ⌜ r ≡ count (setOf (now (f .entry))) ⌝ }
-    ensures { λ r. ⌜ r ≤ 64 ⌝ }
-{
-    itemset::count(set(f)) as usize
 }
 
 // A client (desk) is 1 to 8.
@@ -52,7 +48,7 @@ fn entry_whole(f: &[u8], i: usize) -> bool
 fn entries_whole(f: &[u8]) -> bool
     ensures { λ r. ⌜ r ≡ entriesWhole (now (f .entry)) ⌝ }
 {
-    let n = items(f);
+    let n = shown_count(f);
     let mut i = 0;
     while i < n {
         if entry_whole(f, i) {
@@ -64,45 +60,53 @@ fn entries_whole(f: &[u8]) -> bool
     true
 }
 
-// A write: a client, a nonempty set, a number of 1 or more, one value an item.
-fn write_shaped(f: &[u8]) -> bool
-    ensures { λ r. ⌜ r ≡ writeShaped (now (f .entry)) ⌝ }
-{
-    let length = 14 + 4 * items(f);
-    (byte(f, 0) == 0x20)
-        & (is_client(client(f)) & ((1 <= set(f)) & ((1 <= write_number(f)) & (f.len() == length))))
-}
-
-// A read: a client, a nonempty set, one whole entry an item.
+// The read part, where there is one: a nonempty set, and whole stamps.
 fn read_shaped(f: &[u8]) -> bool
     ensures { λ r. ⌜ r ≡ readShaped (now (f .entry)) ⌝ }
 {
-    let length = 10 + 9 * items(f);
-    (byte(f, 0) == 0x21)
-        & (is_client(client(f)) & ((1 <= set(f)) & ((f.len() == length) & entries_whole(f))))
+    if has_read(f) {
+        (1 <= shown(f)) & entries_whole(f)
+    } else {
+        true
+    }
+}
+
+// The write part, where there is one: a nonempty set, and a number of 1 or more.
+fn write_shaped(f: &[u8]) -> bool
+    ensures { λ r. ⌜ r ≡ writeShaped (now (f .entry)) ⌝ }
+{
+    if has_write(f) {
+        (1 <= written(f)) & (1 <= write_number(f))
+    } else {
+        true
+    }
+}
+
+// A log frame: its kind, its client, its parts, and nothing behind them.
+fn shaped(f: &[u8]) -> bool
+    ensures { λ r. ⌜ r ≡ shapedAs (now (f .entry)) ⌝ }
+{
+    let end = frame_end(f);
+    (has_read(f) | has_write(f))
+        & (is_client(client(f)) & ((f.len() == end) & (read_shaped(f) & write_shaped(f))))
 }
 
 pub fn parse(f: &[u8]) -> Parsed
     ensures { λ r. ⌜ r ≡ parsed (now (f .entry)) ⌝ }
 {
-    if write_shaped(f) {
-        return Parsed::Frame {
+    if shaped(f) {
+        Parsed::Frame {
             client: client(f),
             number: write_number(f),
-        };
+        }
+    } else {
+        Parsed::Malformed
     }
-    if read_shaped(f) {
-        return Parsed::Frame {
-            client: client(f),
-            number: 0,
-        };
-    }
-    Parsed::Malformed
 }
 
-// `w` is a write of that client with that number or a greater one.
+// `w` is of that client, with that number or a greater one.
 pub fn reaches(w: &[u8], of: u64, number: u64) -> bool
     ensures { λ r. ⌜ r ≡ reachesOf of number (now (w .entry)) ⌝ }
 {
-    (byte(w, 0) == 0x20) & ((client(w) == of) & (number <= write_number(w)))
+    (client(w) == of) & (number <= write_number(w))
 }

@@ -4,7 +4,7 @@ ghost use mathlib.Core.Path.{_≡_};
 ghost use Prim.Native.Nat.{_≤_};
 ghost use lib.Dec.{eqb};
 ghost use Rattle.basics.specs.Lists.{counted};
-ghost use Rattle.judge_log.specs.Log.{tooLong};
+ghost use Rattle.log.specs.Log.{tooLong};
 
 // 1 for a line's end, else 0.
 fn is_end(c: u8) -> usize

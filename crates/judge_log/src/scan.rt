@@ -1,24 +1,24 @@
 // A log's lines, found once: each is decoded behind the last one, parsed, and marked by its start (document 01: frames).
-use crate::cut::frame;
-use crate::cut::part;
-use crate::cut::start;
 use crate::form::Parsed;
 use crate::form::parse;
 use crate::form::reaches;
 use hex::Decoded;
+use judge_frames::cut::frame;
+use judge_frames::cut::part;
+use judge_frames::cut::start;
 ghost use mathlib.Core.Path.{_≡_};
 ghost use Prim.Native.Nat.{_+_, _/_, _≤_, _<_};
 ghost use lib.ListN.{length};
 ghost use lib.Seq.{sets};
 ghost use Rattle.hex.specs.Decode.{decoded};
 ghost use Rattle.hex.specs.Text.{bytesOf};
-ghost use Rattle.judge_log.specs.Cut.{framesIn};
-ghost use Rattle.judge_log.specs.Log.{reaches as reachesOf};
+ghost use Rattle.judge_frames.specs.Cut.{framesIn};
+ghost use Rattle.log.specs.Log.{reaches as reachesOf};
 ghost use Rattle.judge_log.specs.Parsed.{refused};
 ghost use Rattle.judge_log.specs.Scan.{TakenOf, Room, Scanning, ScannedOf};
-ghost use Rattle.judge_log.specs.Some.{some};
+ghost use Rattle.log.specs.Some.{some};
 
-// One of the first `n` frames is a write of that client with that number or a greater one.
+// One of the first `n` frames is of that client, with that number or a greater one.
 fn reached(bytes: &[u8], starts: &[usize], n: usize, of: u64, number: u64) -> bool
     requires { ⌜ n ≤ 65536 ⌝ }
     ensures { λ r. ⌜ r ≡ some (reachesOf of number) (framesIn (now (bytes .entry)) (now (starts .entry)) n) ⌝ }
@@ -33,15 +33,15 @@ fn reached(bytes: &[u8], starts: &[usize], n: usize, of: u64, number: u64) -> bo
     false
 }
 
-// The same of a write, whose number isn't 0; a read, with number 0, rises over nothing.
+// The same of a number of 1 or more; 0, where there is no write part, rises over nothing.
 fn repeats(bytes: &[u8], starts: &[usize], n: usize, of: u64, number: u64) -> bool
     requires { ⌜ n ≤ 65536 ⌝ }
     ensures { λ r. ⌜ r ≡ refused (framesIn (now (bytes .entry)) (now (starts .entry)) n) (Parsed.Frame of number) ⌝ }
 {
-    if number == 0 {
-        false
-    } else {
+    if 1 <= number {
         reached(bytes, starts, n, of, number)
+    } else {
+        false
     }
 }
 

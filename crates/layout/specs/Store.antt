@@ -8,7 +8,7 @@ use lib.Seq.{sets}
 use Rattle.protocol.specs.declared.Version.{Version}
 use Rattle.protocol.specs.declared.Entry.{Entry}
 use Rattle.protocol.specs.declared.Message.{Message}
-use Rattle.protocol.specs.declared.Message.the-variants.{Prepare, Prepared, Commit, Get, Got}
+use Rattle.protocol.specs.Message.{partsOf}
 use Rattle.layout.specs.Layout.{messageWords, Section, header, latest, views, versions}
 use Rattle.layout.specs.Layout.{messages, base, needed, store, clientsAt, partitionsAt}
 use Rattle.layout.specs.Layout.{itemsAt, versionsAt, messagesAt, latestAt, viewAt, versionAt}
@@ -46,11 +46,10 @@ abbrev pub wordsOfVersion : Version → List ℕ
 wordsOfVersion v = v .item ∷ v .value ∷ v .stamp ∷ v .set ∷ []
 
 abbrev pub wordsOfMessage : Message → List ℕ
-wordsOfMessage (Prepare v) = 1 ∷ 0 ∷ v .item ∷ v .value ∷ v .stamp ∷ v .set ∷ 0 ∷ 0 ∷ []
-wordsOfMessage (Prepared k stamp) = 2 ∷ 0 ∷ k ∷ 0 ∷ stamp ∷ 0 ∷ 0 ∷ 0 ∷ []
-wordsOfMessage (Commit p stamp) = 3 ∷ p ∷ 0 ∷ 0 ∷ stamp ∷ 0 ∷ 0 ∷ 0 ∷ []
-wordsOfMessage (Get d k stamp) = 4 ∷ d ∷ k ∷ 0 ∷ stamp ∷ 0 ∷ 0 ∷ 0 ∷ []
-wordsOfMessage (Got d v e) = 5 ∷ d ∷ v .item ∷ v .value ∷ v .stamp ∷ 0 ∷ e .stamp ∷ e .set ∷ []
+wordsOfMessage m =
+    let p = partsOf m in
+    p .kind ∷ p .place ∷ p .item ∷ p .value ∷ p .stamp ∷ p .set
+    ∷ p .latest .stamp ∷ p .latest .set ∷ []
 
 unfoldable pub storeVersion : List ℕ → ℕ → Version → List ℕ
 storeVersion b i v = sets b (base versions + versionAt i 0) (wordsOfVersion v)

@@ -3,10 +3,10 @@
 use mathlib.Core.Bool.{true, cond}
 use mathlib.Core.Path.{_≡_, refl, sym, subst}
 use Prim.Native.Nat.{ℕ, _≤_}
-use native.Mathlib.Nat.{le-refl, le-trans, le-suc, le-of-lt}
+use native.Mathlib.Nat.{le-refl, le-trans, le-suc}
 use native.Mathlib.Omega.{arith}
-use lib.Dec.{eqb, ltb}
-use borrow.Author.Tests.{eqb-true, ltb-true}
+use lib.Dec.{eqb}
+use borrow.Author.Tests.{eqb-true}
 use Rattle.basics.proofs.Cases.{by-test, not-both}
 use Rattle.itemset.specs.Set.{has}
 use Rattle.protocol.specs.declared.Entry.{Entry}
@@ -18,6 +18,7 @@ use Rattle.protocol.specs.Steps.{delivered, seen, isLast, messageAt, rea
 use Rattle.protocol.specs.Steps.{got}
 use Rattle.protocol.specs.Calls.{Call, refusal, Effects, effects, effect}
 use Rattle.protocol.specs.World.{isStart}
+use Rattle.protocol.proofs.Behaviour.{later-one}
 use Rattle.protocol.proofs.Delivered.{delivered-sizes}
 use Rattle.protocol.proofs.Put.{put-every}
 use Rattle.protocol.proofs.Ranges.Values.{IsClient, EntryInRange}
@@ -56,11 +57,6 @@ delivered-rises t (Got e v l) d =
 
 -- ---- views only grow
 
-later-ge : (a b : Entry) → a .stamp ≤ laterOf a b .stamp
-later-ge a b =
-    by-test (ltb (a .stamp) (b .stamp)) (λ e. rw e (le-of-lt (ltb-true (a .stamp) (b .stamp) e)))
-    (λ e. rw e (le-refl (a .stamp)))
-
 view-put : (t : Tables) (d : ℕ) (f : ℕ → Entry) → ((k : ℕ) → t .view d k .stamp ≤ f k .stamp)
     → (e k : ℕ) → t .view e k .stamp ≤ put (t .view) d f e k .stamp
 view-put t d f h =
@@ -69,7 +65,7 @@ view-put t d f h =
 
 seen-ge : (view : ℕ → Entry) (s stamp k : ℕ) → view k .stamp ≤ seen view s stamp k .stamp
 seen-ge view s stamp k =
-    by-test (has s k) (λ e. rw e (later-ge (view k) (record { stamp = stamp; set = s })))
+    by-test (has s k) (λ e. rw e (later-one (view k) (record { stamp = stamp; set = s })))
     (λ e. rw e (le-refl (view k .stamp)))
 
 delivered-view : (t : Tables) (m : Message) → ViewGrows t (delivered t m)
@@ -90,7 +86,7 @@ delivered-view t (Got d v e) =
     let grown : (j : ℕ) → t .view d j .stamp ≤ offered j .stamp =
     put-every (λ (j : ℕ) (x : Entry). t .view d j .stamp ≤ x .stamp) (t .view d) k
     (laterOf (t .view d k) e)
-    (later-ge (t .view d k) e) (λ j n. le-refl (t .view d j .stamp)) in
+    (later-one (t .view d k) e) (λ j n. le-refl (t .view d j .stamp)) in
     view-put t d (cond (isLast ofRead c k) (seen offered (c .write .set) (c .write .stamp)) offered)
     (λ j. by-test (isLast ofRead c k)
     (λ f. rw f (le-trans (grown j) (seen-ge offered (c .write .set) (c .write .stamp) j)))

@@ -1,5 +1,11 @@
--- The thin link between sound tables and the history of calls: of each stamp's write, its set,
--- values and landings.
+-- The invariant: sound tables, and a thin link to the history of calls, which says of each stamp's
+-- write its set, its values and where its items were stored.
+pub mod Grows
+pub mod Apart
+pub mod Messages
+pub mod Owes
+pub mod Starts
+pub mod Delivery
 pub mod Step
 pub mod Asks
 use mathlib.Core.Bool.{true}

@@ -16,8 +16,8 @@ use Rattle.itemset.proofs.Counts.{count-empty, count-remove}
 use Rattle.itemset.proofs.Members.{length-members}
 use Rattle.protocol.specs.declared.Message.{Message}
 use Rattle.protocol.specs.declared.Message.the-variants.{Prepare, Prepared, Commit, Get, Got}
-use Rattle.protocol.specs.Tables.{Tables, Client, ofRead, ofWrite, resting}
-use Rattle.protocol.specs.Tables.{writerOf, withClient, withMessages}
+use Rattle.protocol.specs.Tables.{Tables, Client, ofRead, ofWrite, resting, writerOf}
+use Rattle.protocol.specs.Tables.{withClient, withMessages}
 use Rattle.protocol.specs.Range.{Capacities, arrived, load}
 use Rattle.protocol.specs.Steps.{reader, gets, writer, prepares, isLast, ended, struck}
 use Rattle.protocol.specs.Steps.{answered, prepared, got, commits, delivered, joined}

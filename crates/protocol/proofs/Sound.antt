@@ -1,6 +1,6 @@
--- What holds of the tables alone after every call (document 02's rules for a kept block, numbered
--- as there): there is a ledger, of each stamp its set and values, with which every copy agrees, so
--- that each rule is about one place of the tables.
+-- What holds of the tables alone after every call: document 02's rules for a kept block. There is a
+-- ledger, of each stamp its set and values, with which every copy agrees, so that each rule is
+-- about one place of the tables.
 pub mod Carry
 pub mod Delivery
 pub mod Distinct
@@ -42,32 +42,33 @@ pub record Ledger : Type 0 where
   pub set : ℕ → ℕ
   pub value : ℕ → ℕ → ℕ
 
--- 1, 2: initial, or whole and with the item in its set
+-- a stamp that is initial, or is whole (all its items are stored) and has the item in its set
 pub record Good (L : Ledger) (vs : List Version) (k s : ℕ) : Type 0 where
   pub mine : (eqb s 0 || has (L .set s) k) ≡ true
   pub whole : (j : ℕ) → has (L .set s) j ≡ true → stored vs j s ≡ true
 
--- 3: and its copy of the set agrees
+-- and whose copy of the set agrees
 pub record GoodEntry (L : Ledger) (vs : List Version) (k : ℕ) (e : Entry) : Type 0 where
   pub good : Good L vs k (e .stamp)
   pub agrees : e .set ≡ L .set (e .stamp)
 
--- 6: no stamp's number is above its client's count
+-- no stamp's number is above its client's count
 abbrev pub Counted : (ℕ → Client) → ℕ → Type 0
 Counted client s = numberOf s ≤ client (writerOf s) .count
 
--- 3, 5, 6 of a stored version
+-- a stored version's set and value agree, and its stamp is counted
 pub record Kept (L : Ledger) (client : ℕ → Client) (v : Version) : Type 0 where
   pub agrees : v .set ≡ L .set (v .stamp)
   pub value : v .value ≡ L .value (v .stamp) (v .item)
   pub number : Counted client (v .stamp)
 
--- 4
+-- no two stored versions are alike
 unfoldable pub distinct : List Version → Bool
 distinct [] = true
 distinct (v ∷ vs) = not (stored vs (v .item) (v .stamp)) && distinct vs
 
--- 3, 7, 8 of a write part under way
+-- a write part under way is stamped with its own client and count, its set and values agree, and
+-- its items no longer awaited are stored
 pub record Writes (L : Ledger) (vs : List Version) (d : ℕ) (c : Client) : Type 0 where
   pub newest : c .write .stamp ≡ stampOf (c .count) d
   pub agrees : c .write .set ≡ L .set (c .write .stamp)
@@ -76,7 +77,7 @@ pub record Writes (L : Ledger) (vs : List Version) (d : ℕ) (c : Client) : Type
   pub arrived : (k : ℕ) → has (c .write .set) k ≡ true → has (c .write .awaited) k ≡ false
       → stored vs k (c .write .stamp) ≡ true
 
--- 3, 6 of a last ended write
+-- a last ended write's set agrees, and its stamp is counted
 pub record Past (L : Ledger) (client : ℕ → Client) (set stamp : ℕ) : Type 0 where
   pub agrees : set ≡ L .set stamp
   pub number : Counted client stamp
@@ -86,7 +87,8 @@ Last L client nothing = Unit
 Last L client (read s stamps values) = Unit
 Last L client (write s stamp values) = Past L client s stamp
 
--- 9: the message fits its part of its client's transaction
+-- a message fits its part of its client's transaction, in stamp, set and value; a commit's write is
+-- whole
 pub record FitsPrepare (L : Ledger) (vs : List Version) (c : Client) (v : Version) : Type 0 where
   pub mode : c .write .set ≢ 0
   pub stamp : c .write .stamp ≡ v .stamp

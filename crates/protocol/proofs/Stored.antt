@@ -1,5 +1,5 @@
 -- Laws of stored versions and of the choice of stamps.
-use mathlib.Core.Bool.{true, false, _&&_, _||_}
+use mathlib.Core.Bool.{true, false, _&&_, _||_, cond}
 use mathlib.Core.List.{List, [], _∷_, _++_}
 use mathlib.Core.Logic.{_⊎_, inl, inr, ⊎-elim}
 use mathlib.Core.Path.{_≡_, refl, sym, _∙_, subst}
@@ -92,7 +92,9 @@ choice-ge view k (suc n) j h e =
     (λ f. let r = choice-ge view k n j (omega (arith, eqb-false j n f)) e in omega arith)
   where
     here : has (view n .set) k ≡ true → view n .stamp ≤ choice view k (suc n)
-    here t = rw t (omega arith)
+    here t =
+        let mine : cond (has (view n .set) k) (view n .stamp) 0 ≡ view n .stamp = rw t refl in
+        omega arith
 
 -- the choice is the stamp of some entry: the item's own, or one whose set holds the item
 pub record Chosen (view : ℕ → Entry) (k n : ℕ) : Type 0 where

@@ -8,8 +8,7 @@ use lib.Pow.{pow-pos}
 use Rattle.basics.specs.Lists.{counted}
 use Rattle.protocol.specs.Tables.{Sizes, Tables, nothing, initial, resting, fresh}
 use Rattle.protocol.specs.Range.{Capacities, sizesInRange, arrived, load, occupied, valid}
-use Rattle.protocol.specs.Calls.{Call, effect, refusal}
-use Rattle.protocol.specs.Calls.{pick, step}
+use Rattle.protocol.specs.Calls.{Call, effect, refusal, pick, step}
 use Rattle.protocol.proofs.Ranges.Values.{SizesInRange, EntryInRange, tells-sizes}
 use Rattle.protocol.proofs.Ranges.Tables.{InRange, Valid, facts-valid}
 use Rattle.protocol.proofs.Keeps.{keeps}

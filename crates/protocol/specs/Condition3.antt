@@ -18,9 +18,9 @@ use Rattle.protocol.specs.Message.{ownerOf}
 use Rattle.protocol.specs.Range.{Capacities}
 use Rattle.protocol.specs.Steps.{nextStamp}
 use Rattle.protocol.specs.Calls.{Call, startRead, startWrite, deliver, show, refusal, step}
-use Rattle.protocol.specs.World.{World, Labelled, Write, Store, begun, storing}
-use Rattle.protocol.specs.World.{after, joiningOver, leavingOver, isRequest, isReply}
-use Rattle.protocol.specs.World.{isReplyFor, isReadMessage, outcomeIn, endsFor, stays, rests}
+use Rattle.protocol.specs.World.{World, Labelled, Write, Store, begun, storing, after}
+use Rattle.protocol.specs.World.{joiningOver, leavingOver, isRequest, isReply, isReplyFor}
+use Rattle.protocol.specs.World.{isReadMessage, outcomeIn, endsFor, stays, rests}
 
 -- ---- What a read of s shows of item k, in the output bytes of a showing
 

@@ -44,6 +44,9 @@ kindOf m = partsOf m .kind
 abbrev pub isPrepare : Message → Bool
 isPrepare m = eqb (kindOf m) 1
 
+abbrev pub isPrepared : Message → Bool
+isPrepared m = eqb (kindOf m) 2
+
 abbrev pub isCommit : Message → Bool
 isCommit m = eqb (kindOf m) 3
 

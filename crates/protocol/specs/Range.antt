@@ -10,8 +10,7 @@ use Rattle.protocol.specs.declared.Version.{Version}
 use Rattle.protocol.specs.declared.Entry.{Entry}
 use Rattle.protocol.specs.declared.Message.{Message}
 use Rattle.protocol.specs.Tables.{Sizes, Tables, Client, ReadPart, WritePart, Ended, nothing}
-use Rattle.protocol.specs.Tables.{read, write}
-use Rattle.protocol.specs.Tables.{numberOf, writerOf}
+use Rattle.protocol.specs.Tables.{read, write, numberOf, writerOf}
 use Rattle.protocol.specs.Message.{partsOf, isPrepare, namesClient}
 
 -- counts are at most 4,294,967,295 and values of 32 bits

@@ -20,8 +20,8 @@ use Rattle.protocol.specs.Calls.{effects, effect, step}
 
 -- ---- Labels
 
--- A time is a number of calls: the first of a list is made at its world's time, each later one a unit
--- later.
+-- A time is a number of calls: the first of a list is made at its world's time, each later one a
+-- unit later.
 
 -- whose message it is, the time of the start that it goes back to, and the time at which it joined
 pub record Label : Type 0 where

@@ -12,7 +12,8 @@ use Rattle.basics.specs.Lists.{every, all, table, counted}
 use Rattle.protocol.specs.Tables.{Sizes, initial, resting, nothing}
 use Rattle.protocol.specs.Range.{sizesInRange, entryInRange, versionInRange, messageInRange}
 use Rattle.protocol.specs.Range.{clientInRange, inRange, valid}
-use Rattle.protocol.specs.Range.{isClient, isItem, everyClient, isPrepare, arrived, total, load}
+use Rattle.protocol.specs.Range.{isClient, isItem, everyClient, arrived, total, load}
+use Rattle.protocol.specs.Message.{isPrepare}
 use Rattle.protocol.specs.Range.{occupied}
 use Rattle.protocol.proofs.Tells.{tells-and, tells-le}
 use Rattle.protocol.proofs.Ranges.Values.{tells-sizes}
@@ -180,11 +181,13 @@ headerTest clients partitions items versions messages =
 
 pub header-bounds : (clients partitions items versions messages : ℕ) {known : Bool}
     → known ≡ headerTest clients partitions items versions messages
-    → known ≡ true → (clients ≤ mostClients) × (items ≤ mostItems) × (versions ≤ mostVersions)
-    × (messages ≤ mostMessages)
+    → known ≡ true
+    → (clients ≤ mostClients) × (1 ≤ partitions) × (1 ≤ items) × (items ≤ mostItems)
+    × (versions ≤ mostVersions) × (messages ≤ mostMessages)
 header-bounds clients partitions items versions messages k e =
     let f = simp (tells-and, tells-le, tells-sizes) at (sym k ∙ e) in
-    (f .0 .0 .clients, f .0 .0 .items, f .0 .1, f .1)
+    let z = f .0 .0 in
+    (z .clients, z .somePartition, z .someItem, z .items, f .0 .1, f .1)
 
 module _ (b : List ℕ) {clients partitions items versions messages : ℕ}
     (p : clients ≡ at b header clientsAt) (q : partitions ≡ at b header partitionsAt)

@@ -11,7 +11,8 @@ use borrow.Author.Tests.{le-leb, lt-leb, ne-eqb}
 use Rattle.itemset.specs.Set.{count}
 use Rattle.itemset.proofs.Counts.{count-empty}
 use Rattle.protocol.specs.declared.Entry.{Entry}
-use Rattle.protocol.specs.Range.{isPrepare, arrived}
+use Rattle.protocol.specs.Message.{isPrepare}
+use Rattle.protocol.specs.Range.{arrived}
 use Rattle.layout.specs.Layout.{at, scalars, modeAt, setAt}
 use Rattle.layout.specs.Layout.{awaitedAt}
 use Rattle.layout.specs.Decode.{clientIn, kindIn, messageOf, messageIn}
@@ -32,7 +33,7 @@ module _ (b : List ℕ) (d : ℕ) where
 
 prepare-number : (n who k v stamp s : ℕ) (e : Entry)
     → isPrepare (messageOf n who k v stamp s e) ≡ eqb n 1
-unfolding isPrepare messageOf
+unfolding messageOf
 prepare-number zero who k v stamp s e = refl
 prepare-number (suc zero) who k v stamp s e = refl
 prepare-number (suc (suc zero)) who k v stamp s e = refl

@@ -5,7 +5,7 @@ use Prim.Native.Nat.{ℕ, suc, _+_}
 use lib.Dec.{leb}
 use Rattle.basics.specs.Lists.{every, counted, table}
 use Rattle.protocol.specs.Range.{capacities, entryInRange, versionInRange, arrived, total}
-use Rattle.protocol.specs.Range.{isPrepare}
+use Rattle.protocol.specs.Message.{isPrepare}
 use Rattle.layout.specs.Decode.{latestIn, viewIn, clientIn, versionIn, messageIn}
 use Rattle.gather.specs.Sized.{sized}
 use Rattle.range_client.specs.Clients.{clientTest}

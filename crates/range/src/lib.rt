@@ -42,7 +42,7 @@ fn tables_in_range(
     versions: u64,
     messages: u64,
 ) -> bool
-    requires { ⌜ (clients ≤ mostClients) × (items ≤ mostItems) × (versions ≤ mostVersions) × (messages ≤ mostMessages) × (needed ≤ length (now b)) ⌝ }
+    requires { ⌜ (clients ≤ mostClients) × (1 ≤ partitions) × (1 ≤ items) × (items ≤ mostItems) × (versions ≤ mostVersions) × (messages ≤ mostMessages) × (needed ≤ length (now b)) ⌝ }
     ensures { λ r. ⌜ r ≡ tablesTest (now (b .entry)) clients partitions items versions messages ⌝ }
 {
     entry::views_in_range(b, clients, items)

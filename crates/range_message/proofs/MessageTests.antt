@@ -1,13 +1,17 @@
 -- The tests of those words of a message that its kind uses are the protocol's test of the message
 -- that they are.
-use mathlib.Core.Bool.{Bool, not, _&&_}
+use mathlib.Core.Bool.{Bool, true, false, not, _&&_, _||_}
 use mathlib.Core.List.{List}
 use mathlib.Core.Logic.{_≢_}
 use mathlib.Core.Path.{_≡_, refl, _∙_}
-use Prim.Native.Nat.{ℕ, zero, suc, _^_}
+use Prim.Native.Nat.{ℕ, zero, suc, _^_, _≤_}
 use native.Mathlib.Omega.{arith}
 use lib.Dec.{eqb, ltb, leb}
-use borrow.Author.Tests.{le-leb, lt-leb, ne-eqb}
+use lib.Pow.{pow-pos}
+use borrow.Author.Tests.{le-leb, lt-leb, lt-ltb, ne-eqb}
+use Rattle.basics.proofs.Cases.{test-ext}
+use Rattle.itemset.specs.Set.{has}
+use Rattle.protocol.proofs.Tells.{tells-and}
 use Rattle.protocol.specs.declared.Entry.{Entry}
 use Rattle.protocol.specs.declared.Message.{Message}
 use Rattle.protocol.specs.Range.{stampInRange, entryInRange, versionInRange, messageInRange}
@@ -16,9 +20,31 @@ use Rattle.layout.specs.Encodes.{word}
 use Rattle.gather.specs.Sized.{sizes, sized}
 use Rattle.range_message.specs.Messages.{messageTest}
 
-module _ (clients partitions items : ℕ) where
+-- ---- the same tests in another order, where those of parts that a kind doesn't have are passed
+
+version-order : (item value stamp later below own : Bool)
+    → (item && value && stamp && later && below && own)
+    ≡ (item && value && stamp && below && true && later && own)
+version-order item value stamp later below own =
+    test-ext _ _ (λ e. let f = simp tells-and at e in simp tells-and search)
+    (λ e. let f = simp tells-and at e in simp tells-and search)
+
+passed : (a : Bool) → (a && true) ≡ a
+passed true = refl
+passed false = refl
+
+module _ (clients partitions items : ℕ) (some : 1 ≤ partitions) (one : 1 ≤ items) where
   abbrev numberTest : ℕ → Message → Bool
   numberTest kind m = leb 1 kind && leb kind 5 && messageInRange (sizes clients partitions items) m
+
+  partition-0 : ltb 0 partitions ≡ true
+  partition-0 = lt-ltb 0 partitions some
+
+  item-0 : ltb 0 items ≡ true
+  item-0 = lt-ltb 0 items one
+
+  empty-below : ltb 0 (2 ^ items) ≡ true
+  empty-below = lt-ltb 0 (2 ^ items) (pow-pos items)
 
   -- from the outcomes of the tests that its kind asks for
   module _ (kind who k v stamp s : ℕ) (e : Entry) where
@@ -29,24 +55,26 @@ module _ (clients partitions items : ℕ) where
         → ok ≡ versionInRange (sized clients items)
         (record { item = k; value = v; stamp = stamp; set = s }) → kind ≡ 1
         → ok ≡ whole
-    unfolding messageOf messageInRange versionInRange stampInRange
-    prepare-tests p q = rw (p, q)
+    unfolding messageOf messageInRange versionInRange entryInRange stampInRange
+    prepare-tests p q = rw (p, q, partition-0, empty-below)
+        (version-order (ltb k items) (ltb v (2 ^ 32)) _ (not (eqb stamp 0)) (ltb s (2 ^ items))
+        (has s k))
 
     pub prepared-tests : {stamped : Bool} → stamped ≡ stampInRange (sized clients 0) stamp
         → kind ≡ 2
         → (ltb k items && stamped && not (eqb stamp 0)) ≡ whole
-    unfolding messageOf messageInRange stampInRange
-    prepared-tests p q = rw (p, q)
+    unfolding messageOf messageInRange entryInRange stampInRange
+    prepared-tests p q = rw (p, q, partition-0, empty-below) (simp passed)
 
     pub commit-tests : {stamped : Bool} → stamped ≡ stampInRange (sized clients 0) stamp → kind ≡ 3
         → (ltb who partitions && stamped && not (eqb stamp 0)) ≡ whole
-    unfolding messageOf messageInRange stampInRange
-    commit-tests p q = rw (p, q)
+    unfolding messageOf messageInRange entryInRange stampInRange
+    commit-tests p q = rw (p, q, item-0, empty-below) (simp passed)
 
     pub get-tests : {stamped : Bool} → stamped ≡ stampInRange (sized clients 0) stamp → kind ≡ 4
         → ((leb 1 who && leb who clients) && ltb k items && stamped) ≡ whole
-    unfolding messageOf messageInRange stampInRange
-    get-tests p q = rw (p, q)
+    unfolding messageOf messageInRange entryInRange stampInRange
+    get-tests p q = rw (p, q, empty-below) (simp passed)
 
   pub got-tests : (kind who k v stamp s : ℕ) (e : Entry) {stamped entry : Bool}
       → stamped ≡ stampInRange (sized clients 0) stamp
@@ -60,7 +88,8 @@ module _ (clients partitions items : ℕ) where
   got-tests (suc (suc zero)) who k v stamp s e p q n₁ n₂ n₃ n₄ = absurd (n₂ refl)
   got-tests (suc (suc (suc zero))) who k v stamp s e p q n₁ n₂ n₃ n₄ = absurd (n₃ refl)
   got-tests (suc (suc (suc (suc zero)))) who k v stamp s e p q n₁ n₂ n₃ n₄ = absurd (n₄ refl)
-  got-tests (suc (suc (suc (suc (suc zero))))) who k v stamp s e p q n₁ n₂ n₃ n₄ = rw (p, q)
+  got-tests (suc (suc (suc (suc (suc zero))))) who k v stamp s e p q n₁ n₂ n₃ n₄ =
+      rw (p, q, empty-below) (simp passed)
   got-tests (suc (suc (suc (suc (suc (suc kind)))))) who k v stamp s e p q n₁ n₂ n₃ n₄ =
       rw (
         ne-eqb (suc (suc (suc (suc (suc (suc kind)))))) 5 (omega arith),

@@ -82,7 +82,7 @@ fn words_in_range(
     partitions: u64,
     items: u64,
 ) -> bool
-    requires { ⌜ clients ≤ mostClients ⌝ }
+    requires { ⌜ (clients ≤ mostClients) × (1 ≤ partitions) × (1 ≤ items) ⌝ }
     ensures { λ r. ⌜ r ≡ (leb 1 kind && leb kind 5 && messageInRange (sizes clients partitions items) (messageOf kind who item value stamp set latest)) ⌝ }
 {
     if kind == 1 {
@@ -115,7 +115,7 @@ fn words_in_range(
 }
 
 fn message_in_range(b: &[u64], i: u64, clients: u64, partitions: u64, items: u64) -> bool
-    requires { ⌜ (i < mostMessages) × (clients ≤ mostClients) × (needed ≤ length (now b)) ⌝ }
+    requires { ⌜ (i < mostMessages) × (clients ≤ mostClients) × (1 ≤ partitions) × (1 ≤ items) × (needed ≤ length (now b)) ⌝ }
     ensures { λ r. ⌜ r ≡ messageTest (now (b .entry)) i clients partitions items ⌝ }
 {
     words_in_range(
@@ -137,7 +137,7 @@ fn message_in_range(b: &[u64], i: u64, clients: u64, partitions: u64, items: u64
 
 // The first `n` messages.
 pub fn messages_in_range(b: &[u64], n: u64, clients: u64, partitions: u64, items: u64) -> bool
-    requires { ⌜ (n ≤ mostMessages) × (clients ≤ mostClients) × (needed ≤ length (now b)) ⌝ }
+    requires { ⌜ (n ≤ mostMessages) × (clients ≤ mostClients) × (1 ≤ partitions) × (1 ≤ items) × (needed ≤ length (now b)) ⌝ }
     ensures { λ r. ⌜ r ≡ every n (λ i. messageTest (now (b .entry)) i clients partitions items) ⌝ }
 {
     let mut ok = true;

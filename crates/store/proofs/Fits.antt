@@ -13,7 +13,8 @@ use Rattle.protocol.specs.declared.Answer.the-variants.{Refused, Made, Started,
 use Rattle.protocol.specs.Tables.{Tables, Sizes, ofRead, ofWrite, writerOf}
 use Rattle.protocol.specs.Steps.{messageAt, isLast}
 use Rattle.protocol.specs.Calls.{Call, startRead, startWrite, deliver, show, Test, test, first}
-use Rattle.protocol.specs.Calls.{refusal, effect, reply, step, pick, kindOf, outcomeOf}
+use Rattle.protocol.specs.Message.{kindOf}
+use Rattle.protocol.specs.Calls.{refusal, effect, reply, step, pick, outcomeOf}
 use Rattle.protocol.specs.Calls.{numberOfAnswer}
 use Rattle.protocol.proofs.Valid.{valid-kept}
 use Rattle.protocol.specs.Range.{capacities}
@@ -61,7 +62,6 @@ fresh-refusal-le b z = more 2 _ _ (omega arith) (more 1 _ _ (omega arith) none)
 -- ---- kinds and outcomes
 
 kind-le : (m : Message) → kindOf m < 2 ^ 8
-unfolding kindOf
 kind-le (Prepare v) = omega arith
 kind-le (Prepared k stamp) = omega arith
 kind-le (Commit p stamp) = omega arith
@@ -94,7 +94,7 @@ refusalOf (Delivered kind n outcome) = 0
 refusalOf (Shown n) = 0
 
 reply-fits : (t : Tables) (c : Call) → refusal capacities t c ≡ 0 → Fits (reply t c)
-unfolding reply
+unfolding reply effect
 reply-fits t (startRead d s) e = omega
     (arith, few-messages (effect t (startRead d s)) (valid-kept capacities t (startRead d s) e))
 reply-fits t (startWrite d s bytes) e =

@@ -85,7 +85,7 @@ module _ (b : List ℕ) (d s : ℕ) (e : refusalOn b (startRead d s) ≡ 0) wher
   pub read-given : (after : List ℕ) (n : ℕ) → after ≡ readStarted b d s
       → n ≡ at after header messagesAt
       → (Started n ≡ answerOn b (startRead d s)) × (after ≡ blockAfter b (startRead d s))
-  unfolding changed reply
+  unfolding changed reply effect
   read-given after n a m = (
     ap Started (count-given b (startRead d s) e after a n m)
         ∙ sym (answer-accepted b (startRead d s) e),
@@ -119,7 +119,7 @@ module _ (b : List ℕ) (d s : ℕ) (bytes : List ℕ) (e : refusalOn b (startWr
       → n ≡ at after header messagesAt
       → (Started n ≡ answerOn b (startWrite d s bytes))
       × (after ≡ blockAfter b (startWrite d s bytes))
-  unfolding changed reply
+  unfolding changed reply effect
   write-given after n a m = (
     ap Started (count-given b (startWrite d s bytes) e after a n m)
         ∙ sym (answer-accepted b (startWrite d s bytes) e),

@@ -16,8 +16,9 @@ use Rattle.protocol.specs.declared.Answer.the-variants.{Delivered}
 use Rattle.protocol.specs.declared.Entry.{Entry}
 use Rattle.protocol.specs.Tables.{Tables}
 use Rattle.protocol.specs.Steps.{messageAt}
-use Rattle.protocol.specs.Calls.{deliver, refusal, reply, test, first, unexpected, missing, kindOf}
-use Rattle.protocol.specs.Calls.{outcomeOf}
+use Rattle.protocol.specs.Message.{kindOf}
+use Rattle.protocol.specs.Calls.{deliver, refusal, reply, test, first, unexpected, missing}
+use Rattle.protocol.specs.Calls.{effect, outcomeOf}
 use Rattle.protocol.proofs.Ranges.Values.{MessageInRange}
 use Rattle.protocol.proofs.Ranges.Tables.{Valid, valid-facts}
 use Rattle.protocol.proofs.Refusals.{Expected, accepted-deliver}
@@ -44,7 +45,7 @@ use Rattle.store.proofs.Given.{block-given, count-given}
 
 kind-number : (kind who k v stamp s : ℕ) (e : Entry) → 1 ≤ kind → kind ≤ 5
     → kindOf (messageOf kind who k v stamp s e) ≡ kind
-unfolding kindOf messageOf
+unfolding messageOf
 kind-number zero who k v stamp s e l h = absurd (omega arith)
 kind-number (suc zero) who k v stamp s e l h = refl
 kind-number (suc (suc zero)) who k v stamp s e l h = refl
@@ -180,7 +181,7 @@ module _ (b : List ℕ) (i : ℕ) (e : refusalOn b (deliver i) ≡ 0) where
       → count ≡ at after header messagesAt → kind ≡ kindIn b i
       → (Delivered kind count (x .outcome) ≡ answerOn b (deliver i))
       × (after ≡ blockAfter b (deliver i))
-  unfolding changed reply
+  unfolding changed reply effect
   deliver-given n p k w x m en ep ek ew em ex after count kind a c h =
       let whole : after ≡ deliveredBlock b i =
       a ∙ delivered-block b n i (record { partitions = p; items = k; versions = w }) (x .value) m en

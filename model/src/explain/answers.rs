@@ -2,14 +2,14 @@
 
 use super::log;
 use super::refusals::refused;
-use super::text;
 use super::words::count;
+use crate::call::Call;
+use crate::frames::hex::from_line;
 use crate::frames::log::LogFrame;
-use crate::frames::store::StoreFrame;
 
 /// What a line says that answers this frame, or a malformed one where there is none.
-pub fn sentence(frame: Option<&StoreFrame>, line: &[u8]) -> String {
-    let bytes = match text::bytes(line) {
+pub fn sentence(frame: Option<&Call>, line: &[u8]) -> String {
+    let bytes = match from_line(line) {
         Ok(bytes) => bytes,
         Err(wrong) => return format!("malformed answer: {wrong}"),
     };
@@ -21,18 +21,18 @@ pub fn sentence(frame: Option<&StoreFrame>, line: &[u8]) -> String {
 }
 
 /// An accepted call's answer, if the bytes are one of this frame.
-fn accepted(frame: &StoreFrame, bytes: &[u8]) -> Option<String> {
+fn accepted(frame: &Call, bytes: &[u8]) -> Option<String> {
     match (frame, bytes) {
-        (StoreFrame::Fresh { .. }, [0]) => Some("accepted".to_owned()),
-        (StoreFrame::Read { .. } | StoreFrame::Write { .. }, [0, high, low]) => {
+        (Call::Fresh { .. }, [0]) => Some("accepted".to_owned()),
+        (Call::Read { .. } | Call::Write { .. }, [0, high, low]) => {
             Some(format!("accepted, {}", in_flight(*high, *low)))
         }
-        (StoreFrame::Deliver { .. }, [0, kind, high, low, outcome]) => {
+        (Call::Deliver { .. }, [0, kind, high, low, outcome]) => {
             let (kind, ended) = (kind_name(*kind)?, ended(*outcome)?);
             Some(format!("a {kind}, {}{ended}", in_flight(*high, *low)))
         }
-        (StoreFrame::Show { .. }, [0, frame @ ..]) => {
-            LogFrame::parse(frame).map(|frame| log::sentence(&frame))
+        (Call::Show { .. }, [0, frame @ ..]) => {
+            LogFrame::parse(frame).ok().map(|frame| log::sentence(&frame))
         }
         _ => None,
     }

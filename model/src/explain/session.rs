@@ -1,6 +1,7 @@
 //! A session with the store driver: each frame, its answer and what they say, side by side.
 
 use super::{answers, store};
+use crate::frames::store::parse;
 
 /// The columns of frames and of answers; what is longer pushes the sentence to the next line.
 const FRAME: usize = 36;
@@ -33,13 +34,13 @@ fn sentence(frame: Option<&[u8]>, answer: Option<&[u8]>) -> String {
     let Some(frame) = frame else {
         return "an answer to no frame".to_owned();
     };
-    let frame = store::frame(frame);
-    let asked = match &frame {
-        Ok(frame) => store::sentence(frame),
+    let call = parse(frame);
+    let asked = match &call {
+        Ok(call) => store::sentence(call),
         Err(wrong) => format!("malformed frame: {wrong}"),
     };
     let answered = match answer {
-        Some(answer) => answers::sentence(frame.as_ref().ok(), answer),
+        Some(answer) => answers::sentence(call.as_ref().ok(), answer),
         None => "no answer".to_owned(),
     };
     format!("{asked}: {answered}")

@@ -1,9 +1,9 @@
 //! Numbers and sets of items in words.
 
-use crate::store::set::items;
+use crate::set::items;
 
 /// So many of a thing.
-pub fn count(number: usize, thing: &str) -> String {
+pub fn count(number: u64, thing: &str) -> String {
     match number {
         1 => format!("1 {thing}"),
         _ => format!("{number} {thing}s"),
@@ -15,9 +15,7 @@ pub fn items_of(set: u64) -> String {
     let mut parts = Vec::new();
     let mut rest: Vec<u64> = items(set).collect();
     while let Some(first) = rest.first().copied() {
-        let in_a_row = (first..)
-            .zip(&rest)
-            .take_while(|(next, item)| next == *item);
+        let in_a_row = (first..).zip(&rest).take_while(|(next, item)| next == *item);
         let length = match in_a_row.count() {
             2 => 1,
             length => length,
@@ -47,9 +45,7 @@ fn listed(parts: &[String]) -> String {
 
 /// Each item with its value.
 pub fn valued(set: u64, values: &[u32]) -> String {
-    let parts: Vec<String> = items(set)
-        .zip(values)
-        .map(|(item, value)| format!("item {item}, value {value}"))
-        .collect();
+    let parts: Vec<String> =
+        items(set).zip(values).map(|(item, value)| format!("item {item}, value {value}")).collect();
     parts.join("; ")
 }

@@ -1,24 +1,33 @@
-//! Bytes as lowercase hexadecimal, two digits a byte.
-
-const DIGITS: &[u8; 16] = b"0123456789abcdef";
+//! Bytes as lines of lowercase hexadecimal, two digits a byte, each line ended by 0a.
 
 /// The digits of the bytes.
 pub fn to_hex(bytes: &[u8]) -> String {
-    bytes
-        .iter()
-        .flat_map(|byte| [byte >> 4, byte & 15])
-        .map(|digit| char::from(DIGITS[usize::from(digit)]))
-        .collect()
+    bytes.iter().map(|byte| format!("{byte:02x}")).collect()
 }
 
-/// The bytes of a line (its line end taken off), if it is lowercase digits alone and an even number of them.
-pub fn from_hex(line: &[u8]) -> Option<Vec<u8>> {
-    if !line.len().is_multiple_of(2) {
-        return None;
+/// The bytes of a line that comes with its 0a, or what is wrong with its text.
+pub fn from_line(line: &[u8]) -> Result<Vec<u8>, String> {
+    let Some(digits) = line.strip_suffix(b"\n") else {
+        return Err("no 0a at its end".to_owned());
+    };
+    if digits.is_empty() {
+        return Err("it is empty".to_owned());
     }
-    line.chunks(2)
-        .map(|pair| Some(digit(pair[0])? * 16 + digit(pair[1])?))
-        .collect()
+    let values: Result<Vec<u8>, String> = digits
+        .iter()
+        .enumerate()
+        .map(|(place, character)| digit(*character).ok_or_else(|| no_digit(*character, place + 1)))
+        .collect();
+    let values = values?;
+    if !values.len().is_multiple_of(2) {
+        return Err(format!("an odd number of digits, {}", values.len()));
+    }
+    Ok(values.chunks(2).map(|pair| pair[0] * 16 + pair[1]).collect())
+}
+
+/// A number of some bytes, most significant byte first.
+pub fn number(bytes: &[u8]) -> u64 {
+    bytes.iter().fold(0, |number, byte| number << 8 | u64::from(*byte))
 }
 
 fn digit(character: u8) -> Option<u8> {
@@ -27,4 +36,15 @@ fn digit(character: u8) -> Option<u8> {
         b'a'..=b'f' => Some(character - b'a' + 10),
         _ => None,
     }
+}
+
+fn no_digit(character: u8, column: usize) -> String {
+    let what = match character {
+        b'A'..=b'F' => format!("uppercase digit {}", char::from(character)),
+        b'\r' => "carriage return".to_owned(),
+        b' ' => "space".to_owned(),
+        b'!'..=b'~' => format!("no digit but {}", char::from(character)),
+        _ => format!("no digit but byte {character:02x}"),
+    };
+    format!("{what} at column {column}")
 }

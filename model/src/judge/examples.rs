@@ -26,11 +26,7 @@ pub fn bench() -> Vec<Example> {
         example("fractured read", "00020002", &[write, half_read]),
         example("whole read", "00000000", &[write, second_read]),
         example("session", "00000000", &[write, first_read, second_read]),
-        example(
-            "session without its write",
-            "00010002",
-            &[first_read, second_read],
-        ),
+        example("session without its write", "00010002", &[first_read, second_read]),
     ]
 }
 

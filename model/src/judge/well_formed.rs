@@ -1,56 +1,67 @@
 //! Refusal 15: which lines of a log the judge takes.
 
-use crate::frames::hex::from_hex;
-use crate::frames::log::{LogFrame, Shown};
+use crate::frames::hex::from_line;
+use crate::frames::log::LogFrame;
+use crate::stamp::Stamp;
 
-/// The log's frames, line by line; or its first malformed line, counted from 1.
-pub fn frames(log: &[u8]) -> Result<Vec<LogFrame>, usize> {
-    let mut frames = Vec::new();
+/// The frame of each line, or what is wrong with the line.
+pub fn lines(log: &[u8]) -> Vec<Result<LogFrame, String>> {
+    let mut lines = Vec::new();
     for line in log.split_inclusive(|byte| *byte == b'\n') {
-        match frame(line, &frames) {
-            Some(frame) => frames.push(frame),
-            None => return Err(frames.len() + 1),
-        }
+        lines.push(frame(line, &lines));
     }
-    Ok(frames)
+    lines
 }
 
 /// The frame of a line with its line end, if the line is well formed below those above it.
-fn frame(line: &[u8], above: &[LogFrame]) -> Option<LogFrame> {
-    let digits = line.strip_suffix(b"\n")?;
-    let frame = LogFrame::parse(&from_hex(digits)?)?;
-    let well_formed = match &frame {
-        LogFrame::Write {
-            client,
-            set,
-            number,
-            ..
-        } => is_client(*client) && *set != 0 && *number >= 1 && rises(*client, *number, above),
-        LogFrame::Read { client, set, shown } => {
-            is_client(*client) && *set != 0 && shown.iter().all(is_stamped)
+fn frame(line: &[u8], above: &[Result<LogFrame, String>]) -> Result<LogFrame, String> {
+    let frame = LogFrame::parse(&from_line(line)?)?;
+    match wrong_field(&frame, above) {
+        Some(wrong) => Err(wrong),
+        None => Ok(frame),
+    }
+}
+
+fn wrong_field(frame: &LogFrame, above: &[Result<LogFrame, String>]) -> Option<String> {
+    let client = frame.client();
+    if !is_client(client.into()) {
+        return Some(format!("client {client}, and clients are 1 to 8"));
+    }
+    match frame {
+        LogFrame::Write { set: 0, .. } | LogFrame::Read { set: 0, .. } => {
+            Some("its set is empty".to_owned())
         }
-    };
-    well_formed.then_some(frame)
+        LogFrame::Write { number: 0, .. } => Some("write 0, and numbers begin with 1".to_owned()),
+        LogFrame::Write { number, .. } => not_risen(client, *number, above),
+        LogFrame::Read { .. } => {
+            let shown = frame.shown();
+            let wrong = shown.iter().find(|entry| !is_stamp(entry.stamp))?;
+            let (item, Stamp { number, client }) = (wrong.item, wrong.stamp);
+            Some(format!("item {item} from write {number} of client {client}"))
+        }
+    }
 }
 
 /// Desks are 1..8.
-fn is_client(client: u8) -> bool {
+fn is_client(client: u64) -> bool {
     (1..=8).contains(&client)
 }
 
-/// The number is greater than that of each write above by the same client.
-fn rises(client: u8, number: u32, above: &[LogFrame]) -> bool {
-    above.iter().all(|frame| match frame {
-        LogFrame::Write {
-            client: writer,
-            number: earlier,
-            ..
-        } => *writer != client || *earlier < number,
-        LogFrame::Read { .. } => true,
-    })
+/// Number and writing desk are both 0, or at least 1 and 1..8.
+fn is_stamp(stamp: Stamp) -> bool {
+    stamp == Stamp::INITIAL || stamp.number >= 1 && is_client(stamp.client)
 }
 
-/// Number and writing desk are both 0, or at least 1 and 1..8.
-fn is_stamped(shown: &Shown) -> bool {
-    (shown.number == 0 && shown.client == 0) || (shown.number >= 1 && is_client(shown.client))
+/// The first write above by the same client with a number that isn't lower.
+fn not_risen(client: u8, number: u32, above: &[Result<LogFrame, String>]) -> Option<String> {
+    (1..).zip(above).find_map(|(line, frame)| match frame {
+        Ok(LogFrame::Write { client: writer, number: earlier, .. })
+            if *writer == client && *earlier >= number =>
+        {
+            Some(format!(
+                "write {number} of client {client} below its write {earlier}, log line {line}"
+            ))
+        }
+        _ => None,
+    })
 }

@@ -2,10 +2,10 @@
 
 use super::places::{self, Scalar, NEEDED};
 use super::stamp_of;
+use crate::set::items;
+use crate::stamp::{Entry, Stamp};
 use crate::store::message::Message;
 use crate::store::range::is_usable;
-use crate::store::set::items;
-use crate::store::stamp::{Entry, Stamp};
 use crate::store::tables::{
     Client, Ended, Sizes, Tables, Version, IDLE, LOAD_CAPACITY, NONE, READ, READING,
     VERSION_CAPACITY, WRITE, WRITING,
@@ -16,17 +16,14 @@ pub fn is_valid(words: &[u64]) -> bool {
     decode(words).is_some_and(|tables| is_usable(&tables))
 }
 
-/// The tables that the words encode, in range or not, initial outside sizes, counts and sets. None where the block
-/// is too short, its sizes are ones that 2 refuses, or a count, mode or kind is the number of none.
+/// The tables that the words encode, in range or not, initial outside sizes, counts and sets. None
+/// where the block is too short, its sizes are ones that 2 refuses, or a count, mode or kind is the
+/// number of none.
 pub fn decode(words: &[u64]) -> Option<Tables> {
     if words.len() < NEEDED {
         return None;
     }
-    let sizes = Sizes::new(
-        words[places::CLIENTS],
-        words[places::PARTITIONS],
-        words[places::ITEMS],
-    );
+    let sizes = Sizes::new(words[places::CLIENTS], words[places::PARTITIONS], words[places::ITEMS]);
     let (versions, messages) = (words[places::VERSIONS], words[places::MESSAGES]);
     if !sizes.are_allowed() || versions > VERSION_CAPACITY || messages > LOAD_CAPACITY {
         return None;
@@ -46,9 +43,7 @@ pub fn decode(words: &[u64]) -> Option<Tables> {
         tables.versions.push(version(words, places::version(place)));
     }
     for place in 0..messages as usize {
-        tables
-            .messages
-            .push(message(words, places::message(place))?);
+        tables.messages.push(message(words, places::message(place))?);
     }
     Some(tables)
 }
@@ -76,9 +71,7 @@ fn running(words: &[u64], client: usize, record: &mut Client) -> Option<()> {
         };
         record.values[item] = words[places::value(client, item)];
     }
-    [IDLE, READING, WRITING]
-        .contains(&record.mode)
-        .then_some(())
+    [IDLE, READING, WRITING].contains(&record.mode).then_some(())
 }
 
 fn last(words: &[u64], client: usize, last: &mut Ended) -> Option<()> {
@@ -117,18 +110,8 @@ fn message(words: &[u64], place: usize) -> Option<Message> {
         1 => Some(Message::Prepare(version(words, place + 2))),
         2 => Some(Message::Prepared { item, stamp }),
         3 => Some(Message::Commit { partition, stamp }),
-        4 => Some(Message::Get {
-            client,
-            item,
-            stamp,
-        }),
-        5 => Some(Message::Got {
-            client,
-            item,
-            value,
-            stamp,
-            latest: entry(words, place + 6),
-        }),
+        4 => Some(Message::Get { client, item, stamp }),
+        5 => Some(Message::Got { client, item, value, stamp, latest: entry(words, place + 6) }),
         _ => None,
     }
 }

@@ -3,9 +3,9 @@
 use super::places::{self, Scalar, NEEDED};
 use super::sort::Sort;
 use super::stamp_word;
+use crate::set::items;
+use crate::stamp::Entry;
 use crate::store::message::Message;
-use crate::store::set::items;
-use crate::store::stamp::Entry;
 use crate::store::tables::{Client, Tables, Version, NONE, READ, WRITE, WRITING};
 
 /// A word of the block that is a field of the tables.
@@ -40,26 +40,11 @@ type Visit<'a> = dyn FnMut(Field) + 'a;
 fn visit(tables: &Tables, to: &mut Visit) {
     let sizes = &tables.sizes;
     one(to, places::CLIENTS, sizes.clients, Sort::NumberOfClients);
-    one(
-        to,
-        places::PARTITIONS,
-        sizes.partitions,
-        Sort::NumberOfPartitions,
-    );
+    one(to, places::PARTITIONS, sizes.partitions, Sort::NumberOfPartitions);
     one(to, places::ITEMS, sizes.items, Sort::NumberOfItems);
     let (versions, messages) = (tables.versions.len(), tables.messages.len());
-    one(
-        to,
-        places::VERSIONS,
-        versions as u64,
-        Sort::NumberOfVersions,
-    );
-    one(
-        to,
-        places::MESSAGES,
-        messages as u64,
-        Sort::NumberOfMessages,
-    );
+    one(to, places::VERSIONS, versions as u64, Sort::NumberOfVersions);
+    one(to, places::MESSAGES, messages as u64, Sort::NumberOfMessages);
     for (item, latest) in (0..sizes.items as usize).zip(&tables.latest) {
         entry(to, places::latest(item), latest);
     }
@@ -102,23 +87,14 @@ fn running(to: &mut Visit, client: usize, record: &Client) {
     for item in items(record.set) {
         let place = item as usize;
         if record.mode != WRITING {
-            one(
-                to,
-                places::asked(client, place),
-                stamp_of(item),
-                Sort::Stamp,
-            );
+            one(to, places::asked(client, place), stamp_of(item), Sort::Stamp);
         }
-        one(
-            to,
-            places::value(client, place),
-            record.values[place],
-            Sort::Value,
-        );
+        one(to, places::value(client, place), record.values[place], Sort::Value);
     }
 }
 
-/// Nothing but the kind where none has ended; one stamp of a write, and of a read one for each item.
+/// Nothing but the kind where none has ended; one stamp of a write, and of a read one for each
+/// item.
 fn last(to: &mut Visit, client: usize, record: &Client) {
     let scalar = |scalar| places::scalar(client, scalar);
     let last = &record.last;
@@ -128,29 +104,14 @@ fn last(to: &mut Visit, client: usize, record: &Client) {
     }
     one(to, scalar(Scalar::LastSet), last.set, Sort::Set);
     if last.kind == WRITE {
-        one(
-            to,
-            scalar(Scalar::LastStamp),
-            stamp_word(last.stamp),
-            Sort::Stamp,
-        );
+        one(to, scalar(Scalar::LastStamp), stamp_word(last.stamp), Sort::Stamp);
     }
     for item in items(last.set) {
         let item = item as usize;
         if last.kind == READ {
-            one(
-                to,
-                places::last_stamp(client, item),
-                stamp_word(last.stamps[item]),
-                Sort::Stamp,
-            );
+            one(to, places::last_stamp(client, item), stamp_word(last.stamps[item]), Sort::Stamp);
         }
-        one(
-            to,
-            places::last_value(client, item),
-            last.values[item],
-            Sort::Value,
-        );
+        one(to, places::last_value(client, item), last.values[item], Sort::Value);
     }
 }
 
@@ -163,48 +124,21 @@ fn version(to: &mut Visit, place: usize, version: &Version) {
 
 /// The words that the message's kind uses.
 fn message(to: &mut Visit, place: usize, message: &Message) {
-    one(to, place, u64::from(message.kind()), Sort::MessageKind);
-    match *message {
-        Message::Prepare(Version {
-            item,
-            value,
-            stamp,
-            set,
-        }) => {
-            one(to, place + 2, item, Sort::Item);
-            one(to, place + 3, value, Sort::Value);
-            one(to, place + 4, stamp_word(stamp), Sort::Stamp);
-            one(to, place + 5, set, Sort::Set);
+    let parts = message.parts();
+    one(to, place, parts.kind, Sort::MessageKind);
+    for (word, part, sort) in [
+        (1, parts.client, Sort::Client),
+        (1, parts.partition, Sort::Partition),
+        (2, parts.item, Sort::Item),
+        (3, parts.value, Sort::Value),
+        (4, Some(stamp_word(parts.stamp)), Sort::Stamp),
+        (5, parts.set, Sort::Set),
+    ] {
+        if let Some(part) = part {
+            one(to, place + word, part, sort);
         }
-        Message::Prepared { item, stamp } => {
-            one(to, place + 2, item, Sort::Item);
-            one(to, place + 4, stamp_word(stamp), Sort::Stamp);
-        }
-        Message::Commit { partition, stamp } => {
-            one(to, place + 1, partition, Sort::Partition);
-            one(to, place + 4, stamp_word(stamp), Sort::Stamp);
-        }
-        Message::Get {
-            client,
-            item,
-            stamp,
-        } => {
-            one(to, place + 1, client, Sort::Client);
-            one(to, place + 2, item, Sort::Item);
-            one(to, place + 4, stamp_word(stamp), Sort::Stamp);
-        }
-        Message::Got {
-            client,
-            item,
-            value,
-            stamp,
-            latest,
-        } => {
-            one(to, place + 1, client, Sort::Client);
-            one(to, place + 2, item, Sort::Item);
-            one(to, place + 3, value, Sort::Value);
-            one(to, place + 4, stamp_word(stamp), Sort::Stamp);
-            entry(to, place + 6, &latest);
-        }
+    }
+    if let Some(latest) = parts.latest {
+        entry(to, place + 6, &latest);
     }
 }

@@ -1,8 +1,8 @@
 //! What fields are numbers of.
 
 use super::stamp_word;
+use crate::stamp::Stamp;
 use crate::store::range::GREATEST;
-use crate::store::stamp::Stamp;
 use crate::store::tables::{
     Sizes, CLIENTS, ITEMS, LOAD_CAPACITY, PARTITIONS, VERSION_CAPACITY, WRITE, WRITING,
 };

@@ -1,9 +1,9 @@
 //! The walk along the list: each event moves the history on and is held against the clauses.
 
-use super::answers::Answer;
-use super::event::{Call, Event};
 use super::history::History;
-use super::{clauses, refusals, showings, Clause, Summary};
+use super::{clauses, showings, Clause, Summary};
+use crate::answer::Answer;
+use crate::call::{Call, Event};
 
 /// The history and summary of the events so far.
 #[derive(Default)]
@@ -17,34 +17,17 @@ impl Checker {
     /// Holds the event at this place in the list against every clause.
     pub(super) fn check(&mut self, place: usize, event: &Event) -> Result<(), Clause> {
         let answer = Answer::of(&event.call, event.answer).ok_or(Clause::Answer)?;
-        let stated = refusals::stated(&self.history, &event.call);
         clauses::output_keeps_its_bytes(event, answer)?;
         match (&event.call, answer) {
-            (
-                Call::Fresh {
-                    clients,
-                    partitions,
-                    items,
-                    ..
-                },
-                Answer::Fresh,
-            ) => {
-                clauses::refused_as_stated(stated, answer)?;
+            (Call::Fresh { partitions, .. }, Answer::Fresh) => {
                 self.begun = true;
-                self.history = History::new(*clients, *partitions, *items);
+                self.history = History::new(*partitions);
             }
             _ if !self.begun => return Err(Clause::Fresh),
             (Call::Read { client, set }, Answer::Started { .. }) => {
                 self.history.start_read(place, *client, *set);
             }
-            (
-                Call::Write {
-                    client,
-                    set,
-                    values,
-                },
-                Answer::Started { .. },
-            ) => {
+            (Call::Write { client, set, values }, Answer::Started { .. }) => {
                 self.history.start_write(place, *client, *set, values);
             }
             (Call::Deliver { place: at }, _) => self.deliver(place, *at, answer)?,
@@ -53,7 +36,6 @@ impl Checker {
         }
         clauses::length_is_that_of_the_list(&self.history, answer)?;
         clauses::one_message_for_each_awaited_item(&self.history)?;
-        clauses::refused_as_stated(stated, answer)?;
         self.sum_up(answer);
         Ok(())
     }
@@ -84,12 +66,9 @@ impl Checker {
     fn sum_up(&mut self, answer: Answer) {
         let summary = &mut self.summary;
         match answer {
-            Answer::Refused(refusal) => summary.refused[usize::from(refusal)] += 1,
             Answer::Delivered { outcome: 1, .. } => summary.reads_ended += 1,
             Answer::Delivered { outcome: 2, .. } => summary.writes_ended += 1,
             _ => (),
         }
-        summary.greatest_load = summary.greatest_load.max(self.history.load());
-        summary.items_written = summary.items_written.max(self.history.items_written());
     }
 }

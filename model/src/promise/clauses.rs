@@ -1,9 +1,10 @@
 //! The clauses about answers, messages and ends.
 
-use super::answers::Answer;
-use super::event::{Call, Event};
-use super::history::{items_of, History, Kind, Label, Part};
+use super::history::{History, Kind, Label, Part};
 use super::Clause;
+use crate::answer::Answer;
+use crate::call::{Call, Event};
+use crate::set::{items, size};
 
 fn holds(kept: bool, clause: Clause) -> Result<(), Clause> {
     if kept {
@@ -46,7 +47,8 @@ pub(super) fn kind_is_that_of_the_message(label: &Label, kind: u64) -> Result<()
     holds(kind == label.kind as u64, Clause::Kind)
 }
 
-/// The delivery of a read's n-th reply, and no other, reports it ended, after exactly n requests and n replies.
+/// The delivery of a read's n-th reply, and no other, reports it ended, after exactly n requests
+/// and n replies.
 pub(super) fn read_ends_with_its_last_reply_alone(
     history: &History,
     label: &Label,
@@ -58,7 +60,7 @@ pub(super) fn read_ends_with_its_last_reply_alone(
             continue;
         };
         reads += 1;
-        let n = items_of(transaction.set).len();
+        let n = size(transaction.set) as usize;
         let is_last_reply = label.kind == Kind::Got && read.replies.len() == n;
         let stated = if is_last_reply { 1 } else { 0 };
         holds(outcome == stated, Clause::ReadEnd)?;
@@ -96,7 +98,8 @@ pub(super) fn length_is_that_of_the_list(history: &History, answer: Answer) -> R
     }
 }
 
-/// Every running read has exactly one get or got of its client in the list for each item without a reply.
+/// Every running read has exactly one get or got of its client in the list for each item without a
+/// reply.
 pub(super) fn one_message_for_each_awaited_item(history: &History) -> Result<(), Clause> {
     let running = history.transactions.iter().filter(|of| of.ended.is_none());
     for transaction in running {
@@ -104,7 +107,7 @@ pub(super) fn one_message_for_each_awaited_item(history: &History) -> Result<(),
             continue;
         };
         let client = transaction.client;
-        for item in items_of(transaction.set) {
+        for item in items(transaction.set) {
             let awaited = !read.replies.iter().any(|reply| reply.item == item);
             let messages = history.messages.iter().filter(|label| {
                 [Kind::Get, Kind::Got].contains(&label.kind)
@@ -118,10 +121,4 @@ pub(super) fn one_message_for_each_awaited_item(history: &History) -> Result<(),
         }
     }
     Ok(())
-}
-
-/// Every call is accepted or refused as the refusal table says.
-pub(super) fn refused_as_stated(stated: u8, answer: Answer) -> Result<(), Clause> {
-    let answered = answer.refusal();
-    holds(answered == stated, Clause::Refusal { stated, answered })
 }

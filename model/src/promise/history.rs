@@ -1,6 +1,11 @@
 //! The list of labels beside the calls: which message lies where, and whose it is.
 //!
-//! A message is of the client whose start put it there, or of the same client as the message whose delivery did.
+//! A message is of the client whose start put it there, or of the same client as the message whose
+//! delivery did.
+
+use crate::frames::hex;
+use crate::set::{items, size};
+use crate::stamp::Stamp;
 
 /// The kinds of message, with their numbers.
 #[derive(Clone, Copy, Debug, PartialEq, Eq)]
@@ -24,9 +29,6 @@ pub(super) struct Label {
     /// Of a got, the event that delivered the get behind it.
     pub(super) answered: usize,
 }
-
-/// A stamp, number first, as pairs are ordered.
-pub(super) type Stamp = (u64, u64);
 
 /// A reply of a read: its item, and the event that delivered the get behind it.
 #[derive(Clone, Copy, Debug)]
@@ -86,33 +88,20 @@ pub(super) struct Transaction {
 /// The list of messages and all transactions so far, with the sizes of the fresh.
 #[derive(Clone, Debug, Default)]
 pub(super) struct History {
-    pub(super) clients: u64,
-    pub(super) partitions: u64,
-    pub(super) items: u64,
+    partitions: u64,
     pub(super) messages: Vec<Label>,
     pub(super) transactions: Vec<Transaction>,
 }
 
-/// The items of a set, ascending.
-pub(super) fn items_of(set: u64) -> Vec<u64> {
-    (0..64).filter(|item| set & (1 << item) != 0).collect()
-}
-
 impl History {
-    pub(super) fn new(clients: u64, partitions: u64, items: u64) -> History {
-        History {
-            clients,
-            partitions,
-            items,
-            messages: Vec::new(),
-            transactions: Vec::new(),
-        }
+    pub(super) fn new(partitions: u64) -> History {
+        History { partitions, ..History::default() }
     }
 
     /// An accepted read start: one get per item joins.
     pub(super) fn start_read(&mut self, event: usize, client: u64, set: u64) {
         self.start(event, client, set, Part::Read(Read::default()), Kind::Get);
-        let joined = items_of(set).len();
+        let joined = size(set) as usize;
         for read in self.running_reads_mut(client) {
             read.requests += joined;
         }
@@ -120,13 +109,11 @@ impl History {
 
     /// An accepted write start: one prepare per item joins.
     pub(super) fn start_write(&mut self, event: usize, client: u64, set: u64, values: &[u8]) {
-        let items = items_of(set);
-        let values = values
-            .chunks_exact(4)
-            .map(|value| u32::from_be_bytes([value[0], value[1], value[2], value[3]]));
+        let items: Vec<u64> = items(set).collect();
+        let values = values.chunks_exact(4).map(|value| hex::number(value) as u32);
         let number = 1 + self.writes().filter(|(of, _)| of.client == client).count();
         let write = Write {
-            stamp: (number as u64, client),
+            stamp: Stamp::new(number as u64, client),
             values: items.iter().copied().zip(values).collect(),
             unstored: items.clone(),
             unprepared: items,
@@ -137,21 +124,9 @@ impl History {
 
     fn start(&mut self, event: usize, client: u64, set: u64, part: Part, kind: Kind) {
         let transaction = self.transactions.len();
-        self.transactions.push(Transaction {
-            client,
-            set,
-            started: event,
-            ended: None,
-            part,
-        });
-        for item in items_of(set) {
-            self.messages.push(Label {
-                kind,
-                client,
-                item,
-                transaction,
-                answered: 0,
-            });
+        self.transactions.push(Transaction { client, set, started: event, ended: None, part });
+        for item in items(set) {
+            self.messages.push(Label { kind, client, item, transaction, answered: 0 });
         }
     }
 
@@ -173,10 +148,7 @@ impl History {
             Kind::Get => self.join(label, Kind::Got, label.item, event),
             Kind::Got => {
                 for read in self.running_reads_mut(label.client) {
-                    read.replies.push(Reply {
-                        item: label.item,
-                        answered: label.answered,
-                    });
+                    read.replies.push(Reply { item: label.item, answered: label.answered });
                 }
             }
         }
@@ -190,12 +162,9 @@ impl History {
         };
         write.unprepared.retain(|item| *item != label.item);
         if write.unprepared.is_empty() {
-            let written = items_of(of.set);
+            let set = of.set;
             for partition in 0..self.partitions {
-                if written
-                    .iter()
-                    .any(|item| item % self.partitions == partition)
-                {
+                if items(set).any(|item| item % self.partitions == partition) {
                     self.join(label, Kind::Commit, partition, 0);
                 }
             }
@@ -203,12 +172,7 @@ impl History {
     }
 
     fn join(&mut self, sender: Label, kind: Kind, item: u64, answered: usize) {
-        self.messages.push(Label {
-            kind,
-            item,
-            answered,
-            ..sender
-        });
+        self.messages.push(Label { kind, item, answered, ..sender });
     }
 
     /// A delivery of the client's message reported an end.
@@ -227,11 +191,12 @@ impl History {
 
     fn running_reads_mut(&mut self, client: u64) -> impl Iterator<Item = &mut Read> {
         let all = self.transactions.iter_mut();
-        all.filter(move |of| of.client == client && of.ended.is_none())
-            .filter_map(|of| match &mut of.part {
+        all.filter(move |of| of.client == client && of.ended.is_none()).filter_map(|of| {
+            match &mut of.part {
                 Part::Read(read) => Some(read),
                 Part::Write(_) => None,
-            })
+            }
+        })
     }
 
     /// The client's transaction that ended last, if none of it is running.
@@ -240,8 +205,7 @@ impl History {
             return None;
         }
         let all = self.transactions.iter();
-        all.filter(|of| of.client == client)
-            .max_by_key(|of| of.ended)
+        all.filter(|of| of.client == client).max_by_key(|of| of.ended)
     }
 
     /// All accepted writes so far.
@@ -250,19 +214,5 @@ impl History {
             Part::Write(write) => Some((of, write)),
             Part::Read(_) => None,
         })
-    }
-
-    /// Messages, and the prepared replies that have come for writes that are running.
-    pub(super) fn load(&self) -> u64 {
-        let running = self.writes().filter(|(of, _)| of.ended.is_none());
-        let come = running.map(|(of, write)| items_of(of.set).len() - write.unprepared.len());
-        (self.messages.len() + come.sum::<usize>()) as u64
-    }
-
-    /// Items of all accepted writes: each is a prepare in flight or a stored version.
-    pub(super) fn items_written(&self) -> u64 {
-        self.writes()
-            .map(|(_, write)| write.values.len() as u64)
-            .sum()
     }
 }

@@ -1,21 +1,15 @@
 //! The clauses about what a showing gives after an end and before the client's next start.
 
-use super::answers::Answer;
-use super::event::{Call, Event};
-use super::history::{items_of, History, Part, Read, Stamp, Transaction, Write};
-use super::refusals::frame_length;
+use super::history::{History, Part, Read, Transaction, Write};
 use super::Clause;
-use crate::frames::log::LogFrame;
+use crate::answer::Answer;
+use crate::call::{Call, Event};
+use crate::frames::log::{Entry, LogFrame};
+use crate::set::size;
+use crate::stamp::Stamp;
 
-/// An entry that a read shows.
-#[derive(Clone, Copy, Debug)]
-struct Entry {
-    item: u64,
-    stamp: Stamp,
-    value: u32,
-}
-
-/// Checks a showing; of an accepted one of a read, gives how many entries it shows that are not initial.
+/// Checks a showing; of an accepted one of a read, gives how many entries it shows that are not
+/// initial.
 pub(super) fn check(
     history: &History,
     client: u64,
@@ -23,14 +17,17 @@ pub(super) fn check(
     answer: Answer,
 ) -> Result<Option<usize>, Clause> {
     let Some(last) = history.last_ended(client) else {
-        return Ok(None);
+        return match answer {
+            Answer::Shown { .. } => Err(Clause::Frame),
+            _ => Ok(None),
+        };
     };
     accepted_with_room_enough(last, event, answer)?;
     let Answer::Shown { length } = answer else {
         return Ok(None);
     };
     let frame = event.output.get(..length as usize);
-    let frame = LogFrame::parse(frame.ok_or(Clause::Frame)?).ok_or(Clause::Frame)?;
+    let frame = LogFrame::parse(frame.ok_or(Clause::Frame)?).map_err(|_| Clause::Frame)?;
     match &last.part {
         Part::Write(write) => {
             frame_is_that_of_the_write(last, write, &frame)?;
@@ -77,11 +74,10 @@ fn frame_is_that_of_the_write(
     write: &Write,
     frame: &LogFrame,
 ) -> Result<(), Clause> {
-    let (number, _) = write.stamp;
     let stated = LogFrame::Write {
         client: last.client as u8,
         set: last.set,
-        number: number as u32,
+        number: write.stamp.number as u32,
         values: write.values.iter().map(|(_, value)| *value).collect(),
     };
     if *frame == stated {
@@ -93,53 +89,43 @@ fn frame_is_that_of_the_write(
 
 /// A read is shown with its client and set, and an entry for each item.
 fn entries_of_the_read(last: &Transaction, frame: &LogFrame) -> Result<Vec<Entry>, Clause> {
-    let LogFrame::Read { client, set, shown } = frame else {
+    let LogFrame::Read { client, set, .. } = frame else {
         return Err(Clause::Frame);
     };
     if u64::from(*client) != last.client || *set != last.set {
         return Err(Clause::Frame);
     }
-    let entries = items_of(*set).into_iter().zip(shown);
-    Ok(entries
-        .map(|(item, shown)| Entry {
-            item,
-            stamp: (u64::from(shown.number), u64::from(shown.client)),
-            value: shown.value,
-        })
-        .collect())
+    Ok(frame.shown())
 }
 
-/// An entry is initial, or its write is an accepted write of the list with that stamp, item and value.
+/// An entry is initial, or its write is an accepted write of the list with that stamp, item and
+/// value.
 fn put_there_by_a_write<'a>(
     history: &'a History,
     entry: &Entry,
 ) -> Result<Option<&'a Write>, Clause> {
-    if entry.stamp == (0, 0) && entry.value == 0 {
+    if entry.stamp == Stamp::INITIAL && entry.value == 0 {
         return Ok(None);
     }
     let mut writes = history.writes().map(|(_, write)| write);
     let found = writes
         .find(|write| write.stamp == entry.stamp && write.value(entry.item) == Some(entry.value));
-    found
-        .map(Some)
-        .ok_or(Clause::Unwritten { item: entry.item })
+    found.map(Some).ok_or(Clause::Unwritten { item: entry.item })
 }
 
-/// Wherever the read shows an entry of a write that also wrote another item it shows, that one isn't older.
+/// Wherever the read shows an entry of a write that also wrote another item it shows, that one
+/// isn't older.
 fn no_sibling_is_older(write: &Write, entry: &Entry, entries: &[Entry]) -> Result<(), Clause> {
-    let older = entries
-        .iter()
-        .find(|other| write.value(other.item).is_some() && other.stamp < entry.stamp);
+    let older =
+        entries.iter().find(|other| write.value(other.item).is_some() && other.stamp < entry.stamp);
     match older {
-        Some(older) => Err(Clause::Fractured {
-            item: entry.item,
-            older: older.item,
-        }),
+        Some(older) => Err(Clause::Fractured { item: entry.item, older: older.item }),
         None => Ok(()),
     }
 }
 
-/// The entry's write was stored at all its partitions before the get behind the item's reply was delivered.
+/// The entry's write was stored at all its partitions before the get behind the item's reply was
+/// delivered.
 fn stored_before_the_answer(write: &Write, read: &Read, entry: &Entry) -> Result<(), Clause> {
     let reply = read.replies.iter().find(|reply| reply.item == entry.item);
     let in_time = match (write.stored, reply) {
@@ -153,7 +139,8 @@ fn stored_before_the_answer(write: &Write, read: &Read, entry: &Entry) -> Result
     }
 }
 
-/// No entry is older than a write of that item which the client itself had ended before starting the read.
+/// No entry is older than a write of that item which the client itself had ended before starting
+/// the read.
 fn no_own_write_is_missed(
     history: &History,
     read: &Transaction,
@@ -169,5 +156,14 @@ fn no_own_write_is_missed(
         Err(Clause::OwnWriteMissed { item: entry.item })
     } else {
         Ok(())
+    }
+}
+
+/// The length of the log frame of a transaction.
+fn frame_length(transaction: &Transaction) -> usize {
+    let items = size(transaction.set) as usize;
+    match transaction.part {
+        Part::Read(_) => 10 + 9 * items,
+        Part::Write(_) => 14 + 4 * items,
     }
 }

@@ -1,8 +1,8 @@
 //! The next call of a random run.
 
 use super::{Order, Runner, Sort};
-use crate::promise::Call;
-use crate::store::answer::Answer;
+use crate::answer::Answer;
+use crate::call::Call;
 use crate::store::message::Message;
 use crate::store::tables::{IDLE, LOAD_CAPACITY, VERSION_CAPACITY};
 
@@ -18,9 +18,8 @@ impl Runner<'_, '_> {
             Order::ClientLast(client) => message.client() != client,
             _ => true,
         };
-        let preferred: Vec<u64> = (0..count)
-            .filter(|place| is_preferred(&messages[*place as usize]))
-            .collect();
+        let preferred: Vec<u64> =
+            (0..count).filter(|place| is_preferred(&messages[*place as usize])).collect();
         let place = match self.order {
             Order::First => 0,
             Order::Last => count - 1,
@@ -33,9 +32,9 @@ impl Runner<'_, '_> {
     /// Delivers what is in flight; then nobody waits.
     pub(super) fn deliver_all(&mut self) {
         while !self.run.store.tables.messages.is_empty() {
-            let refused = self.run.refused;
             self.deliver_next();
-            assert_eq!(self.run.refused, refused, "a delivery was refused");
+            let last = self.run.events.last().expect("the delivery");
+            assert_eq!(last.answer & 0xff, 0, "a delivery was refused");
         }
         let mut clients = self.run.store.tables.existing_clients();
         assert!(clients.all(|client| client.mode == IDLE));
@@ -53,11 +52,7 @@ impl Runner<'_, '_> {
         let writes = if self.sort == Sort::Crowded { 70 } else { 50 };
         if self.random.percent(writes) {
             let values = self.random.bytes(4 * set.count_ones() as usize);
-            self.call(Call::Write {
-                client,
-                set,
-                values,
-            });
+            self.call(Call::Write { client, set, values });
         } else {
             self.call(Call::Read { client, set });
         }
@@ -89,12 +84,10 @@ impl Runner<'_, '_> {
     pub(super) fn show_again(&mut self) {
         let client = self.random.between(1, self.sizes.clients);
         let frame = match self.run.store.show(client, &mut [0; 600]) {
-            Answer::Shown(frame) => frame.len(),
+            Answer::Shown { length } => length as usize,
             _ => 0,
         };
-        let room = self
-            .random
-            .pick(&[0, frame.saturating_sub(1), frame, frame + 1, 600]);
+        let room = self.random.pick(&[0, frame.saturating_sub(1), frame, frame + 1, 600]);
         let output = self.random.bytes(room);
         self.call(Call::Show { client, output });
     }
@@ -103,51 +96,21 @@ impl Runner<'_, '_> {
     pub(super) fn call_amiss(&mut self) {
         let client = self.random.between(1, self.sizes.clients);
         let beyond = self.sizes.clients + 1;
-        let nobody = self
-            .random
-            .pick(&[0, beyond, 256 + client, 1 << 63, u64::MAX]);
+        let nobody = self.random.pick(&[0, beyond, 256 + client, 1 << 63, u64::MAX]);
         let set = self.some_set();
         let past_the_end = self.run.store.tables.messages.len() as u64;
         let call = match self.random.below(11) {
-            0 => Call::Read {
-                client: nobody,
-                set,
-            },
-            1 => Call::Show {
-                client: nobody,
-                output: vec![1; 600],
-            },
+            0 => Call::Read { client: nobody, set },
+            1 => Call::Show { client: nobody, output: vec![1; 600] },
             2 => Call::Read { client, set },
             3 => Call::Read { client, set: 0 },
-            4 if self.sizes.items < 64 => Call::Read {
-                client,
-                set: set | 1 << self.sizes.items,
-            },
-            5 | 4 => Call::Write {
-                client,
-                set,
-                values: vec![7; self.random.below(300) as usize],
-            },
-            6 => Call::Deliver {
-                place: past_the_end,
-            },
+            4 if self.sizes.items < 64 => Call::Read { client, set: set | 1 << self.sizes.items },
+            5 | 4 => Call::Write { client, set, values: vec![7; self.random.below(300) as usize] },
+            6 => Call::Deliver { place: past_the_end },
             7 => Call::Deliver { place: u64::MAX },
-            8 => Call::Show {
-                client,
-                output: vec![2; self.random.below(20) as usize],
-            },
-            9 => Call::Fresh {
-                long_enough: true,
-                clients: 1,
-                partitions: (1 << 32) + 1,
-                items: 1,
-            },
-            _ => Call::Fresh {
-                long_enough: false,
-                clients: 1,
-                partitions: 1,
-                items: 1,
-            },
+            8 => Call::Show { client, output: vec![2; self.random.below(20) as usize] },
+            9 => Call::Fresh { long_enough: true, clients: 1, partitions: (1 << 32) + 1, items: 1 },
+            _ => Call::Fresh { long_enough: false, clients: 1, partitions: 1, items: 1 },
         };
         self.call(call);
     }

@@ -1,14 +1,36 @@
 //! The five calls. Any number may be passed; a refusal changes nothing.
 
-use super::answer::Answer;
 use super::fault::Fault;
 use super::refusals;
 use super::shown::shown_frame;
 use super::tables::{Sizes, Tables};
 use super::Store;
+use crate::answer::Answer;
+use crate::call::{Call, Event};
 use crate::frames::log::{LogFrame, Shown};
 
 impl Store {
+    /// Makes the call, with this output for a showing.
+    pub fn call(&mut self, call: &Call, output: &mut [u8]) -> Answer {
+        match call {
+            Call::Fresh { long_enough, clients, partitions, items } => {
+                self.fresh(*long_enough, Sizes::new(*clients, *partitions, *items))
+            }
+            Call::Read { client, set } => self.start_read(*client, *set),
+            Call::Write { client, set, values } => self.start_write(*client, *set, values),
+            Call::Deliver { place } => self.deliver(*place),
+            Call::Show { client, .. } => self.show(*client, output),
+        }
+    }
+
+    /// Makes the call of a list.
+    pub fn make(&mut self, call: Call) -> (Answer, Event) {
+        let mut output = call.output();
+        let answer = self.call(&call, &mut output);
+        let event = Event { call, answer: answer.number(), output };
+        (answer, event)
+    }
+
     /// Makes fresh tables. Whether the block is long enough is known to the layer that holds it.
     pub fn fresh(&mut self, long_enough: bool, sizes: Sizes) -> Answer {
         if let Some(refusal) = refusals::fresh(long_enough, sizes) {
@@ -46,11 +68,7 @@ impl Store {
         }
         let kind = self.tables.messages[place as usize].kind();
         let outcome = self.step_deliver(place as usize);
-        Answer::Delivered {
-            kind,
-            messages: self.answered_length(),
-            outcome,
-        }
+        Answer::Delivered { kind, messages: self.answered_length(), outcome }
     }
 
     /// Writes the log frame of the client's last ended transaction; output past it keeps its bytes.
@@ -65,22 +83,21 @@ impl Store {
         }
         let bytes = frame.bytes();
         output[..bytes.len()].copy_from_slice(&bytes);
-        Answer::Shown(bytes)
+        Answer::Shown { length: bytes.len() as u64 }
     }
 
     fn started(&self) -> Answer {
-        Answer::Started {
-            messages: self.answered_length(),
-        }
+        Answer::Started { messages: self.answered_length() }
     }
 
-    fn answered_length(&self) -> u16 {
-        let made_up = u16::from(self.has(Fault::LengthMadeUp));
-        self.tables.messages.len() as u16 + made_up
+    fn answered_length(&self) -> u64 {
+        let made_up = u64::from(self.has(Fault::LengthMadeUp));
+        self.tables.messages.len() as u64 + made_up
     }
 
-    /// The refusal, unless a fault gives another: `full` is what a full store answers, 0 if it never does.
-    fn spoilt(&self, refusal: Option<u8>, full: u8) -> Option<u8> {
+    /// The refusal, unless a fault gives another: `full` is what a full store answers, 0 if it
+    /// never does.
+    fn spoilt(&self, refusal: Option<u64>, full: u64) -> Option<u64> {
         if self.has(Fault::TurnsAllAway) {
             return Some(1);
         }
@@ -92,17 +109,11 @@ impl Store {
 }
 
 fn with_initial_entries(frame: LogFrame) -> LogFrame {
-    let initial = Shown {
-        number: 0,
-        client: 0,
-        value: 0,
-    };
+    let initial = Shown { number: 0, client: 0, value: 0 };
     match frame {
-        LogFrame::Read { client, set, shown } => LogFrame::Read {
-            client,
-            set,
-            shown: vec![initial; shown.len()],
-        },
+        LogFrame::Read { client, set, shown } => {
+            LogFrame::Read { client, set, shown: vec![initial; shown.len()] }
+        }
         write => write,
     }
 }

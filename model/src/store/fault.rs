@@ -1,4 +1,5 @@
-//! Wrong stores. For tests alone: each shows that some test would notice a store that is wrong in this way.
+//! Wrong stores. For tests alone: each shows that some test would notice a store that is wrong in
+//! this way.
 
 /// One way in which a store can be wrong.
 #[derive(Clone, Copy, Debug, PartialEq, Eq)]

@@ -1,55 +1,29 @@
 //! What "in range" means of tables, clause by clause.
 
-use super::message::Message;
-use super::set::{has, items, lies_in};
-use super::stamp::{Entry, Stamp};
+use super::message::{Message, Parts};
 use super::tables::{
     Client, Tables, Version, IDLE, LOAD_CAPACITY, NONE, READ, READING, VERSION_CAPACITY, WRITE,
     WRITING,
 };
+use crate::set::{has, items, lies_in};
+use crate::stamp::{Entry, Stamp};
 
 /// The greatest count, stamp number and value.
 pub const GREATEST: u64 = u32::MAX as u64;
 
-/// A clause of "in range".
-#[derive(Clone, Copy, Debug, PartialEq, Eq)]
-pub enum Clause {
-    Sizes,
-    Existence,
-    Modes,
-    CountsAndValues,
-    Sets,
-    Stamps,
-    Versions,
-    PreparedAndCommits,
-    OneStamp,
-    AwaitedInSet,
-    IdleAwaitsNone,
-}
-
-type Holds = fn(&Tables) -> bool;
-
-/// Each clause and what holds of tables that keep it.
-const CLAUSES: [(Clause, Holds); 11] = [
-    (Clause::Sizes, sizes_are_allowed),
-    (Clause::Existence, named_things_exist),
-    (Clause::Modes, modes_and_kinds_are_known),
-    (Clause::CountsAndValues, counts_and_values_fit),
-    (Clause::Sets, sets_hold_existing_items),
-    (Clause::Stamps, stamps_are_initial_or_in_range),
-    (Clause::Versions, versions_are_of_writes_with_their_item),
-    (
-        Clause::PreparedAndCommits,
-        prepared_and_commits_are_of_writes,
-    ),
-    (Clause::OneStamp, writers_have_one_stamp),
-    (Clause::AwaitedInSet, awaited_lie_in_the_set),
-    (Clause::IdleAwaitsNone, idle_exactly_when_none_awaited),
-];
-
 /// Whether every field of the tables is in range.
 pub fn in_range(tables: &Tables) -> bool {
-    CLAUSES.iter().all(|(_, holds)| holds(tables))
+    sizes_are_allowed(tables)
+        && named_things_exist(tables)
+        && modes_and_kinds_are_known(tables)
+        && counts_and_values_fit(tables)
+        && sets_hold_existing_items(tables)
+        && stamps_are_initial_or_in_range(tables)
+        && versions_are_of_writes_with_their_item(tables)
+        && prepared_and_commits_are_of_writes(tables)
+        && writers_have_one_stamp(tables)
+        && awaited_lie_in_the_set(tables)
+        && idle_exactly_when_none_awaited(tables)
 }
 
 /// Whether every field is in range, and the load and the versions are within their capacities.
@@ -57,12 +31,6 @@ pub fn is_usable(tables: &Tables) -> bool {
     in_range(tables)
         && tables.load() <= LOAD_CAPACITY
         && tables.versions_and_prepares() <= VERSION_CAPACITY
-}
-
-/// The clauses that the tables break.
-pub fn broken_clauses(tables: &Tables) -> Vec<Clause> {
-    let broken = CLAUSES.iter().filter(|(_, holds)| !holds(tables));
-    broken.map(|(clause, _)| *clause).collect()
 }
 
 /// The sizes are ones that 2 allows.
@@ -73,18 +41,12 @@ fn sizes_are_allowed(tables: &Tables) -> bool {
 /// Clients, items and partitions exist.
 fn named_things_exist(tables: &Tables) -> bool {
     let item_exists = |item: u64| item < tables.sizes.items;
-    tables
-        .versions
-        .iter()
-        .all(|version| item_exists(version.item))
-        && tables.messages.iter().all(|message| match *message {
-            Message::Prepare(Version { item, .. }) | Message::Prepared { item, .. } => {
-                item_exists(item)
-            }
-            Message::Commit { partition, .. } => partition < tables.sizes.partitions,
-            Message::Get { client, item, .. } | Message::Got { client, item, .. } => {
-                tables.has_client(client) && item_exists(item)
-            }
+    let mut versions = tables.versions.iter();
+    versions.all(|version| item_exists(version.item))
+        && parts(tables).all(|parts| {
+            parts.client.is_none_or(|client| tables.has_client(client))
+                && parts.item.is_none_or(item_exists)
+                && parts.partition.is_none_or(|partition| partition < tables.sizes.partitions)
         })
 }
 
@@ -105,10 +67,7 @@ fn counts_and_values_fit(tables: &Tables) -> bool {
             && (client.last.kind == NONE
                 || items(client.last.set).all(|item| fits(client.last.values[item as usize])))
     }) && tables.versions.iter().all(|version| fits(version.value))
-        && tables.messages.iter().all(|message| match *message {
-            Message::Prepare(Version { value, .. }) | Message::Got { value, .. } => fits(value),
-            Message::Prepared { .. } | Message::Commit { .. } | Message::Get { .. } => true,
-        })
+        && parts(tables).all(|parts| parts.value.is_none_or(fits))
 }
 
 /// Sets hold only existing items.
@@ -121,10 +80,8 @@ fn sets_hold_existing_items(tables: &Tables) -> bool {
                 && (client.last.kind == NONE || exist(client.last.set))
         })
         && tables.versions.iter().all(|version| exist(version.set))
-        && tables.messages.iter().all(|message| match *message {
-            Message::Prepare(Version { set, .. }) => exist(set),
-            Message::Got { latest, .. } => exist(latest.set),
-            Message::Prepared { .. } | Message::Commit { .. } | Message::Get { .. } => true,
+        && parts(tables).all(|parts| {
+            parts.set.is_none_or(exist) && parts.latest.is_none_or(|latest| exist(latest.set))
         })
 }
 
@@ -139,20 +96,15 @@ fn stamps_are_initial_or_in_range(tables: &Tables) -> bool {
             running_stamps(client).all(known) && last_stamps(client).into_iter().all(known)
         })
         && tables.versions.iter().all(|version| known(version.stamp))
-        && tables.messages.iter().all(|message| match *message {
-            Message::Prepare(Version { stamp, .. })
-            | Message::Prepared { stamp, .. }
-            | Message::Commit { stamp, .. }
-            | Message::Get { stamp, .. } => known(stamp),
-            Message::Got { stamp, latest, .. } => known(stamp) && known(latest.stamp),
+        && parts(tables).all(|parts| {
+            known(parts.stamp) && parts.latest.is_none_or(|latest| known(latest.stamp))
         })
 }
 
 /// Stored versions and prepares have a later stamp than the initial one and a set with their item.
 fn versions_are_of_writes_with_their_item(tables: &Tables) -> bool {
-    let of_a_write_with_its_item = |version: &Version| {
-        version.stamp.is_later_than(Stamp::INITIAL) && has(version.set, version.item)
-    };
+    let of_a_write_with_its_item =
+        |version: &Version| version.stamp > Stamp::INITIAL && has(version.set, version.item);
     tables.versions.iter().all(of_a_write_with_its_item)
         && tables.messages.iter().all(|message| match message {
             Message::Prepare(version) => of_a_write_with_its_item(version),
@@ -170,27 +122,25 @@ fn prepared_and_commits_are_of_writes(tables: &Tables) -> bool {
 
 /// A writing client has one stamp for all its items.
 fn writers_have_one_stamp(tables: &Tables) -> bool {
-    tables
-        .existing_clients()
-        .filter(|client| client.mode == WRITING)
-        .all(|client| {
-            let first = running_stamps(client).next();
-            running_stamps(client).all(|stamp| Some(stamp) == first)
-        })
+    tables.existing_clients().filter(|client| client.mode == WRITING).all(|client| {
+        let first = running_stamps(client).next();
+        running_stamps(client).all(|stamp| Some(stamp) == first)
+    })
 }
 
 /// Awaited items lie in the client's set.
 fn awaited_lie_in_the_set(tables: &Tables) -> bool {
-    tables
-        .existing_clients()
-        .all(|client| lies_in(client.awaited, client.set))
+    tables.existing_clients().all(|client| lies_in(client.awaited, client.set))
 }
 
 /// A client is idle exactly when it awaits none.
 fn idle_exactly_when_none_awaited(tables: &Tables) -> bool {
-    tables
-        .existing_clients()
-        .all(|client| (client.mode == IDLE) == (client.awaited == 0))
+    tables.existing_clients().all(|client| (client.mode == IDLE) == (client.awaited == 0))
+}
+
+/// The parts of the messages in flight.
+fn parts(tables: &Tables) -> impl Iterator<Item = Parts> + '_ {
+    tables.messages.iter().map(Message::parts)
 }
 
 /// Latest and view entries of the items and clients that exist.
@@ -209,9 +159,7 @@ fn running_stamps(client: &Client) -> impl Iterator<Item = Stamp> + '_ {
 /// The stamps of a client's last ended transaction.
 fn last_stamps(client: &Client) -> Vec<Stamp> {
     match client.last.kind {
-        READ => items(client.last.set)
-            .map(|item| client.last.stamps[item as usize])
-            .collect(),
+        READ => items(client.last.set).map(|item| client.last.stamps[item as usize]).collect(),
         WRITE => vec![client.last.stamp],
         _ => Vec::new(),
     }

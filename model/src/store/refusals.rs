@@ -1,25 +1,26 @@
-//! The refusal table: for each call its tests in order, of which the first that applies is returned.
+//! The refusal table: for each call its tests in order, of which the first that applies is
+//! returned.
 
 use super::message::Message;
 use super::range::{is_usable, GREATEST};
-use super::set::{has, size};
 use super::shown::shown_frame;
-use super::stamp::Stamp;
 use super::tables::{Sizes, Tables, IDLE, LOAD_CAPACITY, READING, VERSION_CAPACITY, WRITING};
+use crate::set::{has, size};
+use crate::stamp::Stamp;
 
 /// A refusal and whether it applies; later tests may rely on earlier ones not applying.
-type Test<'a> = (u8, &'a dyn Fn() -> bool);
+type Test<'a> = (u64, &'a dyn Fn() -> bool);
 
-fn first(tests: &[Test]) -> Option<u8> {
+fn first(tests: &[Test]) -> Option<u64> {
     let (refusal, _) = tests.iter().find(|(_, applies)| applies())?;
     Some(*refusal)
 }
 
-pub(super) fn fresh(long_enough: bool, sizes: Sizes) -> Option<u8> {
+pub(super) fn fresh(long_enough: bool, sizes: Sizes) -> Option<u64> {
     first(&[(2, &|| !sizes.are_allowed()), (1, &|| !long_enough)])
 }
 
-pub(super) fn start_read(tables: &Tables, client: u64, set: u64) -> Option<u8> {
+pub(super) fn start_read(tables: &Tables, client: u64, set: u64) -> Option<u64> {
     first(&[
         (1, &|| !is_usable(tables)),
         (3, &|| !tables.has_client(client)),
@@ -29,7 +30,7 @@ pub(super) fn start_read(tables: &Tables, client: u64, set: u64) -> Option<u8> {
     ])
 }
 
-pub(super) fn start_write(tables: &Tables, client: u64, set: u64, values: &[u8]) -> Option<u8> {
+pub(super) fn start_write(tables: &Tables, client: u64, set: u64, values: &[u8]) -> Option<u64> {
     first(&[
         (1, &|| !is_usable(tables)),
         (3, &|| !tables.has_client(client)),
@@ -38,13 +39,11 @@ pub(super) fn start_write(tables: &Tables, client: u64, set: u64, values: &[u8])
         (6, &|| values.len() as u64 != 4 * size(set)),
         (7, &|| tables.client(client).count == GREATEST),
         (8, &|| tables.load() + size(set) > LOAD_CAPACITY),
-        (9, &|| {
-            tables.versions_and_prepares() + size(set) > VERSION_CAPACITY
-        }),
+        (9, &|| tables.versions_and_prepares() + size(set) > VERSION_CAPACITY),
     ])
 }
 
-pub(super) fn deliver(tables: &Tables, place: u64) -> Option<u8> {
+pub(super) fn deliver(tables: &Tables, place: u64) -> Option<u64> {
     let message = || &tables.messages[place as usize];
     first(&[
         (1, &|| !is_usable(tables)),
@@ -54,20 +53,18 @@ pub(super) fn deliver(tables: &Tables, place: u64) -> Option<u8> {
     ])
 }
 
-pub(super) fn show(tables: &Tables, client: u64, room: usize) -> Option<u8> {
+pub(super) fn show(tables: &Tables, client: u64, room: usize) -> Option<u64> {
     first(&[
         (1, &|| !is_usable(tables)),
         (3, &|| !tables.has_client(client)),
         (4, &|| tables.client(client).mode != IDLE),
         (13, &|| shown_frame(tables, client).is_none()),
-        (14, &|| {
-            shown_frame(tables, client).is_some_and(|frame| room < frame.bytes().len())
-        }),
+        (14, &|| shown_frame(tables, client).is_some_and(|frame| room < frame.bytes().len())),
     ])
 }
 
-/// A prepare of an item and stamp already stored; a prepared whose client isn't writing, a got whose client
-/// isn't reading, or either not awaited with that item and stamp.
+/// A prepare of an item and stamp already stored; a prepared whose client isn't writing, a got
+/// whose client isn't reading, or either not awaited with that item and stamp.
 fn is_unwanted(tables: &Tables, message: &Message) -> bool {
     let awaits = |client: u64, mode: u64, item: u64, stamp: Stamp| {
         let record = tables.client(client);
@@ -76,12 +73,7 @@ fn is_unwanted(tables: &Tables, message: &Message) -> bool {
     match *message {
         Message::Prepare(version) => tables.version(version.item, version.stamp).is_some(),
         Message::Prepared { item, stamp } => !awaits(stamp.client, WRITING, item, stamp),
-        Message::Got {
-            client,
-            item,
-            stamp,
-            ..
-        } => !awaits(client, READING, item, stamp),
+        Message::Got { client, item, stamp, .. } => !awaits(client, READING, item, stamp),
         Message::Commit { .. } | Message::Get { .. } => false,
     }
 }

@@ -1,10 +1,11 @@
 //! The log frame of a client's last ended transaction.
 
-use super::set::items;
 use super::tables::{Tables, READ, WRITE};
 use crate::frames::log::{LogFrame, Shown};
+use crate::set::items;
 
-/// The frame that a showing gives for a client of tables in range, if a transaction of it has ended.
+/// The frame that a showing gives for a client of tables in range, if a transaction of it has
+/// ended.
 pub(super) fn shown_frame(tables: &Tables, client: u64) -> Option<LogFrame> {
     let last = &tables.client(client).last;
     let item_values = items(last.set).map(|item| narrow(last.values[item as usize]));

@@ -1,12 +1,12 @@
 //! The steps: what an accepted start or delivery does to the tables, which are in range.
 
-use super::answer::Outcome;
 use super::fault::Fault;
 use super::message::Message;
-use super::set::{has, items, without};
-use super::stamp::{Entry, Stamp};
 use super::tables::{Client, Ended, Version, ITEMS, READ, READING, WRITE, WRITING};
 use super::Store;
+use crate::answer::{NONE_ENDED, READ_ENDED, WRITE_ENDED};
+use crate::set::{has, items, without};
+use crate::stamp::{Entry, Stamp};
 
 impl Store {
     /// One get per item, ascending, for the stamp that the client's view chooses.
@@ -15,24 +15,15 @@ impl Store {
         for item in items(set) {
             let stamp = self.stamp_to_ask_for(client, item);
             stamps[item as usize] = stamp;
-            self.tables.messages.push(Message::Get {
-                client,
-                item,
-                stamp,
-            });
+            self.tables.messages.push(Message::Get { client, item, stamp });
         }
         let record = self.tables.client_mut(client);
-        *record = Client {
-            mode: READING,
-            set,
-            awaited: set,
-            stamps,
-            values: [0; ITEMS],
-            ..*record
-        };
+        *record =
+            Client { mode: READING, set, awaited: set, stamps, values: [0; ITEMS], ..*record };
     }
 
-    /// The latest stamp among the view's own entry for the item and all view entries whose set contains it.
+    /// The latest stamp among the view's own entry for the item and all view entries whose set
+    /// contains it.
     fn stamp_to_ask_for(&self, client: u64, item: u64) -> Stamp {
         let view = &self.tables.view(client)[..self.tables.sizes.items as usize];
         let mut chosen = view[item as usize].stamp;
@@ -51,91 +42,59 @@ impl Store {
         let mut stamps = [Stamp::INITIAL; ITEMS];
         let mut values = [0; ITEMS];
         for (item, value) in items(set).zip(given.chunks(4)) {
-            let value = value
-                .iter()
-                .fold(0, |number, byte| number * 256 + u64::from(*byte));
+            let value = value.iter().fold(0, |number, byte| number * 256 + u64::from(*byte));
             stamps[item as usize] = stamp;
             values[item as usize] = value;
-            self.tables.messages.push(Message::Prepare(Version {
-                item,
-                value,
-                stamp,
-                set,
-            }));
+            self.tables.messages.push(Message::Prepare(Version { item, value, stamp, set }));
         }
         let record = self.tables.client_mut(client);
-        *record = Client {
-            mode: WRITING,
-            count,
-            set,
-            awaited: set,
-            stamps,
-            values,
-            ..*record
-        };
+        *record = Client { mode: WRITING, count, set, awaited: set, stamps, values, ..*record };
         if self.has(Fault::ViewAtStart) {
             self.see_own_write(client, stamp, set);
         }
     }
 
     /// Takes the message out and does what its kind says.
-    pub(super) fn step_deliver(&mut self, place: usize) -> Outcome {
+    pub(super) fn step_deliver(&mut self, place: usize) -> u64 {
         let message = self.tables.messages.remove(place);
         if self.has(Fault::NothingAtDelivery) {
-            return Outcome::NoneEnded;
+            return NONE_ENDED;
         }
         match message {
             Message::Prepare(version) => {
                 self.tables.versions.push(version);
-                self.tables.messages.push(Message::Prepared {
-                    item: version.item,
-                    stamp: version.stamp,
-                });
-                Outcome::NoneEnded
+                self.tables
+                    .messages
+                    .push(Message::Prepared { item: version.item, stamp: version.stamp });
+                NONE_ENDED
             }
             Message::Prepared { item, stamp } => self.deliver_prepared(item, stamp),
             Message::Commit { partition, stamp } => self.deliver_commit(partition, stamp),
-            Message::Get {
-                client,
-                item,
-                stamp,
-            } => self.deliver_get(client, item, stamp),
-            Message::Got {
-                client,
-                item,
-                value,
-                latest,
-                ..
-            } => self.deliver_got(client, item, value, latest),
+            Message::Get { client, item, stamp } => self.deliver_get(client, item, stamp),
+            Message::Got { client, item, value, latest, .. } => {
+                self.deliver_got(client, item, value, latest)
+            }
         }
     }
 
     /// Strikes the item from those awaited; with the last one the write ends.
-    fn deliver_prepared(&mut self, item: u64, stamp: Stamp) -> Outcome {
+    fn deliver_prepared(&mut self, item: u64, stamp: Stamp) -> u64 {
         let client = stamp.client;
         let record = self.tables.client_mut(client);
         record.awaited = without(record.awaited, item);
         if record.awaited != 0 {
-            return Outcome::NoneEnded;
+            return NONE_ENDED;
         }
         let set = record.set;
-        let ended = Ended {
-            kind: WRITE,
-            set,
-            stamp,
-            values: record.values,
-            ..Ended::NONE
-        };
+        let ended = Ended { kind: WRITE, set, stamp, values: record.values, ..Ended::NONE };
         *record = Client::resting(record.count, ended);
         self.see_own_write(client, stamp, set);
         for partition in 0..self.tables.sizes.partitions {
             if items(set).any(|item| self.tables.partition_of(item) == partition) {
-                self.tables
-                    .messages
-                    .push(Message::Commit { partition, stamp });
+                self.tables.messages.push(Message::Commit { partition, stamp });
             }
         }
-        Outcome::WriteEnded
+        WRITE_ENDED
     }
 
     /// Each written item's view entry becomes the later of itself and this write.
@@ -153,8 +112,9 @@ impl Store {
         }
     }
 
-    /// Each item of the partition with a stored version of the stamp takes it as latest if it is later.
-    fn deliver_commit(&mut self, partition: u64, stamp: Stamp) -> Outcome {
+    /// Each item of the partition with a stored version of the stamp takes it as latest if it is
+    /// later.
+    fn deliver_commit(&mut self, partition: u64, stamp: Stamp) -> u64 {
         for item in 0..self.tables.sizes.items {
             if self.tables.partition_of(item) != partition {
                 continue;
@@ -168,11 +128,11 @@ impl Store {
                 self.tables.latest[item as usize] = entry;
             }
         }
-        Outcome::NoneEnded
+        NONE_ENDED
     }
 
     /// Appends a got with the version of exactly that stamp, and the item's latest.
-    fn deliver_get(&mut self, client: u64, item: u64, stamp: Stamp) -> Outcome {
+    fn deliver_get(&mut self, client: u64, item: u64, stamp: Stamp) -> u64 {
         let mut value = match self.tables.version(item, stamp) {
             Some(version) => version.value,
             None => 0,
@@ -180,7 +140,7 @@ impl Store {
         let mut stamp = stamp;
         if self.has(Fault::NewestVersion) {
             for version in self.tables.versions.iter().filter(|v| v.item == item) {
-                if version.stamp.is_later_than(stamp) {
+                if version.stamp > stamp {
                     (value, stamp) = (version.value, version.stamp);
                 }
             }
@@ -193,22 +153,18 @@ impl Store {
             stamp,
             latest: self.tables.latest[item as usize],
         });
-        Outcome::NoneEnded
+        NONE_ENDED
     }
 
     /// Keeps the version as the item's answer and sees the latest; with the last one the read ends.
-    fn deliver_got(&mut self, client: u64, item: u64, value: u64, latest: Entry) -> Outcome {
+    fn deliver_got(&mut self, client: u64, item: u64, value: u64, latest: Entry) -> u64 {
         self.see(client, item, latest);
         let ends_early = self.has(Fault::EndAtFirstReply);
         let record = self.tables.client_mut(client);
         record.values[item as usize] = value;
         record.awaited = without(record.awaited, item);
         if record.awaited != 0 {
-            return if ends_early {
-                Outcome::ReadEnded
-            } else {
-                Outcome::NoneEnded
-            };
+            return if ends_early { READ_ENDED } else { NONE_ENDED };
         }
         let ended = Ended {
             kind: READ,
@@ -218,7 +174,7 @@ impl Store {
             ..Ended::NONE
         };
         *record = Client::resting(record.count, ended);
-        Outcome::ReadEnded
+        READ_ENDED
     }
 
     /// Whether the stamp is later than the one already there.
@@ -226,6 +182,6 @@ impl Store {
         if self.has(Fault::ClientsBeforeNumbers) {
             return (stamp.client, stamp.number) > (present.client, present.number);
         }
-        stamp.is_later_than(present)
+        stamp > present
     }
 }

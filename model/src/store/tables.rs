@@ -4,8 +4,8 @@
 //! What lies outside the sizes, or outside a client's set, is no field and stays initial.
 
 use super::message::Message;
-use super::set::{self, size};
-use super::stamp::{Entry, Stamp};
+use crate::set::{self, size};
+use crate::stamp::{Entry, Stamp};
 
 /// The most clients a store has.
 pub const CLIENTS: usize = 8;
@@ -28,11 +28,7 @@ pub struct Sizes {
 
 impl Sizes {
     pub fn new(clients: u64, partitions: u64, items: u64) -> Sizes {
-        Sizes {
-            clients,
-            partitions,
-            items,
-        }
+        Sizes { clients, partitions, items }
     }
 
     /// Whether they are in 1..8, 1..8 and 1..64.
@@ -59,7 +55,8 @@ pub const READING: u64 = 1;
 /// The mode of a client with a running write.
 pub const WRITING: u64 = 2;
 
-/// A client (desk): its mode and its running transaction. Steps leave an idle client no set; damage may.
+/// A client (desk): its mode and its running transaction. Steps leave an idle client no set; damage
+/// may.
 #[derive(Clone, Copy, Debug, PartialEq, Eq)]
 pub struct Client {
     pub mode: u64,
@@ -180,9 +177,7 @@ impl Tables {
 
     /// The first stored version of the item with that stamp.
     pub fn version(&self, item: u64, stamp: Stamp) -> Option<&Version> {
-        self.versions
-            .iter()
-            .find(|version| version.item == item && version.stamp == stamp)
+        self.versions.iter().find(|version| version.item == item && version.stamp == stamp)
     }
 
     /// The partition that an item lies in.
@@ -202,11 +197,8 @@ impl Tables {
 
     /// Stored versions, and prepares in flight.
     pub fn versions_and_prepares(&self) -> u64 {
-        let prepares = self
-            .messages
-            .iter()
-            .filter(|message| matches!(message, Message::Prepare(_)))
-            .count();
+        let prepares =
+            self.messages.iter().filter(|message| matches!(message, Message::Prepare(_))).count();
         (self.versions.len() + prepares) as u64
     }
 

@@ -2,7 +2,7 @@
 
 use super::Difference;
 use crate::block::{make, Calls, Modelled};
-use crate::promise::{Call, Event};
+use crate::call::{Call, Event};
 
 /// The answer to the call on this block, if it, the output and every word after it are the model's.
 pub(super) fn agree(served: &dyn Calls, block: &[u64], call: &Call) -> Result<u64, Difference> {
@@ -18,15 +18,7 @@ pub(super) fn refused(
     call: &Call,
     refusal: u64,
 ) -> Result<u64, Difference> {
-    let output = match call {
-        Call::Show { output, .. } => output.clone(),
-        _ => Vec::new(),
-    };
-    let event = Event {
-        call: call.clone(),
-        answer: refusal,
-        output,
-    };
+    let event = Event { call: call.clone(), answer: refusal, output: call.output() };
     hold(served, block, &event, block)
 }
 

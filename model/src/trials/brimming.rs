@@ -1,37 +1,20 @@
 //! Blocks at and just below a capacity.
 
 use super::Busy;
+use crate::stamp::Stamp;
 use crate::store::message::Message;
-use crate::store::stamp::Stamp;
 use crate::store::tables::{Client, Sizes, Tables, Version, WRITING};
 
-const STAMP: Stamp = Stamp {
-    number: 7,
-    client: 2,
-};
-const VERSION: Version = Version {
-    item: 3,
-    value: 9,
-    stamp: STAMP,
-    set: 0b1000,
-};
-const GET: Message = Message::Get {
-    client: 2,
-    item: 3,
-    stamp: Stamp::INITIAL,
-};
+const STAMP: Stamp = Stamp { number: 7, client: 2 };
+const VERSION: Version = Version { item: 3, value: 9, stamp: STAMP, set: 0b1000 };
+const GET: Message = Message::Get { client: 2, item: 3, stamp: Stamp::INITIAL };
 
-/// Blocks full of messages, of messages and replies, of versions, and of versions and prepares, some that the
-/// widest start fills, and some whose count is the greatest; and the same with 1, 2 and 3 less.
+/// Blocks full of messages, of messages and replies, of versions, and of versions and prepares,
+/// some that the widest start fills, and some whose count is the greatest; and the same with 1, 2
+/// and 3 less.
 pub fn brimming() -> Vec<Busy> {
-    let sorts: [fn(usize) -> Tables; 6] = [
-        messages,
-        room_for_the_widest_start,
-        replies,
-        versions,
-        prepares,
-        count,
-    ];
+    let sorts: [fn(usize) -> Tables; 6] =
+        [messages, room_for_the_widest_start, replies, versions, prepares, count];
     let mut brimming = Vec::new();
     for less in 0..4 {
         for (place, sort) in sorts.iter().enumerate() {

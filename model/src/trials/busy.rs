@@ -3,7 +3,7 @@
 use super::leftovers::leftovers;
 use crate::layout::{fields, places, Field, NEEDED};
 use crate::random::Random;
-use crate::random_tables::Maker;
+use crate::random_tables::random_tables;
 use crate::runs::{tables_amid, Sort};
 use crate::store::tables::{Tables, LOAD_CAPACITY};
 
@@ -23,13 +23,13 @@ impl Busy {
 
     /// A block of tables unlike any that calls leave.
     pub fn unlike_any(seed: u64) -> Busy {
-        let mut tables = Maker::new(seed).tables();
+        let mut tables = random_tables(seed);
         tables.messages.truncate(LOAD_CAPACITY as usize);
         Busy::holding(tables, seed)
     }
 
-    /// A block of these tables, and some words past its needed length. By the seed, words that are no field are 0,
-    /// anything, or what long use could leave.
+    /// A block of these tables, and some words past its needed length. By the seed, words that are
+    /// no field are 0, anything, or what long use could leave.
     pub fn holding(tables: Tables, seed: u64) -> Busy {
         let mut random = Random::new(seed);
         let length = NEEDED + random.below(4) as usize;
@@ -43,14 +43,11 @@ impl Busy {
         for field in &fields {
             words[field.place] = field.word;
         }
-        Busy {
-            tables,
-            words,
-            fields,
-        }
+        Busy { tables, words, fields }
     }
 
-    /// The place of a field: as often one of the header or a client's scalars, of a message, or of any field.
+    /// The place of a field: as often one of the header or a client's scalars, of a message, or of
+    /// any field.
     pub(super) fn some_place(&self, random: &mut Random) -> usize {
         let before = |place| self.fields.partition_point(|field| field.place < place);
         let chosen = match random.below(3) {

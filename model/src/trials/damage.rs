@@ -36,17 +36,9 @@ pub fn damaged_blocks(
         damaged.blocks += 1;
         let tables = decode(&words).filter(is_usable);
         damaged.valid += usize::from(tables.is_some());
-        let mut chooser = Chooser {
-            random,
-            tables: tables.as_ref().unwrap_or(&busy.tables),
-            damaged: place,
-        };
-        for call in [
-            chooser.read(),
-            chooser.write(),
-            chooser.deliver(),
-            chooser.show(),
-        ] {
+        let mut chooser =
+            Chooser { random, tables: tables.as_ref().unwrap_or(&busy.tables), damaged: place };
+        for call in [chooser.read(), chooser.write(), chooser.deliver(), chooser.show()] {
             let answer = match &tables {
                 Some(_) => agree(served, &words, &call),
                 None => refused(served, &words, &call, 1),

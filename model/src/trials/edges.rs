@@ -2,33 +2,20 @@
 
 use super::agreement::agree;
 use super::{Busy, Difference, Met};
+use crate::answer::Answer;
 use crate::block::Calls;
+use crate::call::Call;
 use crate::layout::NEEDED;
-use crate::promise::Call;
-use crate::store::answer::Answer;
-use crate::store::set::size;
+use crate::set::size;
 use crate::store::Store;
 
 /// Numbers that are far out of every range.
-const FAR: [u64; 6] = [
-    1 << 32,
-    (1 << 32) + 1,
-    1 << 61,
-    1 << 63,
-    (1 << 63) + 1,
-    u64::MAX,
-];
+const FAR: [u64; 6] = [1 << 32, (1 << 32) + 1, 1 << 61, 1 << 63, (1 << 63) + 1, u64::MAX];
 
 /// Each call at every edge, on a copy of the block.
 pub fn edges(served: &dyn Calls, busy: &Busy, met: &mut Met) -> Result<(), Difference> {
     lengths(served, busy, met)?;
-    let calls = [
-        sizes(),
-        reads(busy),
-        writes(busy),
-        deliveries(busy),
-        showings(busy),
-    ];
+    let calls = [sizes(), reads(busy), writes(busy), deliveries(busy), showings(busy)];
     for call in calls.concat() {
         met.count(&call, agree(served, &busy.words, &call)?);
     }
@@ -42,16 +29,9 @@ fn lengths(served: &dyn Calls, busy: &Busy, met: &mut Met) -> Result<(), Differe
         fresh(1, 1, 1),
         fresh(9, 8, 64),
         Call::Read { client: 1, set: 1 },
-        Call::Write {
-            client: 1,
-            set: 1,
-            values: vec![1; 4],
-        },
+        Call::Write { client: 1, set: 1, values: vec![1; 4] },
         Call::Deliver { place: 0 },
-        Call::Show {
-            client: 1,
-            output: vec![1; 600],
-        },
+        Call::Show { client: 1, output: vec![1; 600] },
     ];
     let mut words = busy.words.clone();
     words.resize(NEEDED + 70, 5);
@@ -64,12 +44,7 @@ fn lengths(served: &dyn Calls, busy: &Busy, met: &mut Met) -> Result<(), Differe
 }
 
 fn fresh(clients: u64, partitions: u64, items: u64) -> Call {
-    Call::Fresh {
-        long_enough: true,
-        clients,
-        partitions,
-        items,
-    }
+    Call::Fresh { long_enough: true, clients, partitions, items }
 }
 
 /// Near edges of all three at once, and each far out of range beside two that are allowed.
@@ -91,30 +66,14 @@ fn sizes() -> Vec<Call> {
 
 fn clients(busy: &Busy) -> Vec<u64> {
     let existing = busy.tables.sizes.clients;
-    [
-        &(0..=existing + 1).collect::<Vec<u64>>()[..],
-        &[9, 15, 16, 17, 255, 256],
-        &FAR,
-    ]
-    .concat()
+    [&(0..=existing + 1).collect::<Vec<u64>>()[..], &[9, 15, 16, 17, 255, 256], &FAR].concat()
 }
 
 fn sets(busy: &Busy) -> Vec<u64> {
     let items = busy.tables.sizes.items;
     let all = u64::MAX >> (64 - items);
     let past = (1 << (items - 1)) << 1;
-    vec![
-        0,
-        1,
-        0b11 & all,
-        0b111 & all,
-        1 << (items - 1),
-        all,
-        past,
-        all | past,
-        1 << 63,
-        u64::MAX,
-    ]
+    vec![0, 1, 0b11 & all, 0b111 & all, 1 << (items - 1), all, past, all | past, 1 << 63, u64::MAX]
 }
 
 fn reads(busy: &Busy) -> Vec<Call> {
@@ -132,13 +91,7 @@ fn writes(busy: &Busy) -> Vec<Call> {
     for client in clients(busy) {
         for set in sets(busy) {
             let right = 4 * size(set) as usize;
-            for length in [
-                0,
-                right.saturating_sub(4),
-                right.saturating_sub(1),
-                right,
-                right + 1,
-            ] {
+            for length in [0, right.saturating_sub(4), right.saturating_sub(1), right, right + 1] {
                 calls.push(Call::Write {
                     client,
                     set,
@@ -152,9 +105,7 @@ fn writes(busy: &Busy) -> Vec<Call> {
 
 fn deliveries(busy: &Busy) -> Vec<Call> {
     let messages = busy.tables.messages.len() as u64;
-    let places = (0..messages + 2)
-        .chain([127, 128, 129, 256, 65_536])
-        .chain(FAR);
+    let places = (0..messages + 2).chain([127, 128, 129, 256, 65_536]).chain(FAR);
     places.map(|place| Call::Deliver { place }).collect()
 }
 
@@ -164,14 +115,11 @@ fn showings(busy: &Busy) -> Vec<Call> {
     let mut calls = Vec::new();
     for client in clients(busy) {
         let frame = match store.show(client, &mut [0; 600]) {
-            Answer::Shown(frame) => frame.len(),
+            Answer::Shown { length } => length as usize,
             _ => 10,
         };
         for room in [0, 1, frame - 1, frame, frame + 1, frame + 300] {
-            calls.push(Call::Show {
-                client,
-                output: vec![0xee; room],
-            });
+            calls.push(Call::Show { client, output: vec![0xee; room] });
         }
     }
     calls

@@ -4,7 +4,8 @@ use crate::layout::places::{self, Scalar, NEEDED};
 use crate::random::Random;
 use crate::store::tables::{Sizes, CLIENTS, ITEMS, LOAD_CAPACITY, VERSION_CAPACITY};
 
-/// So many words, in range wherever tables of these sizes could have a field, whatever the kind of a message.
+/// So many words, in range wherever tables of these sizes could have a field, whatever the kind of
+/// a message.
 pub(super) fn leftovers(sizes: &Sizes, length: usize, random: &mut Random) -> Vec<u64> {
     let mut words: Vec<u64> = (0..length).map(|_| random.number()).collect();
     for client in 1..=CLIENTS {

@@ -1,6 +1,6 @@
 //! What a trial met, so that none passes on nothing.
 
-use crate::promise::Call;
+use crate::call::Call;
 
 /// How often each answer was given.
 #[derive(Clone, Debug, Default, PartialEq, Eq)]
@@ -42,11 +42,11 @@ impl Met {
         }
     }
 
-    /// The refusals that were answered at least so often.
-    pub fn refusals(&self, times: usize) -> Vec<usize> {
-        (1..self.refused.len())
-            .filter(|refusal| self.refused[*refusal] >= times)
-            .collect()
+    /// Each of these refusals was answered at least so often.
+    pub fn assert_refused(&self, refusals: &[usize], times: usize) {
+        for refusal in refusals {
+            assert!(self.refused[*refusal] >= times, "{refusal} in {self:?}");
+        }
     }
 
     /// The least of the counts of accepted calls, by call, kind of message and end.

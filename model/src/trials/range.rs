@@ -6,7 +6,8 @@ use crate::layout::{is_valid, Sort};
 use crate::random::Random;
 use std::collections::BTreeMap;
 
-/// How often a damaged block was valid and not, by the sort of field or, for words at random, without one.
+/// How often a damaged block was valid and not, by the sort of field or, for words at random,
+/// without one.
 #[derive(Clone, Debug, Default, PartialEq, Eq)]
 pub struct Judged {
     pub valid: BTreeMap<Option<Sort>, usize>,
@@ -23,8 +24,8 @@ impl Judged {
 /// Whoever tells valid blocks from others.
 pub type Valid<'a> = dyn Fn(&[u64]) -> bool + 'a;
 
-/// Every field's word with each of ten numbers: 0, 1, the greatest in range and one past it, 2 to the power 32, all
-/// ones, one less and one more than it was, and two with some bit changed.
+/// Every field's word with each of ten numbers: 0, 1, the greatest in range and one past it, 2 to
+/// the power 32, all ones, one less and one more than it was, and two with some bit changed.
 pub fn every_field(
     valid: &Valid,
     busy: &Busy,
@@ -66,9 +67,8 @@ pub fn random_words(
 ) -> Result<(), Difference> {
     for _ in 0..damages {
         let mut words = busy.words.clone();
-        let spoilt: Vec<usize> = (0..=random.below(3))
-            .map(|_| spoil(&mut words, busy, random))
-            .collect();
+        let spoilt: Vec<usize> =
+            (0..=random.below(3)).map(|_| spoil(&mut words, busy, random)).collect();
         judge(valid, &words, None, judged)
             .map_err(|found| Difference(format!("words {spoilt:?}: {}", found.0)))?;
     }

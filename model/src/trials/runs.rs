@@ -2,8 +2,10 @@
 
 use super::{Difference, Met};
 use crate::block::{make, Calls};
+use crate::call::Event;
+use crate::judge::{judge, Verdict};
 use crate::layout::{decode, NEEDED};
-use crate::promise::{check, Event, Summary};
+use crate::promise::{check, Summary};
 use crate::random::Random;
 use crate::runs::{run_watched, Sort};
 use crate::store::tables::Tables;
@@ -20,7 +22,8 @@ pub struct Runs {
     pub most_versions: usize,
 }
 
-/// The run of each seed: answers, outputs and tables are the model's, and condition 3 holds of the list of calls.
+/// The run of each seed: answers, outputs and tables are the model's, condition 3's promises hold
+/// of the list of calls, and its log is clean.
 pub fn random_runs(
     served: &dyn Calls,
     sort: Sort,
@@ -48,11 +51,15 @@ fn random_run(
     }
     let summary: Summary =
         check(&run.events).map_err(|violation| Difference(format!("{violation:?}")))?;
+    let verdict = judge(&run.log);
+    if verdict != Verdict::CLEAN {
+        return Err(Difference(format!("its log is judged {verdict:?}")));
+    }
     runs.runs += 1;
     runs.longest = runs.longest.max(run.events.len());
     runs.reads_shown += summary.reads_shown;
     runs.written_entries_shown += summary.written_entries_shown;
-    runs.greatest_load = runs.greatest_load.max(summary.greatest_load);
+    runs.greatest_load = runs.greatest_load.max(run.greatest_load);
     runs.most_versions = runs.most_versions.max(run.most_versions);
     Ok(())
 }
@@ -74,13 +81,7 @@ impl Beside<'_> {
         let length = NEEDED + random.below(4) as usize;
         let mut words: Vec<u64> = (0..length).map(|_| random.number()).collect();
         words[..3].fill(0);
-        Beside {
-            served,
-            past: words[NEEDED..].to_vec(),
-            words,
-            calls: 0,
-            held: Ok(()),
-        }
+        Beside { served, past: words[NEEDED..].to_vec(), words, calls: 0, held: Ok(()) }
     }
 
     fn watch(&mut self, event: &Event, tables: &Tables) {
@@ -99,9 +100,7 @@ impl Beside<'_> {
             return Err(found(format!("answers {given:#x}, the model {model:#x}")));
         }
         if self.words[NEEDED..] != self.past {
-            return Err(found(
-                "words past the needed length have changed".to_owned(),
-            ));
+            return Err(found("words past the needed length have changed".to_owned()));
         }
         let decoded = decode(&self.words);
         if tables.sizes.are_allowed() && decoded.as_ref() != Some(tables) {

@@ -43,10 +43,7 @@ fn a_shown_write_is_said() {
 
 #[test]
 fn a_fresh_start_of_one_each_is_said_in_the_singular() {
-    assert_eq!(
-        said("01010101", "00"),
-        "fresh start with 1 client, 1 partition, 1 item: accepted"
-    );
+    assert_eq!(said("01010101", "00"), "fresh start with 1 client, 1 partition, 1 item: accepted");
 }
 
 #[test]
@@ -56,42 +53,21 @@ fn every_refusal_is_said() {
             "01",
             "refused by 1: the block is too short or damaged, or no fresh start was accepted yet",
         ),
-        (
-            "02",
-            "refused by 2: sizes outside 1 to 8 clients, 1 to 8 partitions and 1 to 64 items",
-        ),
+        ("02", "refused by 2: sizes outside 1 to 8 clients, 1 to 8 partitions and 1 to 64 items"),
         ("03", "refused by 3: no such client"),
         ("04", "refused by 4: the client isn't idle"),
-        (
-            "05",
-            "refused by 5: the set is empty or holds an item that doesn't exist",
-        ),
+        ("05", "refused by 5: the set is empty or holds an item that doesn't exist"),
         ("06", "refused by 6: not as many values as items"),
-        (
-            "07",
-            "refused by 7: the client has started as many writes as it can count",
-        ),
+        ("07", "refused by 7: the client has started as many writes as it can count"),
         ("08", "refused by 8: the load would be over 128"),
-        (
-            "09",
-            "refused by 9: stored versions and prepares in flight would be over 512",
-        ),
+        ("09", "refused by 9: stored versions and prepares in flight would be over 512"),
         ("0a", "refused by 10: no message lies at that place"),
-        (
-            "0b",
-            "refused by 11: the version is already stored, or the reply isn't awaited",
-        ),
+        ("0b", "refused by 11: the version is already stored, or the reply isn't awaited"),
         ("0c", "refused by 12: the version asked for isn't stored"),
-        (
-            "0d",
-            "refused by 13: no transaction of the client has ended",
-        ),
+        ("0d", "refused by 13: no transaction of the client has ended"),
         ("0e", "refused by 14: the output is shorter than the frame"),
         ("0f", "refused by 15: malformed"),
-        (
-            "10",
-            "refused by 16: over 32,768 bytes or over 256 line ends",
-        ),
+        ("10", "refused by 16: over 32,768 bytes or over 256 line ends"),
     ];
     for (answer, sentence) in refusals {
         let expected = format!("the message at place 2 is delivered: {sentence}");
@@ -115,10 +91,7 @@ fn bytes_that_answer_no_such_frame_are_told() {
     ];
     for (frame, answer) in others {
         let said = said(frame, answer);
-        assert!(
-            said.ends_with(": this is no answer to such a frame"),
-            "{said}"
-        );
+        assert!(said.ends_with(": this is no answer to such a frame"), "{said}");
     }
 }
 

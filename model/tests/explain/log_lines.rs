@@ -2,6 +2,14 @@
 
 use koolvent_model::explain::log;
 
+/// What is said of the log before its verdict.
+fn assert_lines(text: &str, said: &str) {
+    let all = log(text.as_bytes(), None);
+    let (lines, verdict) = all.split_at(all.find("verdict: ").expect("a verdict"));
+    assert_eq!(lines, said);
+    assert_eq!(verdict.lines().count(), 1);
+}
+
 #[test]
 fn a_write_and_reads() {
     let text = "\
@@ -16,14 +24,14 @@ log line 2: client 2 shows item 0 from write 1 of client 1, value 7; item 1 init
 log line 3: client 2 shows item 1 from write 1 of client 1, value 8
 log line 4: client 8 shows item 0 from write 2147483648 of client 8, value 4294967295
 ";
-    assert_eq!(log(text.as_bytes(), None), said);
+    assert_lines(text, said);
 }
 
 #[test]
 fn an_initial_item_with_a_value() {
-    assert_eq!(
-        log(b"21020000000000000001000000000000000005\n", None),
-        "log line 1: client 2 shows item 0 initial, value 5\n"
+    assert_lines(
+        "21020000000000000001000000000000000005\n",
+        "log line 1: client 2 shows item 0 initial, value 5\n",
     );
 }
 
@@ -34,10 +42,10 @@ fn a_malformed_line_among_others() {
 log line 1 is malformed: no digit but G at column 36
 log line 2: client 2 shows item 0 initial
 ";
-    assert_eq!(log(text.as_bytes(), None), said);
+    assert_lines(text, said);
 }
 
 #[test]
 fn an_empty_log() {
-    assert_eq!(log(b"", None), "");
+    assert_lines("", "");
 }

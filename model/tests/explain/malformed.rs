@@ -1,10 +1,6 @@
 //! What is wrong with a malformed line.
 
 use koolvent_model::explain::{log, session};
-use koolvent_model::frames::store::StoreFrame;
-use koolvent_model::judge::generate::{random_log, spoil};
-use koolvent_model::judge::{examples, judge, Verdict};
-use koolvent_model::random::Random;
 
 /// What is wrong with a store frame, answered by 15.
 fn frame(line: &[u8]) -> String {
@@ -17,7 +13,7 @@ fn frame(line: &[u8]) -> String {
 /// What is wrong with the last line of a log.
 fn line(text: &[u8]) -> String {
     let said = log(text, None);
-    let last = said.lines().last().expect("a line");
+    let last = said.lines().rev().nth(1).expect("a line");
     let (_, wrong) = last.split_once(" is malformed: ").expect("malformed");
     wrong.to_owned()
 }
@@ -52,24 +48,15 @@ fn the_kind_and_length_of_a_store_frame() {
         ("06", "unknown kind 06"),
         ("20", "unknown kind 20"),
         ("010202", "wrong length: a fresh start has 4 bytes, this 3"),
-        (
-            "0102020202",
-            "wrong length: a fresh start has 4 bytes, this 5",
-        ),
-        (
-            "020200000000000003",
-            "wrong length: a read has 10 bytes, this 9",
-        ),
+        ("0102020202", "wrong length: a fresh start has 4 bytes, this 5"),
+        ("020200000000000003", "wrong length: a read has 10 bytes, this 9"),
         ("0400", "wrong length: a delivery has 3 bytes, this 2"),
         ("05", "wrong length: a showing has 2 bytes, this 1"),
         (
             "0301000000000000000100000007ff",
             "wrong length: a write has 10 bytes and 4 for each of at most 64 values, this 15",
         ),
-        (
-            "03",
-            "wrong length: a write has 10 bytes and 4 for each of at most 64 values, this 1",
-        ),
+        ("03", "wrong length: a write has 10 bytes and 4 for each of at most 64 values, this 1"),
     ];
     for (digits, wrong) in frames {
         assert_eq!(frame(format!("{digits}\n").as_bytes()), wrong);
@@ -87,22 +74,13 @@ fn the_kind_and_length_of_a_log_line() {
         ("22010000000000000001", "unknown kind 22"),
         ("1f", "unknown kind 1f"),
         ("20", "wrong length: 1, too short for a client and a set"),
-        (
-            "210200000000000001",
-            "wrong length: 9, too short for a client and a set",
-        ),
-        (
-            "20010000000000000003000000010000000",
-            "an odd number of digits, 35",
-        ),
+        ("210200000000000001", "wrong length: 9, too short for a client and a set"),
+        ("20010000000000000003000000010000000", "an odd number of digits, 35"),
         (
             "2001000000000000000300000001000000a9",
             "wrong length: a write of 2 items has 22 bytes, this 18",
         ),
-        (
-            "20010000000000000001",
-            "wrong length: a write of 1 item has 18 bytes, this 10",
-        ),
+        ("20010000000000000001", "wrong length: a write of 1 item has 18 bytes, this 10"),
         (
             "21020000000000000003000000000000000000",
             "wrong length: a read of 2 items has 28 bytes, this 19",
@@ -117,27 +95,12 @@ fn the_kind_and_length_of_a_log_line() {
 fn the_fields_of_a_log_line() {
     let write = "2001000000000000000100000002000000a9\n";
     let lines = [
-        (
-            "2000000000000000000100000001000000a9\n".to_owned(),
-            "client 0, and clients are 1 to 8",
-        ),
-        (
-            "21090000000000000001000000000000000000\n".to_owned(),
-            "client 9, and clients are 1 to 8",
-        ),
-        (
-            "2001000000000000000000000001\n".to_owned(),
-            "its set is empty",
-        ),
+        ("2000000000000000000100000001000000a9\n".to_owned(), "client 0, and clients are 1 to 8"),
+        ("21090000000000000001000000000000000000\n".to_owned(), "client 9, and clients are 1 to 8"),
+        ("2001000000000000000000000001\n".to_owned(), "its set is empty"),
         ("21010000000000000000\n".to_owned(), "its set is empty"),
-        (
-            "2001000000000000000100000000000000a9\n".to_owned(),
-            "write 0, and numbers begin with 1",
-        ),
-        (
-            format!("{write}{write}"),
-            "write 2 of client 1 below its write 2, log line 1",
-        ),
+        ("2001000000000000000100000000000000a9\n".to_owned(), "write 0, and numbers begin with 1"),
+        (format!("{write}{write}"), "write 2 of client 1 below its write 2, log line 1"),
         (
             format!("{write}bad\n2001000000000000000100000001000000a9\n"),
             "write 1 of client 1 below its write 2, log line 1",
@@ -146,71 +109,10 @@ fn the_fields_of_a_log_line() {
             "21020000000000000003000000000000000000000000000100000000\n".to_owned(),
             "item 1 from write 0 of client 1",
         ),
-        (
-            "21020000000000000001000000010000000000\n".to_owned(),
-            "item 0 from write 1 of client 0",
-        ),
-        (
-            "21020000000000000001000000010900000000\n".to_owned(),
-            "item 0 from write 1 of client 9",
-        ),
+        ("21020000000000000001000000010000000000\n".to_owned(), "item 0 from write 1 of client 0"),
+        ("21020000000000000001000000010900000000\n".to_owned(), "item 0 from write 1 of client 9"),
     ];
     for (text, wrong) in lines {
         assert_eq!(line(text.as_bytes()), wrong);
     }
-}
-
-/// The first line of a log that is said to be malformed.
-fn first_malformed(text: &[u8]) -> Option<usize> {
-    let said = log(text, None);
-    let malformed = said.lines().position(|line| line.contains("is malformed"));
-    malformed.map(|place| place + 1)
-}
-
-/// Lines said to be malformed are those that the judge takes for malformed.
-fn agrees_with_the_judge(text: &[u8]) {
-    match judge(text) {
-        Verdict::TooLong => (),
-        Verdict::Malformed { line } => assert_eq!(first_malformed(text), Some(line)),
-        Verdict::Judged { .. } => assert_eq!(first_malformed(text), None),
-    }
-}
-
-#[test]
-fn log_lines_are_said_to_be_malformed_exactly_where_the_judge_says_so() {
-    for example in examples::all() {
-        agrees_with_the_judge(&example.log);
-    }
-    let mut random = Random::new(51);
-    let mut below = move |bound| random.below(bound);
-    for _ in 0..2_000 {
-        let mut text = random_log(&mut below);
-        agrees_with_the_judge(&text);
-        spoil(&mut text, &mut below);
-        agrees_with_the_judge(&text);
-    }
-}
-
-#[test]
-fn frames_are_said_to_be_malformed_exactly_where_the_driver_says_so() {
-    let mut random = Random::new(52);
-    let mut malformed = 0;
-    for _ in 0..20_000 {
-        let mut bytes = [1 + random.below(6) as u8].to_vec();
-        let length = random.pick(&[1, 2, 3, 9, 13, 17]);
-        bytes.extend(random.bytes(length));
-        let mut text: String = bytes.iter().map(|byte| format!("{byte:02x}")).collect();
-        if random.percent(20) {
-            text.pop();
-        }
-        let said = session(format!("{text}\n").as_bytes(), b"");
-        let parsed = StoreFrame::parse(text.as_bytes());
-        assert_eq!(
-            said.contains("malformed frame: "),
-            parsed.is_none(),
-            "{text}"
-        );
-        malformed += usize::from(parsed.is_none());
-    }
-    assert!((2_000..18_000).contains(&malformed), "{malformed}");
 }

@@ -104,10 +104,7 @@ pub const SESSION: [(&str, &str, &str); 19] = [
 
 /// What is said of one frame and its answer, each with its 0a.
 pub fn said(frame: &str, answer: &str) -> String {
-    let explained = session(
-        format!("{frame}\n").as_bytes(),
-        format!("{answer}\n").as_bytes(),
-    );
+    let explained = session(format!("{frame}\n").as_bytes(), format!("{answer}\n").as_bytes());
     let rest = explained.strip_prefix(frame).expect("the frame first");
     let rest = rest.trim_start().strip_prefix(answer).expect("its answer");
     rest.trim().to_owned()

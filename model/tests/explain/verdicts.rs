@@ -1,11 +1,8 @@
 //! Verdicts.
 
 use koolvent_model::explain::log;
-use koolvent_model::judge::generate::random_log;
-use koolvent_model::judge::{examples, judge, Verdict};
-use koolvent_model::random::Random;
 
-/// The last line that is said, of a log with this verdict.
+/// The last line that is said, of a log that the judge gave this verdict.
 fn said(text: &str, verdict: &str) -> String {
     let said = log(text.as_bytes(), Some(format!("{verdict}\n").as_bytes()));
     said.lines().last().expect("a verdict").to_owned()
@@ -16,10 +13,7 @@ const HALF_READ: &str = "2102000000000000000300000001010000000700000000000000000
 
 #[test]
 fn clean() {
-    assert_eq!(
-        said("", "00000000"),
-        "verdict: clean: no read of the log is at fault"
-    );
+    assert_eq!(said("", "00000000"), "verdict: clean: no read of the log is at fault");
 }
 
 #[test]
@@ -95,65 +89,18 @@ fn too_long() {
 }
 
 #[test]
-fn verdicts_that_the_log_does_not_bear_out() {
-    let cases = [
-        (
-            "0f0001",
-            "refused by 15: log line 1 is said to be malformed, which this log doesn't bear out",
-        ),
-        (
-            "00010002",
-            "log line 2 is unwritten, which this log doesn't bear out",
-        ),
-        (
-            "00020001",
-            "log line 1 is fractured, which this log doesn't bear out",
-        ),
-        (
-            "00030002",
-            "log line 2 misses an own write, which this log doesn't bear out",
-        ),
-        (
-            "00030009",
-            "log line 9 misses an own write, which this log doesn't bear out",
-        ),
-        (
-            "00020000",
-            "log line 0 is fractured, which this log doesn't bear out",
-        ),
-    ];
+fn a_verdict_handed_over_that_is_another() {
     let text = [WRITE, HALF_READ].concat();
-    for (verdict, sentence) in cases {
-        assert_eq!(said(&text, verdict), format!("verdict: {sentence}"));
+    for verdict in ["00000000", "0f0001", "00010002", "00020001", "0F", "0002000"] {
+        let other = format!("the verdict handed over is another: {verdict}");
+        assert_eq!(said(&text, verdict), other);
     }
 }
 
 #[test]
-fn other_bytes_are_no_verdict() {
-    for verdict in ["00", "0f", "00040001", "0000000000", "000000", "11"] {
-        assert_eq!(said("", verdict), "verdict: these bytes are no verdict");
-    }
-    assert_eq!(
-        said("", "0F0001"),
-        "verdict: malformed: uppercase digit F at column 2"
-    );
-}
-
-/// What the judge says is always borne out by the log.
-#[test]
-fn every_verdict_of_the_judge_has_its_reason() {
-    let mut random = Random::new(53);
-    let mut below = move |bound| random.below(bound);
-    let mut logs: Vec<Vec<u8>> = examples::all().into_iter().map(|it| it.log).collect();
-    logs.extend((0..3_000).map(|_| random_log(&mut below)));
-    let mut faults = 0;
-    for text in logs {
-        let verdict = judge(&text);
-        let said = log(&text, Some(format!("{}\n", verdict.text()).as_bytes()));
-        let last = said.lines().last().expect("a verdict");
-        assert!(!last.contains("bear out"), "{last}");
-        assert!(!last.contains("no verdict"), "{last}");
-        faults += usize::from(matches!(verdict, Verdict::Judged { finding: 1.., .. }));
-    }
-    assert!(faults > 500, "{faults}");
+fn without_a_verdict_handed_over_it_is_said_all_the_same() {
+    let text = [WRITE, HALF_READ].concat();
+    let both = [log(text.as_bytes(), None), log(text.as_bytes(), Some(b"00020002\n"))];
+    assert_eq!(both[0], both[1]);
+    assert!(both[0].contains("verdict: log line 2 is fractured"));
 }

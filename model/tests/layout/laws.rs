@@ -3,15 +3,15 @@
 use koolvent_model::layout::{decode, encode, fields, is_valid, places, Sort, NEEDED};
 use koolvent_model::random::Random;
 use koolvent_model::runs::{run_watched, tables_amid, Sort as Runs};
+use koolvent_model::stamp::{Entry, Stamp};
 use koolvent_model::store::message::Message;
-use koolvent_model::store::stamp::{Entry, Stamp};
 use koolvent_model::store::tables::{
     Client, Ended, Sizes, Tables, Version, READ, READING, WRITE, WRITING,
 };
 use std::collections::{BTreeMap, BTreeSet};
 
-/// The largest tables, all of whose words that can be fields are: half of the clients read and have ended writes,
-/// half write and have ended reads.
+/// The largest tables, all of whose words that can be fields are: half of the clients read and have
+/// ended writes, half write and have ended reads.
 fn full_tables() -> Tables {
     let mut tables = Tables::fresh(Sizes::new(8, 8, 64));
     let stamp = Stamp::new(u64::from(u32::MAX), 8);
@@ -20,12 +20,7 @@ fn full_tables() -> Tables {
     tables.view = [[entry; 64]; 8];
     for (place, record) in tables.clients.iter_mut().enumerate() {
         let (mode, kind) = [(READING, WRITE), (WRITING, READ)][place % 2];
-        let mut last = Ended {
-            kind,
-            set: u64::MAX,
-            values: [1; 64],
-            ..Ended::NONE
-        };
+        let mut last = Ended { kind, set: u64::MAX, values: [1; 64], ..Ended::NONE };
         match kind {
             READ => last.stamps = [stamp; 64],
             _ => last.stamp = stamp,
@@ -40,20 +35,9 @@ fn full_tables() -> Tables {
             last,
         };
     }
-    let version = Version {
-        item: 63,
-        value: 1,
-        stamp,
-        set: u64::MAX,
-    };
+    let version = Version { item: 63, value: 1, stamp, set: u64::MAX };
     tables.versions = vec![version; 512];
-    let got = Message::Got {
-        client: 8,
-        item: 63,
-        value: 1,
-        stamp,
-        latest: entry,
-    };
+    let got = Message::Got { client: 8, item: 63, value: 1, stamp, latest: entry };
     tables.messages = vec![got; 128];
     tables
 }
@@ -82,11 +66,7 @@ fn the_tables_of_runs_come_back_from_their_words() {
         for seed in seeds {
             run_watched(sort, seed, &mut |_, tables| {
                 if tables.sizes.are_allowed() {
-                    assert_eq!(
-                        decode(&encode(tables)).as_ref(),
-                        Some(tables),
-                        "seed {seed}"
-                    );
+                    assert_eq!(decode(&encode(tables)).as_ref(), Some(tables), "seed {seed}");
                     tables_seen += 1;
                 }
             });
@@ -149,12 +129,7 @@ fn lengths_sizes_counts_modes_and_kinds_that_are_numbers_of_none_encode_nothing(
         );
         assert_eq!(decode(&words).is_none(), none, "{field:?}");
     }
-    for place in [
-        places::CLIENTS,
-        places::PARTITIONS,
-        places::ITEMS,
-        places::message(0),
-    ] {
+    for place in [places::CLIENTS, places::PARTITIONS, places::ITEMS, places::message(0)] {
         let mut words = full.clone();
         words[place] = 0;
         assert_eq!(decode(&words), None);

@@ -1,14 +1,15 @@
-//! The exported call. Its logs are more than 50,000: 45,360 small ones and 40,000 random ones alone.
+//! The exported call. Its logs are more than 50,000: 45,360 small ones and 40,000 random ones
+//! alone.
 
-use crate::{draws, verdict};
 use koolvent_model::judge::generate::{every_small_log, random_log, random_long_log, spoil};
-use koolvent_model::judge::{examples, Verdict};
+use koolvent_model::judge::{examples, judge, Verdict};
 use koolvent_model::proved;
+use koolvent_model::random::Random;
 use std::collections::BTreeMap;
 
-/// The proved judge gives the verdict of the model's judges.
+/// The proved judge gives the verdict of the model's.
 fn agreed(log: &[u8]) -> Verdict {
-    let verdict = verdict(log);
+    let verdict = judge(log);
     let text = String::from_utf8_lossy(log);
     assert_eq!(proved::judge::judge(log), verdict.number(), "on\n{text}");
     verdict
@@ -56,21 +57,16 @@ const FINDINGS: [Sort; 3] = [Sort::Finding(1), Sort::Finding(2), Sort::Finding(3
 #[test]
 fn examples_worked_out_by_hand() {
     for example in examples::all() {
-        assert_eq!(
-            agreed(&example.log).text(),
-            example.verdict,
-            "{}",
-            example.name
-        );
+        assert_eq!(agreed(&example.log).text(), example.verdict, "{}", example.name);
     }
 }
 
 #[test]
 fn random_logs() {
-    let mut below = draws(31);
+    let mut random = Random::new(31);
     let mut tally = Tally::default();
     for _ in 0..40_000 {
-        tally.count(agreed(&random_log(&mut below)));
+        tally.count(agreed(&random_log(&mut random)));
     }
     tally.assert_met(&[Sort::Malformed, Sort::CLEAN], 5_000);
     tally.assert_met(&FINDINGS, 2_500);
@@ -78,12 +74,12 @@ fn random_logs() {
 
 #[test]
 fn random_logs_spoiled_once_or_more() {
-    let mut below = draws(32);
+    let mut random = Random::new(32);
     let mut tally = Tally::default();
     for _ in 0..10_000 {
-        let mut log = random_log(&mut below);
-        for _ in 0..=below(3) {
-            spoil(&mut log, &mut below);
+        let mut log = random_log(&mut random);
+        for _ in 0..=random.below(3) {
+            spoil(&mut log, &mut random);
         }
         tally.count(agreed(&log));
     }
@@ -106,10 +102,10 @@ fn every_small_log_of_two_writes_and_a_read() {
 
 #[test]
 fn faults_late_in_long_logs() {
-    let mut below = draws(33);
+    let mut random = Random::new(33);
     let mut tally = Tally::default();
     for _ in 0..500 {
-        let verdict = agreed(&random_long_log(&mut below));
+        let verdict = agreed(&random_long_log(&mut random));
         match verdict {
             Verdict::Malformed { line: 1..150 } | Verdict::Judged { line: 1..150, .. } => (),
             _ => tally.count(verdict),
@@ -121,13 +117,13 @@ fn faults_late_in_long_logs() {
 
 #[test]
 fn limit_logs_spoiled() {
-    let mut below = draws(34);
+    let mut random = Random::new(34);
     let mut tally = Tally::default();
     let limits = examples::limits();
     for _ in 0..40 {
         for example in &limits {
             let mut log = example.log.clone();
-            spoil(&mut log, &mut below);
+            spoil(&mut log, &mut random);
             tally.count(agreed(&log));
         }
     }
@@ -138,11 +134,11 @@ fn limit_logs_spoiled() {
 /// Lengths and counts of line ends at the limits, whatever the bytes.
 #[test]
 fn noise_about_the_limits() {
-    let mut below = draws(35);
+    let mut random = Random::new(35);
     let mut tally = Tally::default();
     for length in 32_760..32_776 {
         for line_ends in [0, 1, 255, 256, 257, 258] {
-            let mut log = vec![b'0' + below(10) as u8; length];
+            let mut log = vec![b'0' + random.below(10) as u8; length];
             for line in 0..line_ends {
                 log[line * 120] = b'\n';
             }
@@ -163,11 +159,11 @@ fn logs_far_past_the_limits() {
 
 #[test]
 fn noise() {
-    let mut below = draws(36);
+    let mut random = Random::new(36);
     for _ in 0..5_000 {
-        let length = below(200);
-        let any: Vec<u8> = (0..length).map(|_| below(256) as u8).collect();
-        let digits: Vec<u8> = (0..length).map(|_| b"012\n"[below(4) as usize]).collect();
+        let length = random.below(200);
+        let any: Vec<u8> = (0..length).map(|_| random.below(256) as u8).collect();
+        let digits: Vec<u8> = (0..length).map(|_| b"012\n"[random.below(4) as usize]).collect();
         agreed(&any);
         agreed(&digits);
     }

@@ -1,8 +1,8 @@
 //! The program that judges its standard input.
 
-use crate::{draws, verdict};
-use koolvent_model::judge::examples;
 use koolvent_model::judge::generate::{random_log, random_long_log, spoil};
+use koolvent_model::judge::{examples, judge};
+use koolvent_model::random::Random;
 use std::fs::File;
 use std::io::{ErrorKind, Write};
 use std::process::{Child, Command, Stdio};
@@ -35,10 +35,10 @@ fn printed(input: &[u8], part: usize) -> String {
     String::from_utf8(output.stdout).expect("text")
 }
 
-/// The program prints the verdict of the model's judges as a line.
+/// The program prints the verdict of the model's judge as a line.
 fn agreed(log: &[u8], part: usize) {
     let text = String::from_utf8_lossy(log);
-    let expected = verdict(log).text() + "\n";
+    let expected = judge(log).text() + "\n";
     assert_eq!(printed(log, part), expected, "on\n{text}");
 }
 
@@ -52,16 +52,16 @@ fn examples_worked_out_by_hand() {
 
 #[test]
 fn random_and_spoiled_logs() {
-    let mut below = draws(41);
+    let mut random = Random::new(41);
     for _ in 0..300 {
-        let mut log = random_log(&mut below);
-        if below(3) == 0 {
-            spoil(&mut log, &mut below);
+        let mut log = random_log(&mut random);
+        if random.below(3) == 0 {
+            spoil(&mut log, &mut random);
         }
-        agreed(&log, 1 + below(500) as usize);
+        agreed(&log, 1 + random.below(500) as usize);
     }
     for _ in 0..50 {
-        agreed(&random_long_log(&mut below), 1 + below(8_000) as usize);
+        agreed(&random_long_log(&mut random), 1 + random.below(8_000) as usize);
     }
 }
 
@@ -78,8 +78,6 @@ fn inputs_of_any_length() {
 #[test]
 fn a_failed_read_gives_no_verdict() {
     let folder = File::open(env!("CARGO_MANIFEST_DIR")).expect("the package's folder");
-    let output = start(folder.into())
-        .wait_with_output()
-        .expect("the program's output");
+    let output = start(folder.into()).wait_with_output().expect("the program's output");
     assert_eq!(output.stdout, b"");
 }

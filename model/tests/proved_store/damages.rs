@@ -1,4 +1,5 @@
-//! 255,000 damages of one word or two, 205,000 of them of blocks from the middle of runs: each of the calls, its answer, its output and every word after it.
+//! 255,000 damages of one word or two, 205,000 of them of blocks from the middle of runs: each of
+//! the calls, its answer, its output and every word after it.
 
 use koolvent_model::proved::store::Proved;
 use koolvent_model::random::Random;
@@ -25,11 +26,7 @@ fn small_blocks() {
     assert_eq!(damaged.blocks, 130_000);
     assert!(damaged.valid >= 30_000, "{damaged:?}");
     assert!(damaged.met.rarest_accepted() >= 500, "{damaged:?}");
-    assert_eq!(
-        damaged.met.refusals(20),
-        [1, 2, 3, 4, 5, 6, 7, 10, 11, 12, 13, 14],
-        "{damaged:?}"
-    );
+    damaged.met.assert_refused(&[1, 2, 3, 4, 5, 6, 7, 10, 11, 12, 13, 14], 20);
 }
 
 #[test]
@@ -39,11 +36,7 @@ fn blocks_of_any_size() {
     assert_eq!(damaged.blocks, 50_000);
     assert!(damaged.valid >= 15_000, "{damaged:?}");
     assert!(damaged.met.rarest_accepted() >= 200, "{damaged:?}");
-    assert_eq!(
-        damaged.met.refusals(50),
-        [1, 2, 3, 4, 5, 6, 8, 10, 11, 12, 13, 14],
-        "{damaged:?}"
-    );
+    damaged.met.assert_refused(&[1, 2, 3, 4, 5, 6, 8, 10, 11, 12, 13, 14], 50);
 }
 
 #[test]
@@ -53,11 +46,7 @@ fn crowded_blocks() {
     assert_eq!(damaged.blocks, 25_000);
     assert!(damaged.valid >= 5_000, "{damaged:?}");
     assert!(damaged.met.rarest_accepted() >= 50, "{damaged:?}");
-    assert_eq!(
-        damaged.met.refusals(10),
-        [1, 2, 3, 4, 5, 6, 8, 9, 10, 11, 12, 13, 14],
-        "{damaged:?}"
-    );
+    damaged.met.assert_refused(&[1, 2, 3, 4, 5, 6, 8, 9, 10, 11, 12, 13, 14], 10);
 }
 
 #[test]
@@ -66,9 +55,5 @@ fn blocks_unlike_any_that_calls_leave() {
     assert_eq!(damaged.blocks, 50_000);
     assert!(damaged.valid >= 10_000, "{damaged:?}");
     assert!(damaged.met.rarest_accepted() >= 200, "{damaged:?}");
-    assert_eq!(
-        damaged.met.refusals(100),
-        [1, 2, 3, 4, 5, 6, 7, 8, 9, 10, 11, 12, 13, 14],
-        "{damaged:?}"
-    );
+    damaged.met.assert_refused(&[1, 2, 3, 4, 5, 6, 7, 8, 9, 10, 11, 12, 13, 14], 100);
 }

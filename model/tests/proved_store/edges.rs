@@ -22,22 +22,14 @@ fn busy_blocks() {
     let crowded = (40..43).map(|seed| Busy::new(Sort::Crowded, seed));
     let met = met(small.chain(any_size).chain(crowded).collect());
     assert!(met.rarest_accepted() >= 10, "{met:?}");
-    assert_eq!(
-        met.refusals(10),
-        [1, 2, 3, 4, 5, 6, 8, 9, 10, 13, 14],
-        "{met:?}"
-    );
+    met.assert_refused(&[1, 2, 3, 4, 5, 6, 8, 9, 10, 13, 14], 10);
 }
 
 #[test]
 fn blocks_unlike_any_that_calls_leave() {
     let met = met((0..20).map(Busy::unlike_any).collect());
     assert!(met.rarest_accepted() >= 5, "{met:?}");
-    assert_eq!(
-        met.refusals(5),
-        [1, 2, 3, 4, 5, 6, 7, 8, 10, 11, 12, 13, 14],
-        "{met:?}"
-    );
+    met.assert_refused(&[1, 2, 3, 4, 5, 6, 7, 8, 10, 11, 12, 13, 14], 5);
 }
 
 #[test]
@@ -48,15 +40,12 @@ fn fresh_blocks() {
     };
     let met = met(sizes.map(fresh).into());
     assert!(met.reads.min(met.writes) >= 50, "{met:?}");
-    assert_eq!(met.refusals(10), [1, 2, 3, 5, 6, 10, 13], "{met:?}");
+    met.assert_refused(&[1, 2, 3, 5, 6, 10, 13], 10);
 }
 
 #[test]
 fn blocks_at_the_brim_of_a_capacity() {
     let met = met(brimming());
     assert!(met.reads.min(met.writes) >= 50, "{met:?}");
-    let refused = met.refusals(8);
-    for refusal in [7, 8, 9, 10, 11] {
-        assert!(refused.contains(&refusal), "{met:?}");
-    }
+    met.assert_refused(&[7, 8, 9, 10, 11], 8);
 }

@@ -15,11 +15,7 @@ fn runs(sort: Sort, seeds: std::ops::Range<u64>) -> Runs {
 fn small_stores() {
     let runs = runs(Sort::Small, 100_000..104_600);
     assert!(runs.met.rarest_accepted() >= 4_600, "{runs:?}");
-    assert_eq!(
-        runs.met.refusals(500),
-        [1, 2, 3, 4, 5, 6, 10, 13, 14],
-        "{runs:?}"
-    );
+    runs.met.assert_refused(&[1, 2, 3, 4, 5, 6, 10, 13, 14], 500);
     assert!(runs.written_entries_shown >= 40_000, "{runs:?}");
 }
 
@@ -27,11 +23,7 @@ fn small_stores() {
 fn stores_of_any_size() {
     let runs = runs(Sort::AnySize, 110_000..110_400);
     assert!(runs.met.rarest_accepted() >= 400, "{runs:?}");
-    assert_eq!(
-        runs.met.refusals(20),
-        [1, 2, 3, 4, 5, 6, 8, 10, 13, 14],
-        "{runs:?}"
-    );
+    runs.met.assert_refused(&[1, 2, 3, 4, 5, 6, 8, 10, 13, 14], 20);
     assert!(runs.written_entries_shown >= 2_000, "{runs:?}");
 }
 
@@ -40,11 +32,7 @@ fn crowded_stores_of_some_thousand_calls() {
     let runs = runs(Sort::Crowded, 120_000..120_030);
     assert!(runs.longest >= 3_000, "{runs:?}");
     assert!(runs.met.rarest_accepted() >= 30, "{runs:?}");
-    assert_eq!(
-        runs.met.refusals(20),
-        [1, 2, 3, 4, 5, 6, 8, 9, 10, 13, 14],
-        "{runs:?}"
-    );
+    runs.met.assert_refused(&[1, 2, 3, 4, 5, 6, 8, 9, 10, 13, 14], 20);
     assert_eq!((runs.greatest_load, runs.most_versions), (128, 512));
     assert!(runs.written_entries_shown >= 2_000, "{runs:?}");
 }

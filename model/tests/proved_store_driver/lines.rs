@@ -1,4 +1,5 @@
-//! Lines of every length: truncated frames, lines about the longest frame's, lines of a megabyte, last lines without 0a.
+//! Lines of every length: truncated frames, lines about the longest frame's, lines of a megabyte,
+//! last lines without 0a.
 
 use crate::program::{agreed, printed};
 
@@ -7,11 +8,7 @@ fn frames() -> Vec<String> {
     let write = |values: usize| format!("0301000000000000000f{}", "0000002a".repeat(values));
     let others = ["01020204", "0201000000000000000f", "040000", "0501"];
     let writes = [0, 1, 4, 64].map(write);
-    others
-        .map(str::to_owned)
-        .into_iter()
-        .chain(writes)
-        .collect()
+    others.map(str::to_owned).into_iter().chain(writes).collect()
 }
 
 const FRESH: &str = "01020204\n";
@@ -70,9 +67,7 @@ fn no_bytes_no_answer() {
 #[test]
 fn lines_about_the_length_of_the_longest_frame_and_of_buffers() {
     let around = |length: usize| length - 6..length + 7;
-    let lengths = [532, 1_024, 4_096, 8_192, 65_536]
-        .into_iter()
-        .flat_map(around);
+    let lengths = [532, 1_024, 4_096, 8_192, 65_536].into_iter().flat_map(around);
     let mut input = Vec::new();
     for length in lengths {
         for beginning in ["", "01020204", "0301000000000000000f"] {
@@ -96,8 +91,5 @@ fn lines_of_a_megabyte() {
 
 #[test]
 fn a_million_empty_lines() {
-    assert_eq!(
-        printed(&vec![b'\n'; 1_000_000], 60_000),
-        "0f\n".repeat(1_000_000)
-    );
+    assert_eq!(printed(&vec![b'\n'; 1_000_000], 60_000), "0f\n".repeat(1_000_000));
 }

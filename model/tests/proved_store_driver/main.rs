@@ -1,5 +1,5 @@
-//! The store driver, a program, held against the model's: the lines that it prints for lines of every sort, answers that
-//! come before it waits, and what it does when reading or writing fails.
+//! The store driver, a program, held against the model's: the lines that it prints for lines of
+//! every sort, answers that come before it waits, and what it does when reading or writing fails.
 
 mod failures;
 mod lines;

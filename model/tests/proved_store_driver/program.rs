@@ -19,7 +19,8 @@ pub fn start(input: Stdio, output: Stdio) -> Child {
         .expect("the program, which rt check builds")
 }
 
-/// What the program prints for an input, handed over in parts of this length while its output is read.
+/// What the program prints for an input, handed over in parts of this length while its output is
+/// read.
 pub fn printed(input: &[u8], part: usize) -> String {
     let mut program = start(Stdio::piped(), Stdio::piped());
     let mut to = program.stdin.take().expect("piped");

@@ -1,10 +1,10 @@
-//! 3,106 random runs as frames, with lines among them that are none. A run begins with a fresh start, so that one process
-//! can have many; some hundred have a process each.
+//! 3,106 random runs as frames, with lines among them that are none. A run begins with a fresh
+//! start, so that one process can have many; some hundred have a process each.
 
 use crate::program::agreed;
 use crate::spoil::spoiled;
+use koolvent_model::call::Call;
 use koolvent_model::frames::hex::to_hex;
-use koolvent_model::promise::Call;
 use koolvent_model::random::Random;
 use koolvent_model::runs::{run_watched, Sort};
 
@@ -12,19 +12,14 @@ use koolvent_model::runs::{run_watched, Sort};
 fn line(call: &Call) -> Option<String> {
     let byte = |number: u64| u8::try_from(number).ok();
     let frame = match call {
-        Call::Fresh {
-            long_enough: true,
-            clients,
-            partitions,
-            items,
-        } => vec![1, byte(*clients)?, byte(*partitions)?, byte(*items)?],
+        Call::Fresh { long_enough: true, clients, partitions, items } => {
+            vec![1, byte(*clients)?, byte(*partitions)?, byte(*items)?]
+        }
         Call::Fresh { .. } => return None,
         Call::Read { client, set } => [&[2, byte(*client)?], &set.to_be_bytes()[..]].concat(),
-        Call::Write {
-            client,
-            set,
-            values,
-        } => [&[3, byte(*client)?], &set.to_be_bytes()[..], values].concat(),
+        Call::Write { client, set, values } => {
+            [&[3, byte(*client)?], &set.to_be_bytes()[..], values].concat()
+        }
         Call::Deliver { place } => {
             let place = u16::try_from(*place).ok()?;
             [&[4], &place.to_be_bytes()[..]].concat()
@@ -55,9 +50,7 @@ fn lines_of(sort: Sort, seed: u64, spoils: u64) -> Vec<u8> {
 /// Runs of these seeds, one after the other in one process.
 fn together(sort: Sort, seeds: std::ops::Range<u64>, spoils: u64) {
     let part = 1 + seeds.start as usize % 7_000;
-    let input: Vec<u8> = seeds
-        .flat_map(|seed| lines_of(sort, seed, spoils))
-        .collect();
+    let input: Vec<u8> = seeds.flat_map(|seed| lines_of(sort, seed, spoils)).collect();
     agreed(&input, part);
 }
 

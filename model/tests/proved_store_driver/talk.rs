@@ -1,7 +1,8 @@
 //! A program that talks to the driver: it writes a line, waits for the answer, and writes the next.
 
 use crate::program::{start, PATIENCE};
-use koolvent_model::frames::store::Driver;
+use koolvent_model::frames::store::answer_line;
+use koolvent_model::store::Store;
 use std::fs::read_to_string;
 use std::io::{BufRead, BufReader, Write};
 use std::process::{Child, ChildStdin, Stdio};
@@ -31,11 +32,7 @@ impl Talk {
                 }
             }
         });
-        Talk {
-            program,
-            to,
-            answers,
-        }
+        Talk { program, to, answers }
     }
 
     fn say(&mut self, bytes: &[u8]) {
@@ -58,9 +55,7 @@ impl Talk {
         let status = status.expect("a process that runs");
         let line = status.lines().find(|line| line.starts_with("VmHWM:"));
         let number = line.and_then(|line| line.split_whitespace().nth(1));
-        number
-            .and_then(|number| number.parse().ok())
-            .expect("a number")
+        number.and_then(|number| number.parse().ok()).expect("a number")
     }
 }
 
@@ -96,10 +91,11 @@ const LINES: [&str; 17] = [
 #[test]
 fn a_line_then_its_answer_then_the_next() {
     let mut talk = Talk::new();
-    let mut model = Driver::new();
+    let mut model = Store::new();
     for line in LINES {
-        talk.say(format!("{line}\n").as_bytes());
-        assert_eq!(talk.answer(), model.answer_line(line.as_bytes()), "{line}");
+        let line = format!("{line}\n");
+        talk.say(line.as_bytes());
+        assert_eq!(talk.answer(), answer_line(&mut model, line.as_bytes()), "{line}");
     }
     assert!(talk.is_silent());
 }
@@ -107,10 +103,11 @@ fn a_line_then_its_answer_then_the_next() {
 #[test]
 fn several_lines_at_once_have_all_their_answers() {
     let mut talk = Talk::new();
-    let mut model = Driver::new();
+    let mut model = Store::new();
     talk.say((LINES.join("\n") + "\n").as_bytes());
     for line in LINES {
-        assert_eq!(talk.answer(), model.answer_line(line.as_bytes()), "{line}");
+        let line = format!("{line}\n");
+        assert_eq!(talk.answer(), answer_line(&mut model, line.as_bytes()), "{line}");
     }
 }
 
@@ -142,9 +139,6 @@ fn a_line_of_many_megabytes_takes_no_more_memory() {
         talk.say(&[b'0'; 1 << 20]);
     }
     talk.say(b"\n02010000000000000003\n");
-    assert_eq!(
-        (talk.answer(), talk.answer()),
-        ("0f".into(), "000002".into())
-    );
+    assert_eq!((talk.answer(), talk.answer()), ("0f".into(), "000002".into()));
     assert!(talk.most_memory() < before + 1_024);
 }

@@ -1,48 +1,55 @@
 //! Answers as bytes and as numbers.
 
-use koolvent_model::store::answer::{Answer, Outcome};
+use koolvent_model::answer::{Answer, READ_ENDED, WRITE_ENDED};
+use koolvent_model::call::Call;
 
 #[test]
 fn a_refusal_is_its_number_alone() {
-    assert_eq!(Answer::Refused(14).bytes(), [14]);
+    assert_eq!(Answer::Refused(14).bytes(&[]), [14]);
     assert_eq!(Answer::Refused(14).number(), 14);
 }
 
 #[test]
 fn a_fresh_is_0() {
-    assert_eq!(Answer::Fresh.bytes(), [0]);
+    assert_eq!(Answer::Fresh.bytes(&[]), [0]);
     assert_eq!(Answer::Fresh.number(), 0);
 }
 
 #[test]
 fn a_start_gives_the_message_list_length() {
     let answer = Answer::Started { messages: 128 };
-    assert_eq!(answer.bytes(), [0, 0, 128]);
+    assert_eq!(answer.bytes(&[]), [0, 0, 128]);
     assert_eq!(answer.number(), 0x8000);
 }
 
 #[test]
 fn a_delivery_gives_kind_length_and_outcome() {
-    let answer = Answer::Delivered {
-        kind: 5,
-        messages: 0x0102,
-        outcome: Outcome::ReadEnded,
-    };
-    assert_eq!(answer.bytes(), [0, 5, 1, 2, 1]);
+    let answer = Answer::Delivered { kind: 5, messages: 0x0102, outcome: READ_ENDED };
+    assert_eq!(answer.bytes(&[]), [0, 5, 1, 2, 1]);
     assert_eq!(answer.number(), 0x01_0102_0500);
-    let answer = Answer::Delivered {
-        kind: 2,
-        messages: 1,
-        outcome: Outcome::WriteEnded,
-    };
-    assert_eq!(answer.bytes(), [0, 2, 0, 1, 2]);
+    let answer = Answer::Delivered { kind: 2, messages: 1, outcome: WRITE_ENDED };
+    assert_eq!(answer.bytes(&[]), [0, 2, 0, 1, 2]);
     assert_eq!(answer.number(), 0x02_0001_0200);
 }
 
 #[test]
 fn a_showing_gives_the_frame_and_its_length() {
-    let answer = Answer::Shown(vec![0x21; 586]);
-    assert_eq!(answer.bytes().len(), 587);
-    assert_eq!(answer.bytes()[..2], [0, 0x21]);
+    let answer = Answer::Shown { length: 586 };
+    let bytes = answer.bytes(&[0x21; 600]);
+    assert_eq!((bytes.len(), bytes[0], bytes[586]), (587, 0, 0x21));
     assert_eq!(answer.number(), 586 * 256);
+}
+
+#[test]
+fn a_number_is_an_answer_only_to_a_call_that_can_give_it() {
+    let delivery = Call::Deliver { place: 0 };
+    let delivered = Answer::Delivered { kind: 5, messages: 0x0102, outcome: READ_ENDED };
+    assert_eq!(Answer::of(&delivery, 0x01_0102_0500), Some(delivered));
+    assert_eq!(Answer::of(&delivery, 1 << 40), None);
+    assert_eq!(Answer::of(&delivery, 10), Some(Answer::Refused(10)));
+    assert_eq!(Answer::of(&delivery, 15), None);
+    assert_eq!(Answer::of(&delivery, 0x010a), None);
+    let read = Call::Read { client: 1, set: 1 };
+    assert_eq!(Answer::of(&read, 0x8000), Some(Answer::Started { messages: 128 }));
+    assert_eq!(Answer::of(&read, 1 << 24), None);
 }

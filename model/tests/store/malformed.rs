@@ -1,6 +1,7 @@
 //! Parsers answer for any bytes.
 
-use koolvent_model::frames::store::{run, StoreFrame};
+use koolvent_model::call::Call;
+use koolvent_model::frames::store::{parse, run};
 use koolvent_model::random::Random;
 
 const GOOD: [&str; 7] = [
@@ -12,6 +13,11 @@ const GOOD: [&str; 7] = [
     "0502",
     "02ffffffffffffffffff",
 ];
+
+/// The call of a line without its 0a.
+fn parsed(line: &[u8]) -> Option<Call> {
+    parse(&[line, b"\n"].concat()).ok()
+}
 
 /// The lengths in bytes that a frame of this first byte may have.
 fn has_a_length_of_its_kind(bytes: &[u8]) -> bool {
@@ -29,18 +35,11 @@ fn has_a_length_of_its_kind(bytes: &[u8]) -> bool {
 #[test]
 fn every_good_frame_is_parsed() {
     for frame in GOOD {
-        assert!(StoreFrame::parse(frame.as_bytes()).is_some(), "{frame}");
+        assert!(parsed(frame.as_bytes()).is_some(), "{frame}");
     }
     let set = 3;
     let values = vec![0, 0, 0, 7, 0, 0, 0, 8];
-    assert_eq!(
-        StoreFrame::parse(GOOD[2].as_bytes()),
-        Some(StoreFrame::Write {
-            client: 1,
-            set,
-            values
-        })
-    );
+    assert_eq!(parsed(GOOD[2].as_bytes()), Some(Call::Write { client: 1, set, values }));
 }
 
 #[test]
@@ -49,8 +48,7 @@ fn every_truncation_of_a_good_frame_is_malformed_unless_shorter_by_whole_values(
         for length in 0..frame.len() {
             let shorter = &frame.as_bytes()[..length];
             let whole_values = frame.starts_with("03") && length >= 20 && length % 8 == 4;
-            let parsed = StoreFrame::parse(shorter);
-            assert_eq!(parsed.is_some(), whole_values, "{length} of {frame}");
+            assert_eq!(parsed(shorter).is_some(), whole_values, "{length} of {frame}");
         }
     }
 }
@@ -60,7 +58,7 @@ fn every_frame_with_a_digit_more_is_malformed() {
     for frame in GOOD {
         for digit in ["0", "00", "000000", "g", "\r"] {
             let longer = format!("{frame}{digit}");
-            assert_eq!(StoreFrame::parse(longer.as_bytes()), None, "{longer}");
+            assert_eq!(parsed(longer.as_bytes()), None, "{longer}");
         }
     }
 }
@@ -68,7 +66,7 @@ fn every_frame_with_a_digit_more_is_malformed() {
 #[test]
 fn random_bytes_are_parsed_exactly_when_they_have_a_length_of_their_kind() {
     let mut random = Random::new(15);
-    let mut parsed = 0;
+    let mut frames = 0;
     for _ in 0..200_000 {
         let length = random.below(24) as usize;
         let mut bytes = random.bytes(length);
@@ -76,11 +74,11 @@ fn random_bytes_are_parsed_exactly_when_they_have_a_length_of_their_kind() {
             *first %= 8;
         }
         let line: String = bytes.iter().map(|byte| format!("{byte:02x}")).collect();
-        let frame = StoreFrame::parse(line.as_bytes());
+        let frame = parsed(line.as_bytes());
         assert_eq!(frame.is_some(), has_a_length_of_its_kind(&bytes), "{line}");
-        parsed += usize::from(frame.is_some());
+        frames += usize::from(frame.is_some());
     }
-    assert!(parsed > 1_000, "only {parsed} frames were well formed");
+    assert!(frames > 1_000, "only {frames} were well formed");
 }
 
 #[test]
@@ -90,11 +88,7 @@ fn a_byte_that_is_no_lowercase_digit_makes_a_frame_malformed() {
             for byte in (0..=255).filter(|byte| !b"0123456789abcdef".contains(byte)) {
                 let mut line = frame.as_bytes().to_vec();
                 line[place] = byte;
-                assert_eq!(
-                    StoreFrame::parse(&line),
-                    None,
-                    "{byte} at {place} of {frame}"
-                );
+                assert_eq!(parsed(&line), None, "{byte} at {place} of {frame}");
             }
         }
     }

@@ -1,4 +1,5 @@
-//! The trials of blocks are tried themselves: the model passes them, and whoever is wrong in one way is caught.
+//! The trials of blocks are tried themselves: the model passes them, and whoever is wrong in one
+//! way is caught.
 
 mod model;
 mod wrong_calls;
@@ -27,11 +28,7 @@ fn runs(served: &dyn Calls) -> Result<Runs, Difference> {
 fn damages(served: &dyn Calls) -> Result<Damaged, Difference> {
     let mut random = Random::new(1);
     let mut damaged = Damaged::default();
-    for (sort, seeds) in [
-        (Sort::Small, 0..60),
-        (Sort::AnySize, 60..90),
-        (Sort::Crowded, 90..95),
-    ] {
+    for (sort, seeds) in [(Sort::Small, 0..60), (Sort::AnySize, 60..90), (Sort::Crowded, 90..95)] {
         for seed in seeds {
             let busy = Busy::new(sort, seed);
             damaged_blocks(served, &busy, 60, &mut random, &mut damaged)?;

@@ -70,7 +70,8 @@ fn a_range_one_too_narrow() {
 
 #[test]
 fn a_word_that_is_no_field_checked() {
-    let strict = |words: &[u64]| is_valid(words) && words[5..16].iter().all(|word| *word == 0);
+    let strict =
+        |words: &[u64]| is_valid(words) && words[places::UNUSED].iter().all(|word| *word == 0);
     assert!(range(&strict).is_err());
 }
 

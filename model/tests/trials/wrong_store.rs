@@ -59,8 +59,8 @@ impl Wrong {
         if answer & 0xff == 0 {
             self.spoil_messages(&before, block);
             self.spoil_ends(&before, block);
-        } else if self == Wrong::MarksARefusal && block.len() > 10 {
-            block[10] = 1;
+        } else if self == Wrong::MarksARefusal && block.len() > places::UNUSED.end {
+            block[places::UNUSED.start] = 1;
         }
         answer
     }
@@ -130,11 +130,11 @@ impl Calls for Wrong {
             _ => size,
         };
         let before = block.to_vec();
-        let answer = self.made(block, |block| {
-            MODEL.fresh(block, size(clients), size(partitions), size(items))
-        });
+        let stored = places::version(9);
+        let answer = self
+            .made(block, |block| MODEL.fresh(block, size(clients), size(partitions), size(items)));
         match self {
-            Wrong::FreshLeavesAWord if answer == 0 => block[4_000] = before[4_000],
+            Wrong::FreshLeavesAWord if answer == 0 => block[stored] = before[stored],
             Wrong::FreshPastTheEnd if answer == 0 => block[NEEDED..].fill(0),
             _ => (),
         }

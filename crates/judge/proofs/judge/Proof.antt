@@ -2,10 +2,10 @@
 use mathlib.Core.Path.{_≡_, sym, _∙_, subst}
 use mathlib.Core.List.{List}
 use Prim.Native.Nat.{ℕ}
-use Rattle.judge.specs.Findings.{verdict}
-use Rattle.judge.specs.Published.{Says}
-use Rattle.judge.proofs.Theorem.{says}
-use Rattle.judge.specs.declared.Verdict.{Verdict}
+use Rattle.findings.specs.Findings.{verdict}
+use Rattle.findings.specs.Published.{Says}
+use Rattle.findings.proofs.Theorem.{says}
+use Rattle.findings.specs.declared.Verdict.{Verdict}
 use mathlib.Core.Path.{_≡_, sym, _∙_}
 use borrow.Author.Needs.{needs}
 use Rattle.judge.proofs.judge.Statement.{statement}

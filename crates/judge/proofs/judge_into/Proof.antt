@@ -11,17 +11,22 @@ use Rattle.judge.proofs.judge_into.Statement.{statement}
 use Rattle.judge.proofs.judge_into.Tie as tie
 
 -- what scanning told, in each case
-lines : (c : tie.After-scanned) → ScannedOf
-    (c .before .before .before .before .before .before .before .before .before .before .before .before .args .log .now) (c .before .before .before .before .before .before .scan .last .1 .0) (c .before .before .before .before .before .before .scan .last .1 .1 .0) (Lines (c .scanned .given .0 .0))
-lines c =
-    subst (λ (s : Scanned). ScannedOf
-    (c .before .before .before .before .before .before .before .before .before .before .before .before .args .log .now) (c .before .before .before .before .before .before .scan .last .1 .0) (c .before .before .before .before .before .before .scan .last .1 .1 .0) s) (c .scanned .given .1) (c .before .before .before .before .before .before .scan .ensures)
+module _ (c : tie.After-scan) where
+  abbrev Told : Scanned → Type 0
+  Told = ScannedOf (c .before .before .before .before .before .before .args .log .now)
+      (c .scan .last .1 .0) (c .scan .last .1 .1 .0)
 
-bad : (c : tie.After-scanned2) → ScannedOf
-    (c .before .before .before .before .before .before .before .before .before .before .before .before .args .log .now) (c .before .before .before .before .before .before .scan .last .1 .0) (c .before .before .before .before .before .before .scan .last .1 .1 .0) (Bad (c .scanned2 .given .0 .0))
+lines : (c : tie.After-scanned)
+    → Told (c .before .before .before .before .before .before) (Lines (c .scanned .given .0 .0))
+lines c =
+    let s = c .before .before .before .before .before .before in
+    subst (Told s) (c .scanned .given .1) (s .scan .ensures)
+
+bad : (c : tie.After-scanned2)
+    → Told (c .before .before .before .before .before .before) (Bad (c .scanned2 .given .0 .0))
 bad c =
-    subst (λ (s : Scanned). ScannedOf
-    (c .before .before .before .before .before .before .before .before .before .before .before .before .args .log .now) (c .before .before .before .before .before .before .scan .last .1 .0) (c .before .before .before .before .before .before .scan .last .1 .1 .0) s) (c .scanned2 .given .1) (c .before .before .before .before .before .before .scan .ensures)
+    let s = c .before .before .before .before .before .before in
+    subst (Told s) (c .scanned2 .given .1) (s .scan .ensures)
 
 scan-requires : tie.Need-scan-requires
 scan-requires c κs = search needs

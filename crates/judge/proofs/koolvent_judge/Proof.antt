@@ -1,6 +1,6 @@
 -- `judge::koolvent_judge` meets its contract.
 use mathlib.Core.Path.{ap, _∙_}
-use Rattle.judge.specs.Findings.{numberOf}
+use Rattle.findings.specs.Findings.{numberOf}
 use borrow.Author.Needs.{needs}
 use Rattle.judge.proofs.koolvent_judge.Statement.{statement}
 use Rattle.judge.proofs.koolvent_judge.Tie as tie

@@ -1,6 +1,6 @@
 -- `judge::packed` meets its contract, case by case.
 use mathlib.Core.Path.{sym, ap}
-use Rattle.judge.specs.Findings.{numberOf}
+use Rattle.findings.specs.Findings.{numberOf}
 use borrow.Author.Needs.{needs}
 use Rattle.judge.proofs.packed.Statement.{statement}
 use Rattle.judge.proofs.packed.Tie as tie

@@ -2,7 +2,7 @@
 use mathlib.Core.Path.{sym, ap, _∙_}
 use native.Mathlib.Omega.{arith}
 use Rattle.hex.specs.Number.{bigEndian}
-use Rattle.judge.specs.Findings.{bytesOf}
+use Rattle.findings.specs.Findings.{bytesOf}
 use Rattle.judge_driver.proofs.Lines.{malformed-number, judged-number}
 use borrow.Author.Needs.{needs}
 use Rattle.judge_driver.proofs.answer_of.Statement.{statement}

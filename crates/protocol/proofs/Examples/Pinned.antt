@@ -5,9 +5,9 @@ use Prim.Native.Nat.{ℕ, _+_, _^_}
 use lib.Dec.{eqb}
 use lib.ListN.{replicate}
 use Rattle.protocol.specs.declared.Message.the-variants.{Commit, Get, Got}
-use Rattle.protocol.specs.Tables.{Tables, Client, Ended, nothing, read, write}
-use Rattle.protocol.specs.Tables.{fresh, initial, resting, stampOf, put}
-use Rattle.protocol.specs.Tables.{withClient, withLatest, withVersions, withMessages}
+use Rattle.protocol.specs.Tables.{Tables, Client, Ended, nothing, read, write, fresh, initial}
+use Rattle.protocol.specs.Tables.{resting, stampOf, put, withClient, withLatest, withVersions}
+use Rattle.protocol.specs.Tables.{withMessages}
 use Rattle.protocol.specs.Calls.{startRead, startWrite, deliver, show}
 use Rattle.protocol.proofs.Examples.Table.{Row, freshly, on, onEach, _⇒_, _keeping_}
 use Rattle.protocol.proofs.Examples.Table.{anything, messagesAre, entryIs}

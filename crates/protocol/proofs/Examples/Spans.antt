@@ -17,24 +17,20 @@ use Rattle.itemset.specs.Set.{has, upto, remove}
 use Rattle.protocol.specs.Tables.{stampOf}
 use Rattle.protocol.specs.Range.{capacities, valid, inRange, stampInRange, sizesInRange}
 use Rattle.protocol.specs.Range.{entryInRange, versionInRange, messageInRange, endedInRange}
-use Rattle.protocol.specs.Range.{clientInRange, readPartInRange, writePartInRange}
-use Rattle.protocol.specs.Range.{arrived, total, load, occupied}
+use Rattle.protocol.specs.Range.{clientInRange, readPartInRange, writePartInRange, arrived}
+use Rattle.protocol.specs.Range.{total, load, occupied}
 use Rattle.protocol.specs.Steps.{choice, stored, found, delivered, joined, touches}
 use Rattle.protocol.specs.Frame.{listed, frame}
 use Rattle.protocol.specs.Calls.{Call, startRead, startWrite, deliver, show, first, refusal}
-use Rattle.protocol.specs.Calls.{unexpected, missing, isNothing, outcomeOf, effect}
-use Rattle.protocol.specs.Calls.{reply, written, lent, step}
+use Rattle.protocol.specs.Calls.{unexpected, missing, isNothing, outcomeOf, effect, reply}
+use Rattle.protocol.specs.Calls.{written, lent, step}
 use Rattle.protocol.specs.World.{World, Labelled, begin, accepts, next, after, joining}
-use Rattle.protocol.specs.World.{leaving}
-use Rattle.protocol.specs.World.{staying, begun, withoutAll, storing, joiningOver}
-use Rattle.protocol.specs.World.{leavingOver}
-use Rattle.protocol.specs.World.{isRequest, isReply, isReplyFor}
-use Rattle.protocol.specs.World.{isReadMessage, outcomeIn, delivers, endsFor, stays}
-use Rattle.protocol.specs.World.{startsFor, rests}
+use Rattle.protocol.specs.World.{leaving, staying, begun, withoutAll, storing, joiningOver}
+use Rattle.protocol.specs.World.{leavingOver, isRequest, isReply, isReplyFor, isReadMessage}
+use Rattle.protocol.specs.World.{outcomeIn, delivers, endsFor, stays, startsFor, rests}
 use Rattle.protocol.proofs.Examples.Table.{same}
 use Rattle.protocol.specs.Condition3.{now, sent, came, shownAt, output, answeredAt}
-use Rattle.protocol.specs.Condition3.{shownNumber}
-use Rattle.protocol.specs.Condition3.{shownWriter, shownValue, ShownOlder}
+use Rattle.protocol.specs.Condition3.{shownNumber, shownWriter, shownValue, ShownOlder}
 
 abbrev w : World
 w = begin (record { clients = 2; partitions = 2; items = 2 })
@@ -147,8 +143,9 @@ ownCommits =
     && delivers v 1 (deliver 0) && accepts capacities v (deliver 0)
     && not (endsFor capacities v 1 (deliver 0)) && rests capacities v 1 (deliver 0 ∷ [])
 
--- ---- Two writes, of client 1 by call 0 and of client 2 by call 3, with prepares delivered by 1 and 4
+-- ---- Two writes of number 1
 
+-- of client 1 by call 0 and of client 2 by call 3, with prepares delivered by calls 1 and 4
 abbrev u : World
 u = begin (record { clients = 2; partitions = 1; items = 1 })
 

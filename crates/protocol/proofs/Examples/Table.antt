@@ -21,13 +21,13 @@ use Rattle.protocol.specs.declared.Entry.{Entry}
 use Rattle.protocol.specs.Tables.{Sizes, Tables, fresh, numberOf, writerOf}
 use Rattle.protocol.specs.Range.{capacities, valid, inRange, stampInRange, sizesInRange}
 use Rattle.protocol.specs.Range.{entryInRange, versionInRange, messageInRange, endedInRange}
-use Rattle.protocol.specs.Range.{clientInRange, readPartInRange, writePartInRange}
-use Rattle.protocol.specs.Range.{arrived, total, load, occupied}
+use Rattle.protocol.specs.Range.{clientInRange, readPartInRange, writePartInRange, arrived}
+use Rattle.protocol.specs.Range.{total, load, occupied}
 use Rattle.protocol.specs.Steps.{choice, stored, found, delivered, joined, touches}
 use Rattle.protocol.specs.Frame.{listed, frame}
 use Rattle.protocol.specs.Calls.{Call, Given, first, refusal, freshAnswer, unexpected}
-use Rattle.protocol.specs.Calls.{missing, isNothing, outcomeOf, effect, reply}
-use Rattle.protocol.specs.Calls.{written, lent, step, bytesOfAnswer}
+use Rattle.protocol.specs.Calls.{missing, isNothing, outcomeOf, effect, reply, written, lent}
+use Rattle.protocol.specs.Calls.{step, bytesOfAnswer}
 
 -- ---- A line: a call, its answer's digits, and the digits of what its output keeps
 

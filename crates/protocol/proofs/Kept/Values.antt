@@ -15,11 +15,11 @@ use Rattle.itemset.specs.Set.{has, remove}
 use Rattle.itemset.proofs.Laws.{has-empty, has-remove, remove-le, set-empty}
 use Rattle.protocol.specs.declared.Version.{Version}
 use Rattle.protocol.specs.declared.Entry.{Entry}
-use Rattle.protocol.specs.Tables.{Sizes, Tables, Client, ReadPart, Ended, read, write}
-use Rattle.protocol.specs.Tables.{ofRead, ofWrite}
-use Rattle.protocol.specs.Tables.{noRead, noWrite, laterOf, partitionOf, resting, put}
-use Rattle.protocol.specs.Steps.{alike, stored, found, answered, isLast, ended}
-use Rattle.protocol.specs.Steps.{prepared, got, seen, committed}
+use Rattle.protocol.specs.Tables.{Sizes, Tables, Client, ReadPart, Ended, read, write, ofRead}
+use Rattle.protocol.specs.Tables.{ofWrite, noRead, noWrite, laterOf, partitionOf, resting}
+use Rattle.protocol.specs.Tables.{put}
+use Rattle.protocol.specs.Steps.{alike, stored, found, answered, isLast, ended, prepared, got}
+use Rattle.protocol.specs.Steps.{seen, committed}
 use Rattle.protocol.proofs.Each.{Each}
 use Rattle.protocol.proofs.Ranges.Values.{Stamped, StampInRange, EntryInRange}
 use Rattle.protocol.proofs.Ranges.Values.{EntriesInRange, VersionInRange}

@@ -17,7 +17,7 @@ use Rattle.protocol.proofs.Ranges.Values.{IsClient}
 use Rattle.protocol.proofs.Sound.{Good, GoodEntry}
 use Rattle.protocol.proofs.Sound.StartRead.{chosen-below, choice-good}
 use Rattle.protocol.proofs.Link.{FromAnswer, Inv}
-use Rattle.protocol.proofs.Link.Step.{WriteOf, write-of}
+use Rattle.protocol.proofs.Link.Messages.{WriteOf, write-of}
 use Rattle.protocol.proofs.Common.{origin}
 
 module _ (caps : Capacities) (w : World) (inv : Inv caps w) where

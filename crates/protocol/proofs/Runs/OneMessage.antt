@@ -12,8 +12,7 @@ use Rattle.protocol.specs.declared.Message.{Message}
 use Rattle.protocol.specs.declared.Message.the-variants.{Prepare, Prepared, Commit, Get, Got}
 use Rattle.protocol.specs.Tables.{ofRead}
 use Rattle.protocol.specs.Range.{Capacities}
-use Rattle.protocol.specs.World.{World, Label, Labelled}
-use Rattle.protocol.specs.World.{isReadMessage}
+use Rattle.protocol.specs.World.{World, Label, Labelled, isReadMessage}
 use Rattle.protocol.proofs.Ranges.Values.{IsClient}
 use Rattle.protocol.proofs.Link.{Inv}
 use Rattle.protocol.proofs.Common.{isFor}

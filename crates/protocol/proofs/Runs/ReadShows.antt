@@ -29,7 +29,7 @@ use Rattle.protocol.proofs.Ranges.Values.{IsClient}
 use Rattle.protocol.proofs.Refusals.{AcceptedStart, accepted-read, idle-resting}
 use Rattle.protocol.proofs.Refusals.{accepted-write}
 use Rattle.protocol.proofs.Link.{Inv}
-use Rattle.protocol.proofs.Link.Step.{WriteOf}
+use Rattle.protocol.proofs.Link.Messages.{WriteOf}
 use Rattle.protocol.proofs.Link.Asks.{asked as write-asked, not-older}
 use Rattle.protocol.proofs.Runs.Run.{after-append, after-inv, after-sizes, after-view}
 use Rattle.protocol.proofs.Runs.Run.{after-known, after-stores}

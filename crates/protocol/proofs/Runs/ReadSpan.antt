@@ -30,7 +30,8 @@ use Rattle.protocol.proofs.Sound.{Fits, FitsGot}
 use Rattle.protocol.proofs.Sound.Carry.{owner-client}
 use Rattle.protocol.proofs.Sound.Delivery.{awaited-in}
 use Rattle.protocol.proofs.Link.{LandedBefore, FromAnswer, Comes, Inv}
-use Rattle.protocol.proofs.Link.Step.{Grows, grow-known, in-message, fits}
+use Rattle.protocol.proofs.Link.Grows.{Grows, grow-known}
+use Rattle.protocol.proofs.Link.Messages.{in-message, fits}
 use Rattle.protocol.proofs.Link.Asks.{answer-value}
 use Rattle.protocol.proofs.Common.{known, isFor}
 
@@ -114,7 +115,8 @@ undisturbed d s asked v v′ left more g same none r =
         r .replied,
       );
       answered =
-          λ k e f. subst (λ (c : Client). Answer v′ d k (asked k) (c .read .values k) (left ++ more))
+          λ k e f. subst
+          (λ (c : Client). Answer v′ d k (asked k) (c .read .values k) (left ++ more))
           (sym same)
           (answer-grows v v′ d k (asked k) (v .tables .client d .read .values k) left more g
           (r .answered k e (sym (ap (λ (c : Client). has (c .read .awaited) k) same) ∙ f)));

@@ -17,16 +17,15 @@ use Rattle.protocol.specs.Tables.{Tables, Client, WritePart, ofRead, rea
 use Rattle.protocol.specs.Message.{ownerOf}
 use Rattle.protocol.specs.Range.{Capacities}
 use Rattle.protocol.specs.Steps.{delivered, got, answered, isLast, messageAt}
-use Rattle.protocol.specs.Calls.{Call, deliver, refusal, effect}
-use Rattle.protocol.specs.Calls.{step, outcomeOf}
+use Rattle.protocol.specs.Calls.{Call, deliver, refusal, effect, step, outcomeOf}
 use Rattle.protocol.specs.World.{World, Labelled, placed, joining, leaving, accepts, moved}
-use Rattle.protocol.specs.World.{passed, next, isReply, isReplyFor, isRequest}
-use Rattle.protocol.specs.World.{outcomeIn, delivers, endsFor, startsFor}
+use Rattle.protocol.specs.World.{passed, next, isReply, isReplyFor, isRequest, outcomeIn}
+use Rattle.protocol.specs.World.{delivers, endsFor, startsFor}
 use Rattle.protocol.proofs.Put.{put-same}
 use Rattle.protocol.proofs.Keeps.{keeps}
 use Rattle.protocol.proofs.Link.{Inv}
-use Rattle.protocol.proofs.Link.Step.{placed-message, fits, moved-grows}
-use Rattle.protocol.proofs.Link.Step.{grows-self}
+use Rattle.protocol.proofs.Link.Messages.{placed-message, fits}
+use Rattle.protocol.proofs.Link.Grows.{moved-grows, grows-self}
 use Rattle.protocol.proofs.Runs.Touch.{refused-outcome, delivered-outcome, no-requests, Way}
 use Rattle.protocol.proofs.Runs.Touch.{quiet, starts, answers, way, answers-owner, got-of}
 use Rattle.protocol.proofs.Runs.ReadSpan.{Answer, Reading, undisturbed, goes-on}

@@ -1,13 +1,14 @@
 -- Which calls touch a client's record: its own starts, and the deliveries of its prepared replies
 -- and gots; any other leaves it as it was, sends it no request and brings it no reply.
-use mathlib.Core.Bool.{Bool, true, false, and-false}
+use mathlib.Core.Bool.{Bool, true, false, and-false, _&&_, _||_}
 use mathlib.Core.List.{List, [], map}
 use mathlib.Core.Logic.{inl, ⊎-elim}
 use mathlib.Core.Path.{_≡_, refl, sym, ap, _∙_, subst}
 use Prim.Native.Nat.{ℕ, zero, suc}
 use lib.Dec.{eqb}
 use borrow.Author.Tests.{eqb-true, eqb-false, eq-eqb}
-use Rattle.basics.proofs.Cases.{by-test, not-both, and-left, and-right, eqb-same}
+use Rattle.basics.proofs.Cases.{by-test, not-both, and-left, and-right, and-both, or-right}
+use Rattle.basics.proofs.Cases.{or-cases, eqb-same}
 use Rattle.basics.specs.Lists.{In, counted}
 use Rattle.basics.proofs.Lists.{none-counted, in-map}
 use Rattle.itemset.specs.Set.{upto}
@@ -17,39 +18,34 @@ use Rattle.protocol.specs.declared.Message.{Message}
 use Rattle.protocol.specs.declared.Message.the-variants.{Prepare, Prepared, Commit, Get, Got}
 use Rattle.protocol.specs.declared.Answer.the-variants.{Refused}
 use Rattle.protocol.specs.Tables.{Tables, Client, ofRead, ofWrite, writerOf}
-use Rattle.protocol.specs.Message.{isGet, isGot, ownerOf}
+use Rattle.protocol.specs.Message.{kindOf, isPrepared, isGet, isGot, ownerOf}
 use Rattle.protocol.specs.Range.{Capacities}
 use Rattle.protocol.specs.Steps.{delivered, joined, isLast, touches, gets, prepares, reader}
 use Rattle.protocol.specs.Steps.{writer, messageAt}
-use Rattle.protocol.specs.Calls.{Call, startRead, startWrite, deliver, refusal, effect}
-use Rattle.protocol.specs.Calls.{step, reply, outcomeOf, pick}
+use Rattle.protocol.specs.Calls.{Call, startRead, startWrite, deliver, refusal, effect, step}
+use Rattle.protocol.specs.Calls.{reply, outcomeOf, pick}
 use Rattle.protocol.specs.World.{World, Labelled, labelled, placed, joining, leaving}
-use Rattle.protocol.specs.World.{isRequest, isReply, startsFor, accepts}
-use Rattle.protocol.specs.World.{outcomeIn, isDelivery, delivers, endsFor}
+use Rattle.protocol.specs.World.{isRequest, isReply, startsFor, accepts, outcomeIn}
+use Rattle.protocol.specs.World.{isDelivery, delivers, endsFor}
 use Rattle.protocol.proofs.Refusals.{Idle}
 use Rattle.protocol.proofs.Sorts.{Apart, Sort, reads, writes, delivers as delivered-at}
-use Rattle.protocol.proofs.Sorts.{apart}
-use Rattle.protocol.proofs.Sorts.{sort}
+use Rattle.protocol.proofs.Sorts.{apart, sort}
 use Rattle.protocol.proofs.Put.{put-other}
 use Rattle.protocol.proofs.Sound.{Ledger, Fits, SoundBy}
 use Rattle.protocol.proofs.Sound.Delivery.{no-message}
 use Rattle.protocol.proofs.Common.{hasItem}
 use Rattle.protocol.proofs.Link.{Inv}
-use Rattle.protocol.proofs.Link.Step.{placed-message, placed-here, apart-tables}
-use Rattle.protocol.proofs.Link.Step.{apart-origin}
-use Rattle.protocol.proofs.Link.Step.{apart-joining, apart-leaving}
+use Rattle.protocol.proofs.Link.Messages.{placed-message, placed-here}
+use Rattle.protocol.proofs.Link.Apart.{apart-tables, apart-origin, apart-joining}
+use Rattle.protocol.proofs.Link.Apart.{apart-leaving}
 
 -- a prepared reply or a got of client d
-unfoldable pub answersTo : ℕ → Message → Bool
-answersTo d (Prepare v) = false
-answersTo d (Prepared k s) = eqb (writerOf s) d
-answersTo d (Commit p s) = false
-answersTo d (Get e k s) = false
-answersTo d (Got e v latest) = eqb e d
+abbrev pub answersTo : ℕ → Message → Bool
+answersTo d m = (isPrepared m || isGot m) && eqb (ownerOf m) d
 
 pub delivered-client : (t : Tables) (m : Message) (d : ℕ) → answersTo d m ≡ false
     → delivered t m .client d ≡ t .client d
-unfolding delivered answersTo
+unfolding delivered
 delivered-client t (Prepare v) d e = refl
 delivered-client t (Prepared k s) d e =
     put-other (t .client) (writerOf s) _ d (λ q. eqb-false (writerOf s) d e (sym q))
@@ -81,12 +77,8 @@ joined-no-get t (Got d v latest) j i =
 
 -- a got of client d is an answer to it
 got-answers : (m : Message) (d : ℕ) → isGot m ≡ true → ownerOf m ≡ d → answersTo d m ≡ true
-unfolding answersTo
-got-answers (Prepare v) d e o = not-both e refl
-got-answers (Prepared k s) d e o = not-both e refl
-got-answers (Commit p s) d e o = not-both e refl
-got-answers (Get e′ k s) d e o = not-both e refl
-got-answers (Got e′ v latest) d e o = eq-eqb e′ d o
+got-answers m d e o = and-both (isPrepared m || isGot m) (eqb (ownerOf m) d)
+    (or-right (isPrepared m) (isGot m) e) (eq-eqb (ownerOf m) d o)
 
 -- ---- which deliveries report an end
 
@@ -111,7 +103,7 @@ delivered-outcome caps v i e = rw e refl
 -- a message of client d that is no answer to it has the outcome none
 no-outcome : (t : Tables) (m : Message) (d : ℕ) → ownerOf m ≡ d → answersTo d m ≡ false
     → outcomeOf t m ≡ 0
-unfolding answersTo outcomeOf
+unfolding outcomeOf
 no-outcome t (Prepare v) d o f = refl
 no-outcome t (Prepared k s) d o f = not-both (eq-eqb (writerOf s) d o) f
 no-outcome t (Commit p s) d o f = refl
@@ -119,20 +111,14 @@ no-outcome t (Get e k s) d o f = refl
 no-outcome t (Got e v latest) d o f = not-both (eq-eqb e d o) f
 
 answers-item : (m : Message) (d : ℕ) → answersTo d m ≡ true → hasItem m ≡ true
-unfolding answersTo
-answers-item (Prepare v) d e = refl
-answers-item (Prepared k s) d e = refl
-answers-item (Commit p s) d e = not-both e refl
-answers-item (Get c k s) d e = refl
-answers-item (Got c v latest) d e = refl
+answers-item m d e =
+    ⊎-elim (λ f. rw (eqb-true (kindOf m) 2 f) refl) (λ f. rw (eqb-true (kindOf m) 5 f) refl)
+    (or-cases (isPrepared m) (isGot m)
+    (and-left (isPrepared m || isGot m) (eqb (ownerOf m) d) e))
 
 pub answers-owner : (m : Message) (d : ℕ) → answersTo d m ≡ true → ownerOf m ≡ d
-unfolding answersTo
-answers-owner (Prepare v) d e = not-both e refl
-answers-owner (Prepared k s) d e = eqb-true (writerOf s) d e
-answers-owner (Commit p s) d e = not-both e refl
-answers-owner (Get e′ k s) d e = not-both e refl
-answers-owner (Got e′ v latest) d e = eqb-true e′ d e
+answers-owner m d e =
+    eqb-true (ownerOf m) d (and-right (isPrepared m || isGot m) (eqb (ownerOf m) d) e)
 
 pub record Quiet (caps : Capacities) (v : World) (c : Call) (d : ℕ) : Type 0 where
   pub ends : endsFor caps v d c ≡ false
@@ -263,7 +249,7 @@ module _ (caps : Capacities) (v : World) (inv : Inv caps v) (d : ℕ) where
 pub got-of : (L : Ledger) (vs : List Version) (c : Client) (m : Message) (d : ℕ)
     → answersTo d m ≡ true → Fits L vs c m → c .write .set ≡ 0
     → (u : Version) × ((e : Entry) × (m ≡ Got d u e))
-unfolding answersTo Fits
+unfolding Fits
 got-of L vs c (Prepare v) d t f r = not-both t refl
 got-of L vs c (Prepared k s) d t f r = absurd (f .mode r)
 got-of L vs c (Commit p s) d t f r = not-both t refl
@@ -275,7 +261,7 @@ got-of L vs c (Got e v latest) d t f r =
 pub prepared-of : (L : Ledger) (vs : List Version) (c : Client) (m : Message) (d : ℕ)
     → answersTo d m ≡ true → Fits L vs c m → c .read .set ≡ 0
     → (k : ℕ) × ((s : ℕ) × (m ≡ Prepared k s) × (writerOf s ≡ d) × (c .write .stamp ≡ s))
-unfolding answersTo Fits
+unfolding Fits
 prepared-of L vs c (Prepare v) d t f r = not-both t refl
 prepared-of L vs c (Prepared k s) d t f r = (k, (s, refl, eqb-true (writerOf s) d t, f .stamp))
 prepared-of L vs c (Commit p s) d t f r = not-both t refl

@@ -5,28 +5,25 @@ use mathlib.Core.List.{List, [], _∷_}
 use mathlib.Core.Logic.{_⊎_, inl, inr, ⊎-elim, _≢_}
 use mathlib.Core.Path.{_≡_, refl, sym, ap, _∙_, subst}
 use Prim.Native.Nat.{ℕ, _≤_}
-use native.Mathlib.Nat.{le-refl}
-use lib.Dec.{ltb}
-use borrow.Author.Tests.{eqb-true, eq-eqb, ltb-false}
+use borrow.Author.Tests.{eqb-true, eq-eqb}
 use Rattle.basics.proofs.Cases.{by-test, not-both, and-left, and-right, not-true}
 use Rattle.itemset.specs.Set.{has}
-use Rattle.protocol.specs.declared.Entry.{Entry}
 use Rattle.protocol.specs.declared.Message.{Message}
 use Rattle.protocol.specs.declared.Message.the-variants.{Prepared}
 use Rattle.protocol.specs.Tables.{Tables, Client, ReadPart, noRead, ofWrite, writerOf}
-use Rattle.protocol.specs.Tables.{laterOf}
 use Rattle.protocol.specs.Message.{ownerOf}
 use Rattle.protocol.specs.Range.{Capacities}
-use Rattle.protocol.specs.Steps.{delivered, prepared, struck, seen, isLast, messageAt, writer}
+use Rattle.protocol.specs.Steps.{delivered, prepared, struck, isLast, messageAt, writer}
 use Rattle.protocol.specs.Steps.{nextStamp}
-use Rattle.protocol.specs.Calls.{Call, startWrite, deliver, refusal, effect}
-use Rattle.protocol.specs.Calls.{step, outcomeOf}
+use Rattle.protocol.specs.Calls.{Call, startWrite, deliver, refusal, effect, step, outcomeOf}
 use Rattle.protocol.specs.World.{World, placed, accepts, moved, passed, next, after}
 use Rattle.protocol.specs.World.{outcomeIn, delivers, endsFor, stays, startsFor}
 use Rattle.protocol.proofs.Put.{put-same}
+use Rattle.protocol.proofs.Behaviour.{ended-view}
 use Rattle.protocol.proofs.Keeps.{keeps}
 use Rattle.protocol.proofs.Link.{Inv}
-use Rattle.protocol.proofs.Link.Step.{placed-message, fits, next-inv}
+use Rattle.protocol.proofs.Link.Messages.{placed-message, fits}
+use Rattle.protocol.proofs.Link.Step.{next-inv}
 use Rattle.protocol.proofs.Runs.Touch.{refused-outcome, delivered-outcome, Way, quiet}
 use Rattle.protocol.proofs.Runs.Touch.{starts, answers, way, answers-owner, prepared-of}
 
@@ -39,10 +36,6 @@ pub record Writing (d s stamp : ℕ) (v : World) : Type 0 where
 -- the view of client d has the write, or a later one, on each item of s
 abbrev pub Seen : ℕ → ℕ → ℕ → World → Type 0
 Seen d s stamp v = (k : ℕ) → has s k ≡ true → stamp ≤ v .tables .view d k .stamp
-
-later-other : (a b : Entry) → b .stamp ≤ laterOf a b .stamp
-later-other a b = by-test (ltb (a .stamp) (b .stamp)) (λ e. rw e (le-refl (b .stamp)))
-    (λ e. rw e (ltb-false (a .stamp) (b .stamp) e))
 
 -- ---- the delivery of a prepared reply to client d
 
@@ -61,18 +54,10 @@ module _ (t : Tables) (i k s : ℕ) (is-prepared : messageAt t i ≡ Prepared k 
 
   prepared-view : isLast ofWrite c k ≡ true → (j : ℕ) → has (c .write .set) j ≡ true
       → s ≤ effect t (deliver i) .view (writerOf s) j .stamp
-  unfolding effect delivered
+  unfolding effect
   prepared-view last j e =
-      let mine : Entry = t .view (writerOf s) j in
-      let other : Entry = record { stamp = s; set = c .write .set } in
-      let is : effect t (deliver i) .view (writerOf s) j ≡ laterOf mine other =
-      ap (λ (m : Message). delivered t m .view (writerOf s) j) is-prepared
-      ∙ ap (λ (f : ℕ → Entry). f j)
-      (put-same (t .view) (writerOf s)
-      (cond (isLast ofWrite c k) (seen (t .view (writerOf s)) (c .write .set) s)
-      (t .view (writerOf s))))
-      ∙ rw (last, e) refl in
-      subst (λ (x : Entry). s ≤ x .stamp) (sym is) (later-other mine other)
+      subst (λ (m : Message). s ≤ delivered t m .view (writerOf s) j .stamp) (sym is-prepared)
+      (ended-view t k s last j e)
 
 -- ---- a call while the write is under way
 

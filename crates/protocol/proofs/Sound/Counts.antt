@@ -1,5 +1,5 @@
--- Rule 6 for every stamp of sound tables: what is whole is stored, and what is stored or under way
--- is counted.
+-- No stamp anywhere in sound tables is above its client's count: what is whole is stored, and what
+-- is stored or under way is counted.
 use mathlib.Core.Bool.{true}
 use mathlib.Core.Logic.{_≢_, ⊎-elim}
 use mathlib.Core.Path.{_≡_, sym, subst}

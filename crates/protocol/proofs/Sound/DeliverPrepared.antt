@@ -24,8 +24,8 @@ use Rattle.protocol.proofs.Each.{Each, each-none, each-append}
 use Rattle.protocol.proofs.Put.{by-cond, put-every}
 use Rattle.protocol.proofs.Ranges.Values.{IsClient}
 use Rattle.protocol.proofs.Ranges.Tables.{Valid}
-use Rattle.protocol.proofs.Sound.{Ledger, GoodEntry, Writes, Last, FitsPrepared}
-use Rattle.protocol.proofs.Sound.{Fits, SoundBy}
+use Rattle.protocol.proofs.Sound.{Ledger, GoodEntry, Writes, Last, FitsPrepared, Fits}
+use Rattle.protocol.proofs.Sound.{SoundBy}
 use Rattle.protocol.proofs.Sound.Carry.{owner-client, recounted, last-recounted}
 use Rattle.protocol.proofs.Sound.End.{commits-for, ended-last, seen-good, commits-fit}
 use Rattle.protocol.proofs.Sound.Delivery.{Taken, one-after, likes}

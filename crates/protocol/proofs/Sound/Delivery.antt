@@ -1,4 +1,5 @@
--- What the deliveries share, on the tables alone.
+-- Each awaited item keeps its one message when a message is taken out and its reply joins, or when
+-- a reply is taken out and its item struck.
 use mathlib.Core.Bool.{Bool, true, false, cond, _&&_, and-false}
 use mathlib.Core.List.{List, _++_}
 use mathlib.Core.Logic.{_⊎_, ⊎-elim}
@@ -10,8 +11,7 @@ use lib.ListN.{length}
 use borrow.Author.Tests.{eqb-true, eqb-false, ne-eqb}
 use Rattle.basics.proofs.Cases.{by-test, not-both, eqb-same}
 use Rattle.basics.specs.Lists.{In, counted, without}
-use Rattle.basics.proofs.Lists.{in-getD, counted-in, counted-none, counted-append}
-use Rattle.basics.proofs.Lists.{counted-without}
+use Rattle.basics.proofs.Lists.{in-getD, counted-in, counted-none, counted-append, counted-without}
 use Rattle.itemset.specs.Set.{has, remove}
 use Rattle.itemset.proofs.Laws.{has-remove-same, has-remove-other}
 use Rattle.protocol.specs.declared.Message.{Message}

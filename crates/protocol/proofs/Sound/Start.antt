@@ -16,8 +16,8 @@ use Rattle.itemset.specs.Set.{has, members}
 use Rattle.itemset.proofs.Laws.{has-empty}
 use Rattle.protocol.specs.declared.Version.{Version}
 use Rattle.protocol.specs.declared.Message.{Message}
-use Rattle.protocol.specs.Tables.{Tables, Client, Side, awaitedOf, Ended}
-use Rattle.protocol.specs.Tables.{nothing, read, write, withClient, withMessages}
+use Rattle.protocol.specs.Tables.{Tables, Client, Side, awaitedOf, Ended, nothing, read}
+use Rattle.protocol.specs.Tables.{write, withClient, withMessages}
 use Rattle.protocol.specs.Message.{ownerOf, itemOf}
 use Rattle.protocol.specs.Range.{Capacities}
 use Rattle.protocol.proofs.Each.{each-append}
@@ -30,8 +30,7 @@ use Rattle.protocol.proofs.Sound.Carry.{Carries, view-carried, latest-c
 use Rattle.protocol.proofs.Sound.Carry.{writes-carried, fits-carried}
 use Rattle.protocol.proofs.Sound.Delivery.{no-message}
 use Rattle.protocol.proofs.Sound.Counts.{counted-covered}
-use Rattle.protocol.proofs.Common.{isFor, hasItem, ofSide, Like, like-self}
-use Rattle.protocol.proofs.Common.{members-once}
+use Rattle.protocol.proofs.Common.{isFor, hasItem, ofSide, Like, like-self, members-once}
 
 abbrev pub afterStart : Tables → ℕ → Client → List Message → Tables
 afterStart t d c′ ms = withMessages (withClient t d c′) (t .messages ++ ms)

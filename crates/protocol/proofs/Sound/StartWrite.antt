@@ -12,8 +12,7 @@ use Rattle.basics.specs.Lists.{counted}
 use Rattle.itemset.proofs.Laws.{has-empty}
 use Rattle.itemset.specs.Set.{has}
 use Rattle.protocol.specs.declared.Message.the-variants.{Prepare}
-use Rattle.protocol.specs.Tables.{Tables, ofRead, ofWrite, awaitedOf, numberOf}
-use Rattle.protocol.specs.Tables.{writerOf, put}
+use Rattle.protocol.specs.Tables.{Tables, ofRead, ofWrite, awaitedOf, numberOf, writerOf, put}
 use Rattle.protocol.specs.Message.{ownerOf}
 use Rattle.protocol.specs.Range.{Capacities}
 use Rattle.protocol.specs.Steps.{writer, version, valueOf, nextStamp, startedWrite, stored}

@@ -1,4 +1,5 @@
--- What the five deliveries share besides.
+-- Messages that stay in flight still fit after a delivery, and what is found under a good stamp is
+-- the ledger's.
 use mathlib.Core.Bool.{true, false}
 use mathlib.Core.List.{List, _++_}
 use mathlib.Core.Logic.{⊎-elim}

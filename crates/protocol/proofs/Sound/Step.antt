@@ -19,8 +19,7 @@ use Rattle.protocol.specs.Tables.{WritePart, awaitedOf, resting, nothing
 use Rattle.protocol.specs.Range.{Capacities, sizesInRange}
 use Rattle.protocol.specs.Steps.{messageAt}
 use Rattle.protocol.specs.Calls.{Call, deliver, refusal, Effects, effects, effect, pick, step}
-use Rattle.protocol.proofs.Refusals.{Expected}
-use Rattle.protocol.proofs.Refusals.{accepted-deliver}
+use Rattle.protocol.proofs.Refusals.{Expected, accepted-deliver}
 use Rattle.protocol.proofs.Sorts.{withViews, Apart, Sort, reads, writes, delivers, apart}
 use Rattle.protocol.proofs.Sorts.{sort}
 use Rattle.protocol.proofs.Keeps.{valid-views, keeps}
@@ -90,7 +89,7 @@ module _ (caps : Capacities) (L : Ledger) (t : Tables) (sound : SoundBy caps L t
   delivery i (Get d k s) taken ok = sound-get caps L t sound i d k s taken ok
   delivery i (Got d v latest) taken ok = sound-got caps L t sound i d v latest taken ok
 
-  -- what the rules ask of a view holds of each entry that a client has
+  -- a good entry of one client's view is one of another's
   sound-views : (c : Call) (a : Apart t c) → SoundBy caps L (withViews t (a .view))
   sound-views c a =
       record {
@@ -127,7 +126,7 @@ module _ (caps : Capacities) (L : Ledger) (t : Tables) (sound : SoundBy caps L t
   unfolding effect
   sound-accepted c e = sort-sound (sort caps t c e) (keeps caps t c e .valid)
 
-  -- every call, accepted or refused, keeps them passing
+  -- accepted or refused
   pub sound-step : (c : Call) → Sound caps (step caps t c .tables)
   unfolding step
   sound-step c = at (refusal caps t c) refl

@@ -25,7 +25,7 @@ header-in-range-requires c κs = search needs
 tables-in-range-requires : tie.Need-tables-in-range-requires
 tables-in-range-requires c κs =
     let f = header-bounds _ _ _ _ _ (c .before .header-in-range .ensures) (c .if1 .taken) in
-    (f .0, f .1, f .2, f .3, search needs)
+    (f .0, f .1, f .2, f .3, f .4, f .5, search needs)
 
 returns : tie.Need-returns
 returns c =

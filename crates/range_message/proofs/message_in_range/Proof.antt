@@ -1,5 +1,6 @@
 -- `range_message::message_in_range` meets its contract: its eight words in their order.
 use borrow.Author.Needs.{needs}
+use native.Mathlib.Omega.{arith}
 use Rattle.range_message.proofs.MessageTests.{message-words}
 use Rattle.range_message.proofs.message_in_range.Statement.{statement}
 use Rattle.range_message.proofs.message_in_range.Tie as tie
@@ -35,7 +36,7 @@ returns : tie.Need-returns
 returns c =
     let first = c .before .before .before .before .before .before .before .before in
     let a = first .before .before .args in
-    message-words (a .clients) (a .partitions) (a .items) (a .b .now) (a .i)
+    message-words (a .clients) (a .partitions) (a .items) (omega arith) (omega arith) (a .b .now) (a .i)
     (c .words-in-range .ensures)
     (first .message-word .ensures)
     (c .before .before .before .before .before .before .before .message-word2 .ensures)

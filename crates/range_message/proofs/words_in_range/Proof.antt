@@ -13,7 +13,7 @@ version-in-range-requires c κs = search needs
 returns : tie.Need-returns
 returns c =
     let a = c .before .before .args in
-    prepare-tests (a .clients) (a .partitions) (a .items) (a .kind) (a .who) (a .item) (a .value)
+    prepare-tests (a .clients) (a .partitions) (a .items) (omega arith) (omega arith) (a .kind) (a .who) (a .item) (a .value)
     (a .stamp) (a .set) (a .latest) (c .version-in-range .ensures) (omega arith)
 
 stamp-in-range-requires : tie.Need-stamp-in-range-requires
@@ -22,7 +22,7 @@ stamp-in-range-requires c κs = search needs
 returns-2 : tie.Need-returns-2
 returns-2 c =
     let a = c .before .before .before .args in
-    prepared-tests (a .clients) (a .partitions) (a .items) (a .kind) (a .who) (a .item) (a .value)
+    prepared-tests (a .clients) (a .partitions) (a .items) (omega arith) (omega arith) (a .kind) (a .who) (a .item) (a .value)
     (a .stamp) (a .set) (a .latest) (c .stamp-in-range .ensures) (omega arith)
 
 stamp-in-range-requires-2 : tie.Need-stamp-in-range-requires-2
@@ -31,7 +31,7 @@ stamp-in-range-requires-2 c κs = search needs
 returns-3 : tie.Need-returns-3
 returns-3 c =
     let a = c .before .before .before .before .args in
-    commit-tests (a .clients) (a .partitions) (a .items) (a .kind) (a .who) (a .item) (a .value)
+    commit-tests (a .clients) (a .partitions) (a .items) (omega arith) (omega arith) (a .kind) (a .who) (a .item) (a .value)
     (a .stamp) (a .set) (a .latest) (c .stamp-in-range2 .ensures) (omega arith)
 
 stamp-in-range-requires-3 : tie.Need-stamp-in-range-requires-3
@@ -40,7 +40,7 @@ stamp-in-range-requires-3 c κs = search needs
 returns-4 : tie.Need-returns-4
 returns-4 c =
     let a = c .before .before .before .before .before .args in
-    get-tests (a .clients) (a .partitions) (a .items) (a .kind) (a .who) (a .item) (a .value)
+    get-tests (a .clients) (a .partitions) (a .items) (omega arith) (omega arith) (a .kind) (a .who) (a .item) (a .value)
     (a .stamp) (a .set) (a .latest) (c .stamp-in-range3 .ensures) (omega arith)
 
 stamp-in-range-requires-4 : tie.Need-stamp-in-range-requires-4
@@ -52,7 +52,7 @@ entry-in-range-requires c κs = search needs
 returns-5 : tie.Need-returns-5
 returns-5 c =
     let a = c .before .before .before .before .before .before .args in
-    got-tests (a .clients) (a .partitions) (a .items) (a .kind) (a .who) (a .item) (a .value)
+    got-tests (a .clients) (a .partitions) (a .items) (omega arith) (omega arith) (a .kind) (a .who) (a .item) (a .value)
     (a .stamp) (a .set) (a .latest) (c .before .stamp-in-range4 .ensures)
     (c .entry-in-range .ensures) (omega arith) (omega arith) (omega arith) (omega arith)
 

@@ -1,32 +1,33 @@
-//! One call: the proved store, the model on the same block, the model on tables of its own, and the floor.
+//! One call: the proved store, the model on the same block, the model on tables of its own, and the
+//! floor.
 
 use crate::block::Lent;
 use crate::cases::Case;
-use crate::clock::{steps, steps_prepared, steps_undone, Contender, Rounds};
+use crate::clock::{steps, steps_prepared, steps_undone, Contender, Figure, Rounds};
 use crate::floor;
 use koolvent_model::block::{Calls, Modelled};
+use koolvent_model::call::Call;
 use koolvent_model::layout::{decode, NEEDED};
-use koolvent_model::promise::Call;
 use koolvent_model::proved::store::Proved;
-use koolvent_model::store::tables::Sizes;
 use koolvent_model::store::Store;
 use std::hint::black_box;
 
-const ROUNDS: usize = 151;
+const ROUNDS: usize = 301;
 
 /// Nanoseconds of one call, and the store's time as a multiple of each other's.
 pub struct Row {
     pub name: &'static str,
-    pub store: f64,
+    pub store: Figure,
     /// The model on the block: it decodes the words, checks, makes the step, and encodes.
-    pub model: f64,
+    pub model: Figure,
     /// The model on tables that it has already: it checks and makes the step.
-    pub tables: f64,
-    /// One plain pass over the words in use; at a fresh start one plain filling of the needed words.
-    pub floor: f64,
-    pub models: f64,
-    pub models_on_tables: f64,
-    pub floors: f64,
+    pub tables: Figure,
+    /// One plain pass over the words in use; at a fresh start one plain filling of the needed
+    /// words.
+    pub floor: Figure,
+    pub models: Figure,
+    pub models_on_tables: Figure,
+    pub floors: Figure,
 }
 
 const CONTENDERS: usize = 4;
@@ -40,10 +41,10 @@ pub fn rows(cases: &[Case]) -> Vec<Row> {
         let [store, model, tables, floor] = [0, 1, 2, 3].map(|other| CONTENDERS * place + other);
         Row {
             name: case.name,
-            store: rounds.median(store),
-            model: rounds.median(model),
-            tables: rounds.median(tables),
-            floor: rounds.median(floor),
+            store: rounds.time(store),
+            model: rounds.time(model),
+            tables: rounds.time(tables),
+            floor: rounds.time(floor),
             models: rounds.ratio(store, model),
             models_on_tables: rounds.ratio(store, tables),
             floors: rounds.ratio(store, floor),
@@ -53,33 +54,13 @@ pub fn rows(cases: &[Case]) -> Vec<Row> {
 }
 
 fn contenders(case: &Case) -> [Contender<'_>; CONTENDERS] {
-    [
-        on_block(Proved, case),
-        on_block(Modelled::default(), case),
-        on_tables(case),
-        floor(case),
-    ]
+    [on_block(Proved, case), on_block(Modelled::default(), case), on_tables(case), floor(case)]
 }
 
 /// Makes the call on the lent block.
 fn make(served: &impl Calls, lent: &mut Lent, call: &Call) -> u64 {
     let block = black_box(&mut lent.block[..]);
-    match call {
-        Call::Fresh {
-            clients,
-            partitions,
-            items,
-            ..
-        } => served.fresh(block, *clients, *partitions, *items),
-        Call::Read { client, set } => served.start_read(block, *client, *set),
-        Call::Write {
-            client,
-            set,
-            values,
-        } => served.start_write(block, *client, *set, values),
-        Call::Deliver { place } => served.deliver(block, *place),
-        Call::Show { client, .. } => served.show(block, *client, black_box(&mut lent.output)),
-    }
+    served.call(block, call, black_box(&mut lent.output))
 }
 
 /// What is timed isn't refused by 1, and gives the same answer, words and output from both.
@@ -92,7 +73,8 @@ fn assert_alike(case: &Case) {
     assert_eq!(store.output, model.output, "{}", case.name);
 }
 
-/// The block, ready for the call over and over. What a fresh start costs doesn't depend on what the block held.
+/// The block, ready for the call over and over. What a fresh start costs doesn't depend on what the
+/// block held.
 fn lent(case: &Case) -> Lent {
     let mut once = Lent::new(&case.block, &case.block);
     if !matches!(case.call, Call::Fresh { .. }) {
@@ -117,29 +99,9 @@ fn on_tables(case: &Case) -> Contender<'_> {
         store.tables.versions.reserve(NEEDED);
     };
     let step = |store: &mut Store| {
-        black_box(make_on_tables(black_box(store), &case.call));
+        black_box(black_box(store).call(&case.call, &mut [0; 600]));
     };
     steps_prepared(Store::new(), prepare, step)
-}
-
-fn make_on_tables(store: &mut Store, call: &Call) -> u64 {
-    let answer = match call {
-        Call::Fresh {
-            clients,
-            partitions,
-            items,
-            ..
-        } => store.fresh(true, Sizes::new(*clients, *partitions, *items)),
-        Call::Read { client, set } => store.start_read(*client, *set),
-        Call::Write {
-            client,
-            set,
-            values,
-        } => store.start_write(*client, *set, values),
-        Call::Deliver { place } => store.deliver(*place),
-        Call::Show { client, .. } => store.show(*client, &mut [0; 600]),
-    };
-    answer.number()
 }
 
 fn floor(case: &Case) -> Contender<'_> {

@@ -1,7 +1,7 @@
 //! The calls that are timed, each with the block that it is made on.
 
 use crate::session::{first_items, some_values, Session, COMMIT, GET, GOT, PREPARE, PREPARED};
-use koolvent_model::promise::Call;
+use koolvent_model::call::Call;
 use koolvent_model::store::tables::Sizes;
 
 /// A call on a block that accepts it, or refuses it by 3 after the check of all fields.
@@ -19,17 +19,8 @@ fn case(name: &'static str, session: &Session, call: Call) -> Case {
 }
 
 fn fresh(session: &Session) -> Case {
-    let Sizes {
-        clients,
-        partitions,
-        items,
-    } = session.tables().sizes;
-    let call = Call::Fresh {
-        long_enough: true,
-        clients,
-        partitions,
-        items,
-    };
+    let Sizes { clients, partitions, items } = session.tables().sizes;
+    let call = Call::Fresh { long_enough: true, clients, partitions, items };
     case("fresh", session, call)
 }
 
@@ -39,20 +30,19 @@ pub fn read(name: &'static str, session: &Session, client: u64, set: u64) -> Cas
 }
 
 /// The check of all fields, and next to nothing else: a read of a client that doesn't exist.
-fn check(session: &Session) -> Case {
-    read("the check alone (refusal 3)", session, 9, SHEET)
+pub const CHECK: &str = "the check alone (refusal 3)";
+pub const CHECK_OF_A_FRESH_SHEET: &str = "the check alone, on a fresh sheet";
+
+fn check(name: &'static str, session: &Session) -> Case {
+    read(name, session, 9, SHEET)
 }
 
 fn write(session: &Session, client: u64) -> Case {
-    let call = Call::Write {
-        client,
-        set: SHEET,
-        values: some_values(SHEET),
-    };
+    let call = Call::Write { client, set: SHEET, values: some_values(SHEET) };
     case("start a write of 4 items", session, call)
 }
 
-fn deliver(name: &'static str, session: &Session, kind: u8, client: u64) -> Case {
+fn deliver(name: &'static str, session: &Session, kind: u64, client: u64) -> Case {
     let place = session.place(kind, client);
     case(name, session, Call::Deliver { place })
 }
@@ -62,10 +52,12 @@ fn show(name: &'static str, session: &Session, client: u64) -> Case {
     case(name, session, Call::Show { client, output })
 }
 
-/// Two clients, two partitions, four items: each call where the session of a write and a read of all items makes it.
+/// Two clients, two partitions, four items: each call where the session of a write and a read of
+/// all items makes it.
 pub fn small() -> Vec<Case> {
     let mut session = Session::fresh(2, 2, 4);
-    let mut cases = vec![fresh(&session), write(&session, 1)];
+    let mut cases =
+        vec![fresh(&session), check(CHECK_OF_A_FRESH_SHEET, &session), write(&session, 1)];
     session.start_write(1, SHEET);
     cases.push(deliver("deliver a prepare", &session, PREPARE, 1));
     session.deliver(PREPARE, 1, 4);
@@ -84,11 +76,12 @@ pub fn small() -> Vec<Case> {
     cases.push(deliver("deliver the last got", &session, GOT, 2));
     session.deliver(GOT, 2, 1);
     cases.push(show("show a read of 4 items", &session, 2));
-    cases.push(check(&session));
+    cases.push(check(CHECK, &session));
     cases
 }
 
-/// Eight clients, eight partitions, 64 items, 500 stored versions, 120 messages: one block for all calls.
+/// Eight clients, eight partitions, 64 items, 500 stored versions, 120 messages: one block for all
+/// calls.
 pub fn busy() -> Vec<Case> {
     let session = busy_session();
     let tables = session.tables();
@@ -105,12 +98,13 @@ pub fn busy() -> Vec<Case> {
         deliver("deliver a got", &session, GOT, 7),
         deliver("deliver the last got", &session, GOT, 8),
         show("show a read of 64 items", &session, 1),
-        check(&session),
+        check(CHECK, &session),
     ]
 }
 
-/// Every client has written 60 items and read all 64. Then writes by 2 and 3 whose 15 commits lie in the pile, writes by
-/// 4, 5 and 6 under way with 4 and 1 prepared replies and 4 prepares, and reads by 3, 7 and 8 with 63 gets and 33 gots.
+/// Every client has written 60 items and read all 64. Then writes by 2 and 3 whose 15 commits lie
+/// in the pile, writes by 4, 5 and 6 under way with 4 and 1 prepared replies and 4 prepares, and
+/// reads by 3, 7 and 8 with 63 gets and 33 gots.
 fn busy_session() -> Session {
     let mut session = Session::fresh(8, 8, 64);
     for client in 1..=8 {

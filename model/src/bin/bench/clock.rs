@@ -1,21 +1,41 @@
-//! Times in nanoseconds: batches that are long for the clock, and medians of interleaved rounds.
+//! Times in nanoseconds: batches that are long for the clock, rounds that interleave all
+//! contenders, and of these the quickest and the median.
 
 use std::time::{Duration, Instant};
 
-/// How long a batch lasts, some thousand times what the clock costs. A step goes before each, untimed: others had
-/// their turn since the last, and the caches are theirs.
+/// How long all contenders are run, untimed, before their first round: caches, branch predictors
+/// and the processor's clock are steady by then.
+const WARM_UP: Duration = Duration::from_secs(2);
+
+/// How long a batch lasts, some thousand times what the clock costs. A step goes before each,
+/// untimed: others had their turn since the last, and the caches are theirs.
 const BATCH: Duration = Duration::from_micros(50);
 const MOST_STEPS: usize = 2_000;
 
-/// Something that is timed: each call of it gives the nanoseconds of one step.
-pub type Contender<'a> = Box<dyn FnMut() -> f64 + 'a>;
+/// Nanoseconds of one step in one round, and of what was timed with it and is taken off.
+#[derive(Clone, Copy)]
+pub struct Sample {
+    step: f64,
+    off: f64,
+}
+
+impl Sample {
+    /// Of a step that is so many.
+    pub fn of_each(self, steps: usize) -> Sample {
+        let [step, off] = [self.step, self.off].map(|time| time / steps as f64);
+        Sample { step, off }
+    }
+}
+
+/// Something that is timed, a round each time that it is called.
+pub type Contender<'a> = Box<dyn FnMut() -> Sample + 'a>;
 
 /// The step alone.
 pub fn steps<'a>(mut step: impl FnMut() + 'a) -> Contender<'a> {
     let steps = steps_of_a_batch(&mut step);
     Box::new(move || {
         step();
-        per_step(steps, &mut step)
+        Sample { step: per_step(steps, &mut step), off: 0.0 }
     })
 }
 
@@ -36,12 +56,12 @@ pub fn steps_undone<'a, State: 'a>(
             step(&mut state);
             undo(&mut state);
         });
-        let undoing = per_step(steps, || undo(&mut state));
-        both - undoing
+        Sample { step: both, off: per_step(steps, || undo(&mut state)) }
     })
 }
 
-/// The step alone, timed one by one because preparing it takes longer than itself; less what the clock costs.
+/// The step alone, timed one by one because preparing it takes longer than itself; less what the
+/// clock costs.
 pub fn steps_prepared<'a, State: 'a>(
     mut state: State,
     prepare: impl Fn(&mut State) + 'a,
@@ -54,37 +74,67 @@ pub fn steps_prepared<'a, State: 'a>(
         nanoseconds(start.elapsed())
     };
     Box::new(move || {
-        let step = median((0..9).map(|_| timed(&mut state)).collect());
         let clock = |_| nanoseconds(Instant::now().elapsed());
-        step - median((0..9).map(clock).collect())
+        Sample {
+            step: median((0..9).map(|_| timed(&mut state)).collect()),
+            off: median((0..9).map(clock).collect()),
+        }
     })
+}
+
+/// Nanoseconds, or a ratio of two times: of the quickest rounds, and the median of all.
+#[derive(Clone, Copy)]
+pub struct Figure {
+    pub quickest: f64,
+    pub median: f64,
 }
 
 /// What each contender took, round by round; a round times each once.
 pub struct Rounds {
-    times: Vec<Vec<f64>>,
+    samples: Vec<Vec<Sample>>,
 }
 
 impl Rounds {
     pub fn run(rounds: usize, mut contenders: Vec<Contender>) -> Rounds {
-        let mut times = vec![Vec::with_capacity(rounds); contenders.len()];
-        for _ in 0..rounds {
-            for (contender, times) in contenders.iter_mut().zip(&mut times) {
-                times.push(contender());
+        let start = Instant::now();
+        while start.elapsed() < WARM_UP {
+            for contender in &mut contenders {
+                contender();
             }
         }
-        Rounds { times }
+        let mut samples = vec![Vec::with_capacity(rounds); contenders.len()];
+        for _ in 0..rounds {
+            for (contender, samples) in contenders.iter_mut().zip(&mut samples) {
+                samples.push(contender());
+            }
+        }
+        Rounds { samples }
     }
 
-    /// The median of one contender.
-    pub fn median(&self, contender: usize) -> f64 {
-        median(self.times[contender].clone())
+    /// The time of one contender. Of its quickest round each part is the quickest, since the
+    /// difference of two times of one round is small also where what is taken off was disturbed.
+    pub fn time(&self, contender: usize) -> Figure {
+        let samples = &self.samples[contender];
+        let least = |part: fn(&Sample) -> f64| samples.iter().map(part).fold(f64::MAX, f64::min);
+        Figure {
+            quickest: least(|sample| sample.step) - least(|sample| sample.off),
+            median: median(self.times(contender)),
+        }
     }
 
-    /// The median of the ratios: a machine that is slower for a while is slower for both.
-    pub fn ratio(&self, one: usize, other: usize) -> f64 {
-        let both = self.times[one].iter().zip(&self.times[other]);
-        median(both.map(|(one, other)| one / other).collect())
+    /// How many times the other's time one's is. The median is that of the rounds' ratios: a
+    /// machine that is slower for a while is slower for both.
+    pub fn ratio(&self, one: usize, other: usize) -> Figure {
+        let both = self.times(one).into_iter().zip(self.times(other));
+        Figure {
+            quickest: self.time(one).quickest / self.time(other).quickest,
+            median: median(both.map(|(one, other)| one / other).collect()),
+        }
+    }
+
+    fn times(&self, contender: usize) -> Vec<f64> {
+        let samples = self.samples[contender].iter();
+        samples.map(|sample| sample.step - sample.off).collect()
     }
 }
 

@@ -6,7 +6,8 @@ use std::ops::Range;
 /// Words between two fields that a pass goes over rather than around: those of a cache line.
 const GAP: usize = 8;
 
-/// The words of the block that a range check has to look at, as stretches, and the few between them.
+/// The words of the block that a range check has to look at, as stretches, and the few between
+/// them.
 pub fn in_use(block: &[u64]) -> Vec<Range<usize>> {
     let tables = decode(block).expect("a block of tables");
     let mut places: Vec<usize> = fields(&tables).iter().map(|field| field.place).collect();

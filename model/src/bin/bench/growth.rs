@@ -1,4 +1,5 @@
-//! What a call costs against the number of stored versions, of messages and of items: the start of a read.
+//! What a call costs against the number of stored versions, of messages and of items: the start of
+//! a read.
 
 use crate::call::{rows, Row};
 use crate::cases::{read, Case};
@@ -31,7 +32,8 @@ pub fn versions() -> Vec<Point> {
     points(cases)
 }
 
-/// 0 to 120 messages, as many prepares, prepared replies and gets, and up to 40 versions of 64 items.
+/// 0 to 120 messages, as many prepares, prepared replies and gets, and up to 40 versions of 64
+/// items.
 pub fn messages() -> Vec<Point> {
     let mut cases = Vec::new();
     for third in (0..=40).step_by(5) {

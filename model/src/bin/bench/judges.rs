@@ -1,6 +1,6 @@
 //! The judge beside the model's judge: the slowest log that is found, and logs of growing size.
 
-use crate::clock::{quickest, steps, Contender, Rounds};
+use crate::clock::{quickest, steps, Contender, Figure, Rounds};
 use koolvent_model::frames::log::{LogFrame, Shown};
 use koolvent_model::judge::{judge, Verdict};
 use koolvent_model::proved;
@@ -23,10 +23,10 @@ pub struct Shape {
 pub struct Row {
     pub shape: Shape,
     pub bytes: usize,
-    pub judge: f64,
-    pub model: f64,
+    pub judge: Figure,
+    pub model: Figure,
     /// The judge's time as a multiple of the model's.
-    pub models: f64,
+    pub models: Figure,
 }
 
 /// The set of `width` items from `from` on, around the 64.
@@ -34,8 +34,8 @@ fn items_from(from: usize, width: usize) -> u64 {
     (0..width).fold(0, |set, i| set | 1 << ((from + i) % 64))
 }
 
-/// A clean log that a judge has to search to its end: writes in turn over all 64 items, then as many reads by the same
-/// client as fit, each item from its last write.
+/// A clean log that a judge has to search to its end: writes in turn over all 64 items, then as
+/// many reads by the same client as fit, each item from its last write.
 fn log_of(shape: Shape, most_bytes: usize) -> Vec<u8> {
     let mut log = Vec::new();
     let mut last = [0; 64];
@@ -104,8 +104,8 @@ fn rows(logs: &[Log]) -> Vec<Row> {
     let row = |(place, log): (usize, &Log)| Row {
         shape: log.shape,
         bytes: log.text.len(),
-        judge: rounds.median(2 * place),
-        model: rounds.median(2 * place + 1),
+        judge: rounds.time(2 * place),
+        model: rounds.time(2 * place + 1),
         models: rounds.ratio(2 * place, 2 * place + 1),
     };
     logs.iter().enumerate().map(row).collect()
@@ -117,11 +117,7 @@ pub fn slowest() -> Row {
     for width in [1, 2, 4, 8, 16, 64] {
         for shown in [1, 4, 9, 12, 16, 20, 24, 32, 64] {
             for writes in (16..=240).step_by(16) {
-                let shape = Shape {
-                    writes,
-                    width,
-                    shown,
-                };
+                let shape = Shape { writes, width, shown };
                 let log = log_of(shape, MOST_BYTES);
                 let clean = Verdict::CLEAN.number();
                 if log.len() > MOST_BYTES || proved::judge::judge(&log) != clean {
@@ -145,11 +141,7 @@ pub fn growth() -> Vec<Row> {
     let bytes_of_a_write = 125;
     let log = |part| {
         let most_bytes = part * MOST_BYTES / 8;
-        let shape = Shape {
-            writes: most_bytes / 2 / bytes_of_a_write,
-            width: 12,
-            shown: 12,
-        };
+        let shape = Shape { writes: most_bytes / 2 / bytes_of_a_write, width: 12, shown: 12 };
         Log::new(shape, most_bytes)
     };
     let logs: Vec<Log> = (1..=8).map(log).collect();

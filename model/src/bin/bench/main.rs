@@ -1,5 +1,6 @@
-//! `make bench`: times the proved code beside the model, beside one plain pass over the same words, and beside SQLite in
-//! memory, in one run. It prints what it finds, and writes docs/performance.svg and the table in docs/PERFORMANCE.md.
+//! `make bench`: times the proved code beside the model, beside one plain pass over the same words,
+//! and beside SQLite in memory, in one run. It prints what it finds, and writes
+//! docs/performance.svg and docs/PERFORMANCE.md.
 
 mod block;
 mod call;
@@ -29,8 +30,8 @@ fn main() {
         sheet: sheet::growth(),
         logs: judges::growth(),
     };
-    let table = page::table(&measured);
-    print!("{table}");
-    page::write(&table).expect("docs/PERFORMANCE.md, which has the marks");
+    let page = page::page(&measured);
+    print!("{page}");
+    page::write(&page).expect("docs/PERFORMANCE.md");
     picture::write(&measured).expect("docs/performance.svg");
 }

@@ -1,19 +1,20 @@
-//! The table in docs/PERFORMANCE.md, between two marks.
+//! docs/PERFORMANCE.md: the text of page.md, with what was measured in its places.
 
+use crate::clock::Figure;
 use crate::growth::Point;
 use crate::limits::limits;
 use crate::{call, judges, machine, sheet};
-use std::fmt::Write;
+use std::fmt::Write as _;
 use std::{fs, io};
 
 const PAGE: &str = concat!(env!("CARGO_MANIFEST_DIR"), "/../docs/PERFORMANCE.md");
-const BEGIN: &str = "<!-- what make bench measured -->\n";
-const END: &str = "<!-- end of what make bench measured -->\n";
+const TEXT: &str = include_str!("page.md");
 
 /// Everything that one run measures.
 pub struct Measured {
     pub small: Vec<call::Row>,
     pub busy: Vec<call::Row>,
+    /// On a fresh sheet, and over the life of one.
     pub sheets: Vec<sheet::Row>,
     pub slowest: judges::Row,
     pub versions: Vec<Point>,
@@ -33,79 +34,133 @@ pub fn time(nanoseconds: f64) -> String {
     }
 }
 
-pub fn table(measured: &Measured) -> String {
-    let mut text = format!("\nMeasured on: {}.\n", machine::class());
-    text += &limits_table(measured);
-    text += &calls_table(
-        "The small sheet: 2 clients, 2 partitions, 4 items",
-        &measured.small,
-    );
-    let busy = "The busy block: 8 clients, 8 partitions, 64 items, 500 versions, 120 messages";
-    text += &calls_table(busy, &measured.busy);
-    text += &sheets_table(&measured.sheets);
-    text += &judges_table(&measured.slowest);
-    text.push('\n');
-    text
+fn times(figure: Figure) -> String {
+    format!("{} ({})", time(figure.quickest), time(figure.median))
+}
+
+fn ratios(figure: Figure) -> String {
+    format!("{:.2} ({:.2})", figure.quickest, figure.median)
+}
+
+/// The whole page.
+pub fn page(measured: &Measured) -> String {
+    let tables = [
+        calls_table("The small sheet: 2 clients, 2 partitions, 4 items", &measured.small),
+        calls_table(
+            "The busy block: 8 clients, 8 partitions, 64 items, 500 versions, 120 messages",
+            &measured.busy,
+        ),
+        sheets_table(&measured.sheets),
+        judges_table(&measured.slowest),
+    ];
+    TEXT.replace("{machine}", &machine::class())
+        .replace("{limits}", &limits_table(measured))
+        .replace("{cannot}", &cannot(measured))
+        .replace("{tables}\n", &tables.join("\n"))
+}
+
+pub fn write(page: &str) -> io::Result<()> {
+    fs::write(PAGE, page)
 }
 
 fn limits_table(measured: &Measured) -> String {
-    let mut text = "\n### Limits\n\n| Limit | Found | |\n|---|---|---|\n".to_owned();
+    let head = ["Limit", "Found, quickest rounds", "Medians", ""];
+    let mut text = "## Limits\n\n".to_owned() + &heading(&head, "|---|---|---|---|");
     for limit in limits(measured) {
         let met = match limit.met {
             Some(true) => "met",
             Some(false) => "missed",
             None => "not measured",
         };
-        line(&mut text, &[limit.limit, &limit.found, met]);
+        line(&mut text, &[&limit.limit, &limit.quickest, &limit.median, met]);
+    }
+    text
+}
+
+/// What the floor leaves, beside SQLite.
+fn cannot(measured: &Measured) -> String {
+    let [fresh, life] = &measured.sheets[..] else {
+        return String::new();
+    };
+    let (Some(floor), Some(sqlite)) = (fresh.floor, fresh.sqlite) else {
+        return "SQLite was not installed where this page was made.\n".to_owned();
+    };
+    let passes = floor.time.quickest;
+    let mut text = format!(
+        "A write and a read of the small sheet are 22 calls. On a fresh sheet 22 plain passes over\n\
+         the words in use take {}, {} each, and SQLite takes {} for its two\n\
+         transactions: a store that looks at its block at each call, and did nothing else, would be\n\
+         {:.1} times faster than SQLite and no more. This one is {:.1} times faster.\n",
+        time(passes),
+        time(passes / 22.0),
+        time(sqlite.time.quickest),
+        sqlite.time.quickest / passes,
+        sqlite.times.quickest,
+    );
+    let slower = measured.sheet.iter().find(|row| match (row.floor, row.sqlite) {
+        (Some(floor), Some(sqlite)) => floor.time.quickest > sqlite.time.quickest,
+        _ => false,
+    });
+    if let (Some(slower), Some(sqlite)) = (slower, life.sqlite) {
+        let (versions, faster) = (slower.versions, sqlite.times.quickest);
+        write!(
+            text,
+            "With {versions} versions stored the 22 passes alone take longer than SQLite, which keeps one\n\
+             version of each item: over the life of a sheet, from fresh to full, the store is\n\
+             {faster:.2} times as fast as SQLite.\n"
+        )
+        .expect("text grows");
     }
     text
 }
 
 fn calls_table(title: &str, rows: &[call::Row]) -> String {
-    let head = "| Call | Store | Model on the block | Model on its tables | Floor | Store / model on the block | \
-                Store / model on its tables | Store / floor |";
-    let mut text = format!("\n### {title}\n\n{head}\n|---|--:|--:|--:|--:|--:|--:|--:|\n");
+    let head = [
+        "Call",
+        "Store",
+        "Model on the block",
+        "Model on its tables",
+        "Floor",
+        "Store / model on the block",
+        "Store / model on its tables",
+        "Store / floor",
+    ];
+    let mut text = format!("## {title}\n\n") + &heading(&head, "|---|--:|--:|--:|--:|--:|--:|--:|");
     for row in rows {
-        let times = [row.store, row.model, row.tables, row.floor].map(time);
-        let ratios = [row.models, row.models_on_tables, row.floors].map(ratio);
-        let [store, model, tables, floor] = &times;
-        let [to_model, to_tables, to_floor] = &ratios;
+        let [store, model, tables, floor] =
+            [row.store, row.model, row.tables, row.floor].map(times);
+        let [to_model, to_tables, to_floor] =
+            [row.models, row.models_on_tables, row.floors].map(ratios);
         line(
             &mut text,
-            &[
-                row.name, store, model, tables, floor, to_model, to_tables, to_floor,
-            ],
+            &[row.name, &store, &model, &tables, &floor, &to_model, &to_tables, &to_floor],
         );
     }
     text
 }
 
 fn sheets_table(rows: &[sheet::Row]) -> String {
+    let head = [
+        "",
+        "Store",
+        "Model on the block",
+        "Floor",
+        "SQLite in memory",
+        "Store / floor",
+        "SQLite / store",
+    ];
     let title =
         "A write of 4 items and a read of them on the small sheet, delivered and shown: 22 calls";
-    let head = "| | Store | Model on the block | Floor | SQLite in memory | Store / floor | SQLite / store |";
-    let mut text = format!("\n### {title}\n\n{head}\n|---|--:|--:|--:|--:|--:|--:|\n");
-    let times_of =
-        |beside: Option<sheet::Beside>| beside.map_or(String::new(), |beside| ratio(beside.times));
+    let mut text = format!("## {title}\n\n") + &heading(&head, "|---|--:|--:|--:|--:|--:|--:|");
+    let beside = |beside: Option<sheet::Beside>, none: &str| {
+        let time = beside.map_or(none.to_owned(), |beside| times(beside.time));
+        (time, beside.map_or(String::new(), |beside| ratios(beside.times)))
+    };
     for row in rows {
-        let floor = row
-            .floor
-            .map_or("not measured".to_owned(), |floor| time(floor.time));
-        let sqlite = row
-            .sqlite
-            .map_or("not installed".to_owned(), |sqlite| time(sqlite.time));
-        line(
-            &mut text,
-            &[
-                &row.name,
-                &time(row.store),
-                &time(row.model),
-                &floor,
-                &sqlite,
-                &times_of(row.floor),
-                &times_of(row.sqlite),
-            ],
-        );
+        let (floor, to_floor) = beside(row.floor, "not measured");
+        let (sqlite, to_store) = beside(row.sqlite, "not installed");
+        let [store, model] = [row.store, row.model].map(times);
+        line(&mut text, &[&row.name, &store, &model, &floor, &sqlite, &to_floor, &to_store]);
     }
     text
 }
@@ -116,29 +171,20 @@ fn judges_table(slowest: &judges::Row) -> String {
         "{} writes of {} items, then reads of {}: {} bytes",
         shape.writes, shape.width, shape.shown, slowest.bytes
     );
-    let mut text = "\n### The judge, on the slowest log found\n\n\
-                    | Log | Judge | Model's judge | Judge / model |\n|---|--:|--:|--:|\n"
-        .to_owned();
-    let (judge, model) = (time(slowest.judge), time(slowest.model));
-    line(&mut text, &[&log, &judge, &model, &ratio(slowest.models)]);
+    let head = ["Log", "Judge", "Model's judge", "Judge / model"];
+    let mut text = "## The judge, on the slowest log found\n\n".to_owned()
+        + &heading(&head, "|---|--:|--:|--:|");
+    let [judge, model] = [slowest.judge, slowest.model].map(times);
+    line(&mut text, &[&log, &judge, &model, &ratios(slowest.models)]);
     text
 }
 
-fn ratio(ratio: f64) -> String {
-    format!("{ratio:.2}")
+fn heading(cells: &[&str], rule: &str) -> String {
+    let mut text = String::new();
+    line(&mut text, cells);
+    text + rule + "\n"
 }
 
 fn line(text: &mut String, cells: &[&str]) {
     writeln!(text, "| {} |", cells.join(" | ")).expect("text grows");
-}
-
-/// Puts the table between the marks of the page.
-pub fn write(table: &str) -> io::Result<()> {
-    let page = fs::read_to_string(PAGE)?;
-    let marks = page.split_once(BEGIN).and_then(|(before, rest)| {
-        let (_, after) = rest.split_once(END)?;
-        Some((before, after))
-    });
-    let (before, after) = marks.ok_or(io::ErrorKind::InvalidData)?;
-    fs::write(PAGE, format!("{before}{BEGIN}{table}{END}{after}"))
 }

@@ -1,4 +1,5 @@
-//! docs/performance.svg: what a call, a transaction and a verdict cost as things grow, curves side by side.
+//! docs/performance.svg: what a call, a transaction and a verdict cost as things grow, curves side
+//! by side.
 
 mod axes;
 mod panel;
@@ -41,10 +42,10 @@ fn of_calls(title: &str, label: &str, points: &[Point]) -> Panel {
         title: title.to_owned(),
         label: label.to_owned(),
         curves: vec![
-            curve(FLOOR, along(|point| point.row.floor)),
-            curve(TABLES, along(|point| point.row.tables)),
-            curve(MODEL, along(|point| point.row.model)),
-            curve(STORE, along(|point| point.row.store)),
+            curve(FLOOR, along(|point| point.row.floor.quickest)),
+            curve(TABLES, along(|point| point.row.tables.quickest)),
+            curve(MODEL, along(|point| point.row.model.quickest)),
+            curve(STORE, along(|point| point.row.store.quickest)),
         ],
     }
 }
@@ -52,18 +53,10 @@ fn of_calls(title: &str, label: &str, points: &[Point]) -> Panel {
 fn of_sheets(measured: &Measured) -> Panel {
     let rows = &measured.sheet;
     let versions = |row: &crate::sheet::Row| row.versions as f64;
-    let sqlite = rows
-        .iter()
-        .filter_map(|row| Some((versions(row), row.sqlite?.time)));
+    let sqlite = rows.iter().filter_map(|row| Some((versions(row), row.sqlite?.time.quickest)));
     let mut curves = vec![
-        curve(
-            MODEL,
-            rows.iter().map(|row| (versions(row), row.model)).collect(),
-        ),
-        curve(
-            STORE,
-            rows.iter().map(|row| (versions(row), row.store)).collect(),
-        ),
+        curve(MODEL, rows.iter().map(|row| (versions(row), row.model.quickest)).collect()),
+        curve(STORE, rows.iter().map(|row| (versions(row), row.store.quickest)).collect()),
     ];
     let sqlite: Vec<(f64, f64)> = sqlite.collect();
     if !sqlite.is_empty() {
@@ -83,35 +76,17 @@ fn of_logs(measured: &Measured) -> Panel {
         title: "Judge a log of writes and reads of 12 items".to_owned(),
         label: "size of the log, in KiB".to_owned(),
         curves: vec![
-            curve(
-                MODEL,
-                rows.iter().map(|row| (kilobytes(row), row.model)).collect(),
-            ),
-            curve(
-                STORE,
-                rows.iter().map(|row| (kilobytes(row), row.judge)).collect(),
-            ),
+            curve(MODEL, rows.iter().map(|row| (kilobytes(row), row.model.quickest)).collect()),
+            curve(STORE, rows.iter().map(|row| (kilobytes(row), row.judge.quickest)).collect()),
         ],
     }
 }
 
 fn panels(measured: &Measured) -> Vec<Panel> {
     vec![
-        of_calls(
-            "Start a read of 4 of 64 items",
-            "stored versions",
-            &measured.versions,
-        ),
-        of_calls(
-            "Start a read of 4 of 64 items",
-            "messages in flight",
-            &measured.messages,
-        ),
-        of_calls(
-            "Start a read of all items",
-            "items, each written once",
-            &measured.items,
-        ),
+        of_calls("Start a read of 4 of 64 items", "stored versions", &measured.versions),
+        of_calls("Start a read of 4 of 64 items", "messages in flight", &measured.messages),
+        of_calls("Start a read of all items", "items, each written once", &measured.items),
         of_sheets(measured),
         of_logs(measured),
     ]
@@ -122,13 +97,8 @@ fn picture(panels: &[Panel]) -> String {
     let width = 2.0 * MARGIN + COLUMNS as f64 * (panel::WIDTH + BETWEEN) - BETWEEN;
     let height = TOP + rows as f64 * (panel::HEIGHT + BETWEEN);
     let mut svg = Svg::new(width, height);
-    svg.text(
-        MARGIN,
-        36.0,
-        20,
-        "What it costs, and what it is held against",
-    );
-    let axes = "Medians of interleaved runs; time on a scale of powers of ten, so that equal distances are equal ratios.";
+    svg.text(MARGIN, 36.0, 20, "What it costs, and what it is held against");
+    let axes = "The quickest of interleaved rounds; time on a scale of powers of ten, so that equal distances are equal ratios.";
     svg.text(MARGIN, 60.0, 13, axes);
     let corner = |place: usize| {
         let (column, row) = (place % COLUMNS, place / COLUMNS);

@@ -1,17 +1,17 @@
 //! A session played on the model's store, for the blocks that it leaves.
 
+use koolvent_model::answer::Answer;
 use koolvent_model::layout::encode;
-use koolvent_model::store::answer::Answer;
 use koolvent_model::store::message::Message;
 use koolvent_model::store::tables::{Sizes, Tables};
 use koolvent_model::store::Store;
 
 /// Kinds of messages.
-pub const PREPARE: u8 = 1;
-pub const PREPARED: u8 = 2;
-pub const COMMIT: u8 = 3;
-pub const GET: u8 = 4;
-pub const GOT: u8 = 5;
+pub const PREPARE: u64 = 1;
+pub const PREPARED: u64 = 2;
+pub const COMMIT: u64 = 3;
+pub const GET: u64 = 4;
+pub const GOT: u64 = 5;
 
 /// A store in the middle of a session; every call on it is accepted.
 #[derive(Clone)]
@@ -26,9 +26,7 @@ pub fn first_items(count: u64) -> u64 {
 
 /// Value bytes for the items of a set.
 pub fn some_values(set: u64) -> Vec<u8> {
-    (0..set.count_ones())
-        .flat_map(|place| (1_000_000 * (place + 1)).to_be_bytes())
-        .collect()
+    (0..set.count_ones()).flat_map(|place| (1_000_000 * (place + 1)).to_be_bytes()).collect()
 }
 
 impl Session {
@@ -62,7 +60,7 @@ impl Session {
     }
 
     /// Delivers so many messages of the kind and client, each time the first.
-    pub fn deliver(&mut self, kind: u8, client: u64, count: u32) {
+    pub fn deliver(&mut self, kind: u64, client: u64, count: u32) {
         for _ in 0..count {
             let place = self.place(kind, client);
             accepted(self.store.deliver(place));
@@ -76,7 +74,7 @@ impl Session {
     }
 
     /// The place of the first message of the kind and client.
-    pub fn place(&self, kind: u8, client: u64) -> u64 {
+    pub fn place(&self, kind: u64, client: u64) -> u64 {
         let is_it = |message: &Message| message.kind() == kind && message.client() == client;
         let place = self.tables().messages.iter().position(is_it);
         place.expect("such a message lies in the pile") as u64

@@ -1,8 +1,8 @@
-//! A transaction each way on the small sheet: client 1 writes its four items, client 2 reads them, all messages are
-//! delivered in turn, both are shown.
+//! A transaction each way on the small sheet: client 1 writes its four items, client 2 reads them,
+//! all messages are delivered in turn, both are shown.
 
 use crate::block::Lent;
-use crate::clock::{steps, steps_undone, Contender, Rounds};
+use crate::clock::{steps, steps_undone, Contender, Figure, Rounds};
 use crate::floor;
 use crate::session::Session;
 #[cfg(feature = "sqlite")]
@@ -24,8 +24,8 @@ pub struct Row {
     pub name: String,
     /// Stored versions before it.
     pub versions: u64,
-    pub store: f64,
-    pub model: f64,
+    pub store: Figure,
+    pub model: Figure,
     pub floor: Option<Beside>,
     pub sqlite: Option<Beside>,
 }
@@ -33,8 +33,8 @@ pub struct Row {
 /// A time beside the store's: how many of it the store takes, or of the store's it is.
 #[derive(Clone, Copy)]
 pub struct Beside {
-    pub time: f64,
-    pub times: f64,
+    pub time: Figure,
+    pub times: Figure,
 }
 
 /// On a fresh sheet, and over the life of one.
@@ -66,11 +66,7 @@ fn on_sheets(versions: &[u64]) -> Vec<Row> {
     let of_one = |versions: &u64| {
         let block = sheet_with(*versions);
         assert_alike(&block);
-        beside(vec![
-            once(Proved, &block),
-            once(Modelled::default(), &block),
-            passes(&block),
-        ])
+        beside(vec![once(Proved, &block), once(Modelled::default(), &block), passes(&block)])
     };
     let of_each: Vec<Vec<Contender>> = versions.iter().map(of_one).collect();
     let each = of_each.first().map_or(0, Vec::len);
@@ -98,23 +94,19 @@ fn beside<'a>(mut contenders: Vec<Contender<'a>>) -> Vec<Contender<'a>> {
     contenders
 }
 
-/// The row of the store, which is the contender at the place, the model behind it, the floor where there is one, and perhaps
-/// SQLite behind them all.
+/// The row of the store, which is the contender at the place, the model behind it, the floor where
+/// there is one, and perhaps SQLite behind them all.
 fn row(versions: u64, rounds: &Rounds, place: usize, floor: Option<usize>) -> Row {
     let last = floor.unwrap_or(place + 1) + 1;
-    let sqlite = cfg!(feature = "sqlite").then(|| Beside {
-        time: rounds.median(last),
-        times: rounds.ratio(last, place),
-    });
-    let floor = floor.map(|floor| Beside {
-        time: rounds.median(floor),
-        times: rounds.ratio(place, floor),
-    });
+    let sqlite = cfg!(feature = "sqlite")
+        .then(|| Beside { time: rounds.time(last), times: rounds.ratio(last, place) });
+    let floor =
+        floor.map(|floor| Beside { time: rounds.time(floor), times: rounds.ratio(place, floor) });
     Row {
         name: format!("on a sheet with {versions} stored versions"),
         versions,
-        store: rounds.median(place),
-        model: rounds.median(place + 1),
+        store: rounds.time(place),
+        model: rounds.time(place + 1),
         floor,
         sqlite,
     }
@@ -197,7 +189,7 @@ fn a_life<'a>(served: impl Calls + 'a) -> Contender<'a> {
             write_and_read(&served, &mut lent, value as u32);
         }
     });
-    Box::new(move || life() / WRITES_OF_A_LIFE as f64)
+    Box::new(move || life().of_each(WRITES_OF_A_LIFE))
 }
 
 fn write_and_read(served: &impl Calls, lent: &mut Lent, value: u32) {

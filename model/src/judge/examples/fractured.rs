@@ -18,11 +18,7 @@ pub fn examples() -> Vec<Example> {
             "00020001",
             &[&read(2, 0b11, &[(1, 1, 7), INITIAL]), &pair],
         ),
-        example(
-            "sibling not shown",
-            CLEAN,
-            &[&pair, &read(2, 0b1, &[(1, 1, 7)])],
-        ),
+        example("sibling not shown", CLEAN, &[&pair, &read(2, 0b1, &[(1, 1, 7)])]),
         example(
             "initial item beside the write's",
             CLEAN,
@@ -33,24 +29,12 @@ pub fn examples() -> Vec<Example> {
             CLEAN,
             &[&pair, &read(2, 0b11, &[INITIAL, INITIAL])],
         ),
-        example(
-            "64 items whole",
-            CLEAN,
-            &[&wide, &read(2, u64::MAX, &[(1, 1, 5); 64])],
-        ),
-        example(
-            "63 of 64 items",
-            "00020002",
-            &[&wide, &read(2, u64::MAX, &almost_whole)],
-        ),
+        example("64 items whole", CLEAN, &[&wide, &read(2, u64::MAX, &[(1, 1, 5); 64])]),
+        example("63 of 64 items", "00020002", &[&wide, &read(2, u64::MAX, &almost_whole)]),
         example(
             "sibling shown later",
             CLEAN,
-            &[
-                &pair,
-                &write(2, 0b10, 2, &[9]),
-                &read(3, 0b11, &[(1, 1, 7), (2, 2, 9)]),
-            ],
+            &[&pair, &write(2, 0b10, 2, &[9]), &read(3, 0b11, &[(1, 1, 7), (2, 2, 9)])],
         ),
         example(
             "sibling shown earlier",

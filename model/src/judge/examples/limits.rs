@@ -19,16 +19,8 @@ fn bytes() -> Vec<Example> {
         example("32,768 bytes", CLEAN, &[&full]),
         example("32,768 bytes and 256 line ends", CLEAN, &[&full_log(256)]),
         example("32,768 bytes, the last no line end", "0f0040", &[&unended]),
-        example(
-            "32,769 bytes, the last no line end",
-            TOO_LONG,
-            &[&full, "2"],
-        ),
-        example(
-            "32,769 bytes, the last a line end",
-            TOO_LONG,
-            &[&full, "\n"],
-        ),
+        example("32,769 bytes, the last no line end", TOO_LONG, &[&full, "2"]),
+        example("32,769 bytes, the last a line end", TOO_LONG, &[&full, "\n"]),
         example("32,768 bytes of junk", "0f0001", &[&junk]),
         example("32,769 bytes of junk", TOO_LONG, &[&junk, "x"]),
     ]
@@ -36,11 +28,8 @@ fn bytes() -> Vec<Example> {
 
 /// 256 line ends and one more.
 fn line_ends() -> Vec<Example> {
-    let writes = |count| -> String {
-        (1..=count)
-            .map(|number| write(1, 1, number, &[7]))
-            .collect()
-    };
+    let writes =
+        |count| -> String { (1..=count).map(|number| write(1, 1, number, &[7])).collect() };
     let ends = "\n".repeat(256);
     let missed = read(1, 1, &[INITIAL]);
     let last = read(2, 1, &[(255, 1, 7)]);
@@ -51,47 +40,19 @@ fn line_ends() -> Vec<Example> {
         example("256 line ends alone", "0f0001", &[&ends]),
         example("257 line ends alone", TOO_LONG, &[&ends, "\n"]),
         example("256 writes and a digit", "0f0101", &[&writes(256), "2"]),
-        example(
-            "256 writes and an unended read",
-            "0f0101",
-            &[&writes(256), missed.trim_end()],
-        ),
-        example(
-            "255 writes and an unended read",
-            "0f0100",
-            &[&writes(255), missed.trim_end()],
-        ),
-        example(
-            "255 writes and an empty line",
-            "0f0100",
-            &[&writes(255), "\n"],
-        ),
+        example("256 writes and an unended read", "0f0101", &[&writes(256), missed.trim_end()]),
+        example("255 writes and an unended read", "0f0100", &[&writes(255), missed.trim_end()]),
+        example("255 writes and an empty line", "0f0100", &[&writes(255), "\n"]),
         example(
             "empty line 100 of 256 and a tail",
             "0f0064",
             &[&writes(99), "\n", &ends[100..], "2"],
         ),
-        example(
-            "fault at line 255",
-            "000300ff",
-            &[&writes(254), &missed, &missed],
-        ),
+        example("fault at line 255", "000300ff", &[&writes(254), &missed, &missed]),
         example("fault at line 256", "00030100", &[&writes(255), &missed]),
-        example(
-            "fault at line 1 of 256",
-            "00010001",
-            &[&unwritten, &writes(255)],
-        ),
-        example(
-            "fault at line 1 of 257",
-            TOO_LONG,
-            &[&unwritten, &writes(256)],
-        ),
-        example(
-            "write 255 lines below its read",
-            CLEAN,
-            &[&last, &writes(255)],
-        ),
+        example("fault at line 1 of 256", "00010001", &[&unwritten, &writes(255)]),
+        example("fault at line 1 of 257", TOO_LONG, &[&unwritten, &writes(256)]),
+        example("write 255 lines below its read", CLEAN, &[&last, &writes(255)]),
     ]
 }
 

@@ -7,10 +7,7 @@ const SECOND_LINE: &str = "0f0002";
 const THIRD_LINE: &str = "0f0003";
 
 pub fn examples() -> Vec<Example> {
-    [clients_and_sets(), numbers(), stamps(), first_of_several()]
-        .into_iter()
-        .flatten()
-        .collect()
+    [clients_and_sets(), numbers(), stamps(), first_of_several()].into_iter().flatten().collect()
 }
 
 fn clients_and_sets() -> Vec<Example> {
@@ -19,27 +16,15 @@ fn clients_and_sets() -> Vec<Example> {
         example("write by client 1", CLEAN, &[&write(1, 1, 1, &[7])]),
         example("write by client 8", CLEAN, &[&write(8, 1, 1, &[7])]),
         example("write by client 9", FIRST_LINE, &[&write(9, 1, 1, &[7])]),
-        example(
-            "write by client 255",
-            FIRST_LINE,
-            &[&write(255, 1, 1, &[7])],
-        ),
+        example("write by client 255", FIRST_LINE, &[&write(255, 1, 1, &[7])]),
         example("read by client 0", FIRST_LINE, &[&read(0, 1, &[INITIAL])]),
         example("read by client 1", CLEAN, &[&read(1, 1, &[INITIAL])]),
         example("read by client 8", CLEAN, &[&read(8, 1, &[INITIAL])]),
         example("read by client 9", FIRST_LINE, &[&read(9, 1, &[INITIAL])]),
         example("write of an empty set", FIRST_LINE, &[&write(1, 0, 1, &[])]),
         example("read of an empty set", FIRST_LINE, &[&read(1, 0, &[])]),
-        example(
-            "write of all items",
-            CLEAN,
-            &[&write(1, u64::MAX, 1, &[7; 64])],
-        ),
-        example(
-            "read of all items",
-            CLEAN,
-            &[&read(1, u64::MAX, &[INITIAL; 64])],
-        ),
+        example("write of all items", CLEAN, &[&write(1, u64::MAX, 1, &[7; 64])]),
+        example("read of all items", CLEAN, &[&read(1, u64::MAX, &[INITIAL; 64])]),
     ]
 }
 
@@ -51,29 +36,13 @@ fn numbers() -> Vec<Example> {
         example("first number 5", CLEAN, &[&by(1, 5)]),
         example("greatest number", CLEAN, &[&by(1, u32::MAX)]),
         example("rising numbers", CLEAN, &[&by(1, 1), &by(1, 2)]),
-        example(
-            "rising by more than one",
-            CLEAN,
-            &[&by(1, 1), &by(1, 1 << 31), &by(1, u32::MAX)],
-        ),
+        example("rising by more than one", CLEAN, &[&by(1, 1), &by(1, 1 << 31), &by(1, u32::MAX)]),
         example("equal numbers", SECOND_LINE, &[&by(1, 2), &by(1, 2)]),
         example("falling numbers", SECOND_LINE, &[&by(1, 2), &by(1, 1)]),
         example("falling to 0", SECOND_LINE, &[&by(1, 2), &by(1, 0)]),
-        example(
-            "falling from the greatest",
-            SECOND_LINE,
-            &[&by(1, u32::MAX), &by(1, 1)],
-        ),
-        example(
-            "equal numbers of two clients",
-            CLEAN,
-            &[&by(1, 2), &by(2, 2)],
-        ),
-        example(
-            "falling numbers of two clients",
-            CLEAN,
-            &[&by(2, 2), &by(1, 1)],
-        ),
+        example("falling from the greatest", SECOND_LINE, &[&by(1, u32::MAX), &by(1, 1)]),
+        example("equal numbers of two clients", CLEAN, &[&by(1, 2), &by(2, 2)]),
+        example("falling numbers of two clients", CLEAN, &[&by(2, 2), &by(1, 1)]),
         example(
             "equal numbers with another client between",
             THIRD_LINE,
@@ -89,11 +58,7 @@ fn numbers() -> Vec<Example> {
             CLEAN,
             &[&by(2, 9), &by(1, 1), &by(1, 2)],
         ),
-        example(
-            "equal numbers of other items",
-            SECOND_LINE,
-            &[&by(1, 2), &write(1, 2, 2, &[7])],
-        ),
+        example("equal numbers of other items", SECOND_LINE, &[&by(1, 2), &write(1, 2, 2, &[7])]),
     ]
 }
 
@@ -105,21 +70,9 @@ fn stamps() -> Vec<Example> {
         example("shown number 0 of client 9", FIRST_LINE, &[&shows(0, 9)]),
         example("shown number 1 of client 0", FIRST_LINE, &[&shows(1, 0)]),
         example("shown number 1 of client 9", FIRST_LINE, &[&shows(1, 9)]),
-        example(
-            "shown number 1 of client 255",
-            FIRST_LINE,
-            &[&shows(1, 255)],
-        ),
-        example(
-            "shown number 1 of client 8, unwritten",
-            "00010001",
-            &[&shows(1, 8)],
-        ),
-        example(
-            "shown greatest number of client 1, unwritten",
-            "00010001",
-            &[&shows(u32::MAX, 1)],
-        ),
+        example("shown number 1 of client 255", FIRST_LINE, &[&shows(1, 255)]),
+        example("shown number 1 of client 8, unwritten", "00010001", &[&shows(1, 8)]),
+        example("shown greatest number of client 1, unwritten", "00010001", &[&shows(u32::MAX, 1)]),
         example(
             "bad stamp in the last entry",
             FIRST_LINE,
@@ -135,25 +88,9 @@ fn first_of_several() -> Vec<Example> {
     let bad = "bad\n";
     vec![
         example("two bad lines", SECOND_LINE, &[&good, bad, bad]),
-        example(
-            "equal number above bad text",
-            SECOND_LINE,
-            &[&good, &equal, bad],
-        ),
-        example(
-            "bad text above an equal number",
-            SECOND_LINE,
-            &[&good, bad, &equal],
-        ),
-        example(
-            "unwritten read above a bad line",
-            SECOND_LINE,
-            &[&unwritten, bad],
-        ),
-        example(
-            "unwritten read above an unended line",
-            THIRD_LINE,
-            &[&good, &unwritten, "2"],
-        ),
+        example("equal number above bad text", SECOND_LINE, &[&good, &equal, bad]),
+        example("bad text above an equal number", SECOND_LINE, &[&good, bad, &equal]),
+        example("unwritten read above a bad line", SECOND_LINE, &[&unwritten, bad]),
+        example("unwritten read above an unended line", THIRD_LINE, &[&good, &unwritten, "2"]),
     ]
 }

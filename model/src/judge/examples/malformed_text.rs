@@ -40,16 +40,8 @@ fn characters() -> Vec<Example> {
             SECOND_LINE,
             &[line, "210100000000000000010000000101000000a9"],
         ),
-        example(
-            "single digit after the last line",
-            SECOND_LINE,
-            &[line, "2"],
-        ),
-        Example {
-            name: "byte ff",
-            log: vec![0xff, b'\n'],
-            verdict: FIRST_LINE,
-        },
+        example("single digit after the last line", SECOND_LINE, &[line, "2"]),
+        Example { name: "byte ff", log: vec![0xff, b'\n'], verdict: FIRST_LINE },
     ]
 }
 
@@ -65,37 +57,18 @@ fn kinds_and_lengths() -> Vec<Example> {
         one("write without number", "20010000000000000001"),
         one("write without values", "2001000000000000000100000001"),
         one("write a byte short", "2001000000000000000100000001000000"),
-        one(
-            "write a byte long",
-            "2001000000000000000100000001000000a900",
-        ),
-        one(
-            "write with a value too many",
-            "2001000000000000000100000001000000a9000000a9",
-        ),
-        one(
-            "write with a value too few",
-            "2001000000000000000300000001000000a9",
-        ),
+        one("write a byte long", "2001000000000000000100000001000000a900"),
+        one("write with a value too many", "2001000000000000000100000001000000a9000000a9"),
+        one("write with a value too few", "2001000000000000000300000001000000a9"),
         one("read without entries", "21020000000000000001"),
         one("read a byte short", "210200000000000000010000000000000000"),
-        one(
-            "read a byte long",
-            "2102000000000000000100000000000000000000",
-        ),
+        one("read a byte long", "2102000000000000000100000000000000000000"),
         one(
             "read with an entry too many",
             "21020000000000000001000000000000000000000000000000000000",
         ),
-        one(
-            "read with an entry too few",
-            "21020000000000000003000000000000000000",
-        ),
-        example(
-            "read of one entry",
-            CLEAN,
-            &["21020000000000000001000000000000000000\n"],
-        ),
+        one("read with an entry too few", "21020000000000000003000000000000000000"),
+        example("read of one entry", CLEAN, &["21020000000000000001000000000000000000\n"]),
         one(
             "two frames on a line",
             "2101000000000000000100000000000000000021010000000000000001000000000000000000",

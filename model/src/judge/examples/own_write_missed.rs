@@ -16,21 +16,9 @@ pub fn examples() -> Vec<Example> {
             "00030002",
             &[&pair, &read(1, 0b11, &[INITIAL, INITIAL])],
         ),
-        example(
-            "own write shown",
-            CLEAN,
-            &[&pair, &read(1, 0b11, &[(1, 1, 7), (1, 1, 8)])],
-        ),
-        example(
-            "own write below the read",
-            CLEAN,
-            &[&read(1, 0b11, &[INITIAL, INITIAL]), &pair],
-        ),
-        example(
-            "own write of another item",
-            CLEAN,
-            &[&pair, &read(1, 0b100, &[INITIAL])],
-        ),
+        example("own write shown", CLEAN, &[&pair, &read(1, 0b11, &[(1, 1, 7), (1, 1, 8)])]),
+        example("own write below the read", CLEAN, &[&read(1, 0b11, &[INITIAL, INITIAL]), &pair]),
+        example("own write of another item", CLEAN, &[&pair, &read(1, 0b100, &[INITIAL])]),
         example(
             "own earlier write shown",
             "00030003",
@@ -54,11 +42,7 @@ pub fn examples() -> Vec<Example> {
         example(
             "smaller number of a greater client shown",
             "00030003",
-            &[
-                &write(2, 0b1, 1, &[9]),
-                &write(1, 0b1, 2, &[7]),
-                &read(1, 0b1, &[(1, 2, 9)]),
-            ],
+            &[&write(2, 0b1, 1, &[9]), &write(1, 0b1, 2, &[7]), &read(1, 0b1, &[(1, 2, 9)])],
         ),
     ]
 }

@@ -23,16 +23,8 @@ pub fn examples() -> Vec<Example> {
             "00010002",
             &[&pair, &read(1, 0b101, &[INITIAL, (0, 0, 1)])],
         ),
-        example(
-            "missed above unwritten",
-            "00030002",
-            &[&pair, &missed, &unwritten],
-        ),
-        example(
-            "fractured above unwritten",
-            "00020002",
-            &[&pair, &fractured, &unwritten],
-        ),
+        example("missed above unwritten", "00030002", &[&pair, &missed, &unwritten]),
+        example("fractured above unwritten", "00020002", &[&pair, &fractured, &unwritten]),
         example(
             "clean read above a fault",
             "00020003",

@@ -1,57 +1,51 @@
 //! What a random read shows: entries of the log's writes, whole or not.
 
-use super::{choose, once_in, pick, Below};
 use crate::frames::log::{LogFrame, Shown};
+use crate::random::Random;
 
-const INITIAL: Shown = Shown {
-    number: 0,
-    client: 0,
-    value: 0,
-};
+const INITIAL: Shown = Shown { number: 0, client: 0, value: 0 };
 
 /// Entries for the read at this place; none if there is a write.
-pub fn random_entries(log: &[LogFrame], place: usize, below: &mut Below) -> Vec<Shown> {
+pub fn random_entries(log: &[LogFrame], place: usize, random: &mut Random) -> Vec<Shown> {
     let LogFrame::Read { client, set, .. } = log[place] else {
         return Vec::new();
     };
     let items = (0..64).filter(|item| set >> item & 1 == 1);
-    let mut entries: Vec<Shown> = if once_in(2, below) {
-        items.map(|item| any_entry(log, item, below)).collect()
+    let mut entries: Vec<Shown> = if random.once_in(2) {
+        items.map(|item| any_entry(log, item, random)).collect()
     } else {
-        let mut seen = some_frames(log, below);
-        if !once_in(3, below) {
+        let mut seen = some_frames(log, random);
+        if !random.once_in(3) {
             seen.extend(own_frames(log, place, client));
         }
         items.map(|item| latest_entry(&seen, item)).collect()
     };
-    if once_in(12, below) {
-        let place = pick(entries.len(), below);
-        entries[place] = altered_entry(entries[place], below);
+    if random.once_in(12) {
+        let place = random.place(entries.len());
+        entries[place] = altered_entry(entries[place], random);
     }
     entries
 }
 
 /// Entries without fault for the read at this place; none if there is a write.
-pub fn faultless_entries(log: &[LogFrame], place: usize, below: &mut Below) -> Vec<Shown> {
+pub fn faultless_entries(log: &[LogFrame], place: usize, random: &mut Random) -> Vec<Shown> {
     let LogFrame::Read { client, set, .. } = log[place] else {
         return Vec::new();
     };
-    let mut seen = some_frames(log, below);
+    let mut seen = some_frames(log, random);
     seen.extend(own_frames(log, place, client));
     let items = (0..64).filter(|item| set >> item & 1 == 1);
     items.map(|item| latest_entry(&seen, item)).collect()
 }
 
 /// Half of the log's frames. The latest entries of whole writes are never fractured.
-fn some_frames<'a>(log: &'a [LogFrame], below: &mut Below) -> Vec<&'a LogFrame> {
-    log.iter().filter(|_| once_in(2, below)).collect()
+fn some_frames<'a>(log: &'a [LogFrame], random: &mut Random) -> Vec<&'a LogFrame> {
+    log.iter().filter(|_| random.once_in(2)).collect()
 }
 
 /// All that the client itself wrote above this place.
 fn own_frames(log: &[LogFrame], place: usize, client: u8) -> impl Iterator<Item = &LogFrame> {
-    log[..place]
-        .iter()
-        .filter(move |frame| frame.client() == client)
+    log[..place].iter().filter(move |frame| frame.client() == client)
 }
 
 /// The latest of the frames' entries for the item.
@@ -64,21 +58,16 @@ fn latest_entry(frames: &[&LogFrame], item: u32) -> Shown {
 }
 
 /// Any of the log's entries for the item, or the initial one.
-fn any_entry(log: &[LogFrame], item: u32, below: &mut Below) -> Shown {
+fn any_entry(log: &[LogFrame], item: u32, random: &mut Random) -> Shown {
     let mut entries = vec![INITIAL];
     entries.extend(log.iter().filter_map(|frame| entry(frame, item)));
-    choose(&entries, below)
+    random.pick(&entries)
 }
 
 /// What a write leaves to be shown of the item.
 fn entry(frame: &LogFrame, item: u32) -> Option<Shown> {
     match frame {
-        LogFrame::Write {
-            client,
-            set,
-            number,
-            values,
-        } if set >> item & 1 == 1 => {
+        LogFrame::Write { client, set, number, values } if set >> item & 1 == 1 => {
             let smaller_items = set & ((1 << item) - 1);
             Some(Shown {
                 number: *number,
@@ -91,10 +80,10 @@ fn entry(frame: &LogFrame, item: u32) -> Option<Shown> {
 }
 
 /// The entry with another value, number or client, or initial but for its value.
-fn altered_entry(mut entry: Shown, below: &mut Below) -> Shown {
-    (entry.number, entry.client) = match below(4) {
+fn altered_entry(mut entry: Shown, random: &mut Random) -> Shown {
+    (entry.number, entry.client) = match random.below(4) {
         0 => (entry.number.saturating_add(1), entry.client.max(1)),
-        1 => (entry.number.max(1), 1 + below(8) as u8),
+        1 => (entry.number.max(1), 1 + random.below(8) as u8),
         2 => (0, 0),
         _ => {
             entry.value ^= 1;

@@ -12,11 +12,7 @@ pub fn every_small_log() -> Vec<Vec<u8>> {
     for first in &writes {
         for second in &writes {
             for read in &reads {
-                for order in [
-                    [read, first, second],
-                    [first, read, second],
-                    [first, second, read],
-                ] {
+                for order in [[read, first, second], [first, read, second], [first, second, read]] {
                     logs.push(order.map(String::as_bytes).concat());
                 }
             }
@@ -65,17 +61,9 @@ fn every_read() -> Vec<String> {
 
 /// The initial entry of an item, and one for each stamp.
 fn every_entry(item: u32) -> Vec<Shown> {
-    let mut entries = vec![Shown {
-        number: 0,
-        client: 0,
-        value: 0,
-    }];
+    let mut entries = vec![Shown { number: 0, client: 0, value: 0 }];
     for (number, client) in STAMPS {
-        entries.push(Shown {
-            number,
-            client,
-            value: value(number, client, item),
-        });
+        entries.push(Shown { number, client, value: value(number, client, item) });
     }
     entries
 }

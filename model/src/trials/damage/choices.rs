@@ -1,10 +1,9 @@
 //! Calls on a damaged block, mostly ones that meet the damage.
 
+use crate::call::Call;
 use crate::layout::places;
-use crate::promise::Call;
 use crate::random::Random;
-use crate::store::message::Message;
-use crate::store::set::size;
+use crate::set::size;
 use crate::store::tables::{Tables, IDLE, READ};
 
 pub(super) struct Chooser<'a> {
@@ -21,12 +20,7 @@ impl Chooser<'_> {
             0 => greatest + 1,
             _ => self.random.between(1, greatest),
         };
-        Call::Fresh {
-            long_enough: true,
-            clients: size(8),
-            partitions: size(8),
-            items: size(64),
-        }
+        Call::Fresh { long_enough: true, clients: size(8), partitions: size(8), items: size(64) }
     }
 
     pub(super) fn read(&mut self) -> Call {
@@ -42,11 +36,7 @@ impl Chooser<'_> {
             0 => self.random.below(260),
             _ => 4 * size(set),
         };
-        Call::Write {
-            client,
-            set,
-            values: self.random.bytes(length as usize),
-        }
+        Call::Write { client, set, values: self.random.bytes(length as usize) }
     }
 
     /// The damaged message, or one of the damaged client's, or any.
@@ -55,7 +45,7 @@ impl Chooser<'_> {
         let any = self.random.below(messages.len() as u64 + 1);
         let client = places::client_at(self.damaged).map(|client| client as u64);
         let of_the_client: Vec<u64> = (0..messages.len() as u64)
-            .filter(|place| client == Some(client_of(&messages[*place as usize])))
+            .filter(|place| client == Some(messages[*place as usize].client()))
             .collect();
         let place = match places::message_at(self.damaged) {
             Some(place) if self.random.percent(70) => place as u64,
@@ -78,21 +68,15 @@ impl Chooser<'_> {
             }
             false => 14,
         };
-        let room = self
-            .random
-            .pick(&[0, frame - 1, frame, frame, frame + 3, 600]);
-        Call::Show {
-            client,
-            output: self.random.bytes(room as usize),
-        }
+        let room = self.random.pick(&[0, frame - 1, frame, frame, frame + 3, 600]);
+        Call::Show { client, output: self.random.bytes(room as usize) }
     }
 
     /// Mostly the damaged client, or one that is idle.
     fn client(&mut self) -> u64 {
         let clients = self.tables.sizes.clients;
-        let idle: Vec<u64> = (1..=clients)
-            .filter(|client| self.tables.client(*client).mode == IDLE)
-            .collect();
+        let idle: Vec<u64> =
+            (1..=clients).filter(|client| self.tables.client(*client).mode == IDLE).collect();
         match places::client_at(self.damaged) {
             Some(client) if self.random.percent(50) => client as u64,
             _ if !idle.is_empty() && self.random.percent(90) => self.random.pick(&idle),
@@ -109,14 +93,5 @@ impl Chooser<'_> {
             2 => u64::MAX >> (64 - items),
             _ => 1 << self.random.below(items) | 1 << self.random.below(items),
         }
-    }
-}
-
-/// The client that a message is of.
-fn client_of(message: &Message) -> u64 {
-    match message {
-        Message::Prepare(version) => version.stamp.client,
-        Message::Prepared { stamp, .. } | Message::Commit { stamp, .. } => stamp.client,
-        Message::Get { client, .. } | Message::Got { client, .. } => *client,
     }
 }

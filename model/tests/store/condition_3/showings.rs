@@ -82,8 +82,8 @@ fn an_own_write_missed_is_found() {
     });
 }
 
-/// Client 1 writes 7 and 8 to items 0 and 1; client 2's read of item 0 is answered when this many prepares are
-/// delivered, and then shows an entry of that write.
+/// Client 1 writes 7 and 8 to items 0 and 1; client 2's read of item 0 is answered when this many
+/// prepares are delivered, and then shows an entry of that write.
 fn entry_shown_after(prepares: usize) -> Result<Summary, Violation> {
     let mut calls = vec![fresh(2, 2, 2), write(1, &[(0, 7), (1, 8)])];
     calls.extend(vec![deliver(0); prepares]);

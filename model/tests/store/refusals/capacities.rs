@@ -1,17 +1,19 @@
 //! Load and versions at and past their limits: 8, 9 and 1.
 
 use super::{accepted, refused};
-use crate::support::{tables, tables_with_versions, version};
+use crate::support::{
+    deliver, made, show_in, start_read, start_write, tables, tables_with_versions, version,
+};
+use koolvent_model::stamp::Stamp;
 use koolvent_model::store::message::Message;
-use koolvent_model::store::stamp::Stamp;
 use koolvent_model::store::tables::{Client, Sizes, Tables, READING, WRITING};
 
 fn first_items(count: u32) -> u64 {
     u64::MAX >> (64 - count)
 }
 
-/// The largest tables, where client 3 has a running transaction of 64 items and still awaits item 0 alone, and so
-/// many gets lie in flight.
+/// The largest tables, where client 3 has a running transaction of 64 items and still awaits item 0
+/// alone, and so many gets lie in flight.
 fn with_replies_come(mode: u64, messages: usize) -> Tables {
     let mut tables = tables(8, 8, 64);
     *tables.client_mut(3) = Client {
@@ -22,11 +24,7 @@ fn with_replies_come(mode: u64, messages: usize) -> Tables {
         stamps: [Stamp::new(1, 3); 64],
         ..Client::INITIAL
     };
-    let get = Message::Get {
-        client: 3,
-        item: 5,
-        stamp: Stamp::INITIAL,
-    };
+    let get = Message::Get { client: 3, item: 5, stamp: Stamp::INITIAL };
     tables.messages = vec![get; messages];
     tables
 }
@@ -47,48 +45,45 @@ fn a_start_up_to_a_load_of_128_is_accepted_and_past_it_is_8() {
     let fits = first_items(128 - 63 - 5);
     let over = first_items(128 - 63 - 5 + 1);
     let values = [0; 256];
-    accepted(&tables, |store| store.start_read(1, fits));
-    refused(&tables, 8, |store| store.start_read(1, over));
+    accepted(&tables, start_read(1, fits));
+    refused(&tables, 8, start_read(1, over));
     let write = |set: u64| (set, &values[..4 * set.count_ones() as usize]);
     let (set, bytes) = write(fits);
-    accepted(&tables, |store| store.start_write(1, set, bytes));
+    accepted(&tables, start_write(1, set, bytes));
     let (set, bytes) = write(over);
-    refused(&tables, 8, |store| store.start_write(1, set, bytes));
+    refused(&tables, 8, start_write(1, set, bytes));
 }
 
 #[test]
 fn a_load_of_128_is_usable_and_one_item_more_is_8() {
     let full = with_replies_come(WRITING, 65);
     assert_eq!(full.load(), 128);
-    refused(&full, 8, |store| store.start_read(1, 1));
-    refused(&full, 8, |store| store.start_write(1, 1, &[0; 4]));
-    refused(&full, 13, |store| store.show(1, &mut [0; 600]));
-    accepted(&full, |store| store.deliver(64));
+    refused(&full, 8, start_read(1, 1));
+    refused(&full, 8, start_write(1, 1, &[0; 4]));
+    refused(&full, 13, show_in(1, &[0; 600]));
+    accepted(&full, deliver(64));
 }
 
 #[test]
 fn a_load_over_128_is_1() {
     let over = with_replies_come(WRITING, 66);
-    refused(&over, 1, |store| store.start_read(1, 1));
-    refused(&over, 1, |store| store.start_write(1, 1, &[0; 4]));
-    refused(&over, 1, |store| store.deliver(0));
-    refused(&over, 1, |store| store.show(1, &mut [0; 600]));
+    refused(&over, 1, start_read(1, 1));
+    refused(&over, 1, start_write(1, 1, &[0; 4]));
+    refused(&over, 1, deliver(0));
+    refused(&over, 1, show_in(1, &[0; 600]));
     let all_messages = with_replies_come(READING, 129);
-    refused(&all_messages, 1, |store| store.deliver(0));
-    accepted(&with_replies_come(READING, 128), |store| store.deliver(0));
+    refused(&all_messages, 1, deliver(0));
+    accepted(&with_replies_come(READING, 128), deliver(0));
 }
 
 #[test]
 fn the_last_prepared_reply_of_a_full_store_is_accepted_and_its_commits_fit() {
     let mut full = with_replies_come(WRITING, 64);
-    full.messages.push(Message::Prepared {
-        item: 0,
-        stamp: Stamp::new(1, 3),
-    });
+    full.messages.push(Message::Prepared { item: 0, stamp: Stamp::new(1, 3) });
     assert_eq!(full.load(), 128);
-    let mut store = koolvent_model::store::Store::with_tables(full);
-    assert_eq!(store.deliver(64).bytes(), [0, 2, 0, 64 + 8, 2]);
-    assert_eq!(store.tables.load(), 64 + 8);
+    let (answer, after, _) = made(&full, deliver(64));
+    assert_eq!(answer.bytes(&[]), [0, 2, 0, 64 + 8, 2]);
+    assert_eq!(after.load(), 64 + 8);
 }
 
 /// So many stored versions of item 0, and so many prepares of item 1 in flight.
@@ -104,13 +99,9 @@ fn with_versions(stored: u64, prepares: u64) -> Tables {
 fn a_write_up_to_512_versions_and_prepares_is_accepted_and_past_them_is_9() {
     for (stored, prepares) in [(500, 0), (480, 20), (450, 50)] {
         let tables = with_versions(stored, prepares);
-        accepted(&tables, |store| {
-            store.start_write(2, first_items(12), &[0; 48])
-        });
-        refused(&tables, 9, |store| {
-            store.start_write(2, first_items(13), &[0; 52])
-        });
-        accepted(&tables, |store| store.start_read(2, first_items(13)));
+        accepted(&tables, start_write(2, first_items(12), &[0; 48]));
+        refused(&tables, 9, start_write(2, first_items(13), &[0; 52]));
+        accepted(&tables, start_read(2, first_items(13)));
     }
 }
 
@@ -118,31 +109,27 @@ fn a_write_up_to_512_versions_and_prepares_is_accepted_and_past_them_is_9() {
 fn at_512_versions_and_prepares_the_store_is_usable_and_a_write_is_9() {
     for (stored, prepares) in [(512, 0), (492, 20)] {
         let full = with_versions(stored, prepares);
-        refused(&full, 9, |store| store.start_write(2, 1, &[0; 4]));
-        accepted(&full, |store| store.start_read(2, 1));
+        refused(&full, 9, start_write(2, 1, &[0; 4]));
+        accepted(&full, start_read(2, 1));
     }
-    accepted(&with_versions(492, 20), |store| store.deliver(19));
+    accepted(&with_versions(492, 20), deliver(19));
 }
 
 #[test]
 fn over_512_versions_and_prepares_is_1() {
     for (stored, prepares) in [(513, 0), (493, 20)] {
         let over = with_versions(stored, prepares);
-        refused(&over, 1, |store| store.start_write(2, 1, &[0; 4]));
-        refused(&over, 1, |store| store.start_read(2, 1));
-        refused(&over, 1, |store| store.deliver(0));
-        refused(&over, 1, |store| store.show(2, &mut [0; 600]));
+        refused(&over, 1, start_write(2, 1, &[0; 4]));
+        refused(&over, 1, start_read(2, 1));
+        refused(&over, 1, deliver(0));
+        refused(&over, 1, show_in(2, &[0; 600]));
     }
 }
 
 #[test]
 fn the_load_is_looked_at_before_the_versions() {
     let mut full = with_versions(512, 0);
-    let get = Message::Get {
-        client: 1,
-        item: 0,
-        stamp: Stamp::INITIAL,
-    };
+    let get = Message::Get { client: 1, item: 0, stamp: Stamp::INITIAL };
     full.messages = vec![get; 128];
-    refused(&full, 8, |store| store.start_write(2, 1, &[0; 4]));
+    refused(&full, 8, start_write(2, 1, &[0; 4]));
 }

@@ -1,23 +1,25 @@
-//! The refusal table: each refusal under its stated condition, in order, and leaving everything as it was.
+//! The refusal table: each refusal under its stated condition, in order, and leaving everything as
+//! it was.
 
 mod capacities;
 mod deliveries;
 mod order;
 mod starts;
 
-use koolvent_model::store::answer::Answer;
+use crate::support::made;
+use koolvent_model::answer::Answer;
+use koolvent_model::call::Call;
 use koolvent_model::store::tables::Tables;
-use koolvent_model::store::Store;
 
 /// The call on these tables is refused so and changes nothing.
-fn refused(tables: &Tables, refusal: u8, call: impl FnOnce(&mut Store) -> Answer) {
-    let mut store = Store::with_tables(tables.clone());
-    assert_eq!(call(&mut store), Answer::Refused(refusal));
-    assert_eq!(store.tables, *tables);
+fn refused(tables: &Tables, refusal: u64, call: Call) {
+    let (answer, after, output) = made(tables, call.clone());
+    assert_eq!(answer, Answer::Refused(refusal));
+    assert_eq!((after, output), (tables.clone(), call.output()));
 }
 
 /// The call on these tables is accepted.
-fn accepted(tables: &Tables, call: impl FnOnce(&mut Store) -> Answer) {
-    let answer = call(&mut Store::with_tables(tables.clone()));
+fn accepted(tables: &Tables, call: Call) {
+    let (answer, _, _) = made(tables, call);
     assert!(!matches!(answer, Answer::Refused(_)), "{answer:?}");
 }

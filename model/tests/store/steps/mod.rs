@@ -5,37 +5,25 @@ mod showings;
 mod starts;
 mod writes;
 
-use crate::support::set_of;
-use koolvent_model::store::answer::Answer;
+use crate::support::{deliver, made, set_of};
+use koolvent_model::answer::Answer;
+use koolvent_model::stamp::{Entry, Stamp};
 use koolvent_model::store::message::Message;
-use koolvent_model::store::stamp::{Entry, Stamp};
 use koolvent_model::store::tables::{Client, Tables, WRITING};
-use koolvent_model::store::Store;
 
 fn get(client: u64, item: u64, stamp: Stamp) -> Message {
-    Message::Get {
-        client,
-        item,
-        stamp,
-    }
+    Message::Get { client, item, stamp }
 }
 
 fn got(client: u64, item: u64, value: u64, stamp: Stamp, latest: Entry) -> Message {
-    Message::Got {
-        client,
-        item,
-        value,
-        stamp,
-        latest,
-    }
+    Message::Got { client, item, value, stamp, latest }
 }
 
 /// Delivers the only message of the tables and gives the tables after it.
 fn delivered(mut tables: Tables, message: Message) -> (Answer, Tables) {
     tables.messages = vec![message];
-    let mut store = Store::with_tables(tables);
-    let answer = store.deliver(0);
-    (answer, store.tables)
+    let (answer, after, _) = made(&tables, deliver(0));
+    (answer, after)
 }
 
 /// Client 1 writing {0, 2} with values 7 and 8 and stamp (1, 1), still awaiting these.

@@ -2,8 +2,8 @@
 
 use super::{delivered, get, got, writing};
 use crate::support::{entry, set_of, tables, version};
+use koolvent_model::stamp::{Entry, Stamp};
 use koolvent_model::store::message::Message;
-use koolvent_model::store::stamp::{Entry, Stamp};
 use koolvent_model::store::tables::{Client, Ended, READ, READING};
 
 #[test]
@@ -20,7 +20,7 @@ fn a_get_is_answered_with_exactly_the_stamp_asked_for_and_the_latest() {
     let mut expected = before.clone();
     expected.messages = vec![got(2, 1, 7, Stamp::new(2, 1), entry(3, 1, &[1]))];
     let (answer, after) = delivered(before, get(2, 1, Stamp::new(2, 1)));
-    assert_eq!(answer.bytes(), [0, 4, 0, 1, 0]);
+    assert_eq!(answer.bytes(&[]), [0, 4, 0, 1, 0]);
     assert_eq!(after, expected);
 }
 
@@ -53,7 +53,7 @@ fn a_got_that_is_not_the_last_keeps_its_value_and_sees_the_latest() {
     expected.client_mut(2).values[1] = 9;
     expected.view_mut(2)[1] = latest;
     let (answer, after) = delivered(before, got(2, 1, 9, Stamp::new(1, 1), latest));
-    assert_eq!(answer.bytes(), [0, 5, 0, 0, 0]);
+    assert_eq!(answer.bytes(&[]), [0, 5, 0, 0, 0]);
     assert_eq!(after, expected);
 }
 
@@ -62,20 +62,13 @@ fn the_last_got_ends_the_read_and_leaves_its_client_no_set() {
     let mut before = tables(2, 2, 3);
     *before.client_mut(2) = reading(&[1]);
     let mut expected = before.clone();
-    let mut last = Ended {
-        kind: READ,
-        set: set_of(&[0, 1]),
-        ..Ended::NONE
-    };
+    let mut last = Ended { kind: READ, set: set_of(&[0, 1]), ..Ended::NONE };
     last.stamps[1] = Stamp::new(1, 1);
     last.values[1] = 9;
-    *expected.client_mut(2) = Client {
-        last,
-        ..Client::INITIAL
-    };
+    *expected.client_mut(2) = Client { last, ..Client::INITIAL };
     let reply = got(2, 1, 9, Stamp::new(1, 1), Entry::INITIAL);
     let (answer, after) = delivered(before, reply);
-    assert_eq!(answer.bytes(), [0, 5, 0, 0, 1]);
+    assert_eq!(answer.bytes(&[]), [0, 5, 0, 0, 1]);
     assert_eq!(after, expected);
 }
 
@@ -96,13 +89,10 @@ fn gets_and_commits_are_accepted_whatever_their_client_does() {
     for record in [Client::INITIAL, writing(&[0]), reading(&[1])] {
         let mut before = tables(2, 2, 3);
         *before.client_mut(1) = record;
-        let commit = Message::Commit {
-            partition: 0,
-            stamp: Stamp::new(1, 1),
-        };
+        let commit = Message::Commit { partition: 0, stamp: Stamp::new(1, 1) };
         for message in [commit, get(1, 2, Stamp::INITIAL)] {
             let (answer, after) = delivered(before.clone(), message);
-            assert_eq!(answer.bytes()[0], 0, "{message:?}");
+            assert_eq!(answer.bytes(&[])[0], 0, "{message:?}");
             assert_eq!(after.clients, before.clients);
         }
     }

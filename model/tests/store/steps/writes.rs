@@ -1,12 +1,11 @@
 //! Deliveries of prepares, prepared replies and commits.
 
 use super::{delivered, get, writing};
-use crate::support::{entry, set_of, tables, version};
-use koolvent_model::store::answer::{Answer, Outcome};
+use crate::support::{deliver, entry, made, set_of, tables, version};
+use koolvent_model::answer::{Answer, WRITE_ENDED};
+use koolvent_model::stamp::{Entry, Stamp};
 use koolvent_model::store::message::Message;
-use koolvent_model::store::stamp::{Entry, Stamp};
 use koolvent_model::store::tables::{Client, Ended, Tables, WRITE};
-use koolvent_model::store::Store;
 
 #[test]
 fn a_prepare_is_stored_last_and_its_reply_joins_at_the_end() {
@@ -15,11 +14,8 @@ fn a_prepare_is_stored_last_and_its_reply_joins_at_the_end() {
     let prepared = version(0, 7, stamp, &[0, 2]);
     let mut before = tables(2, 2, 3);
     before.versions = vec![stored];
-    before.messages = vec![
-        get(2, 0, Stamp::INITIAL),
-        Message::Prepare(prepared),
-        get(2, 1, Stamp::INITIAL),
-    ];
+    before.messages =
+        vec![get(2, 0, Stamp::INITIAL), Message::Prepare(prepared), get(2, 1, Stamp::INITIAL)];
     let mut expected = before.clone();
     expected.versions = vec![stored, prepared];
     expected.messages = vec![
@@ -27,10 +23,9 @@ fn a_prepare_is_stored_last_and_its_reply_joins_at_the_end() {
         get(2, 1, Stamp::INITIAL),
         Message::Prepared { item: 0, stamp },
     ];
-    let mut store = Store::with_tables(before);
-    let answer = store.deliver(1);
-    assert_eq!(answer.bytes(), [0, 1, 0, 3, 0]);
-    assert_eq!(store.tables, expected);
+    let (answer, after, _) = made(&before, deliver(1));
+    assert_eq!(answer.bytes(&[]), [0, 1, 0, 3, 0]);
+    assert_eq!(after, expected);
 }
 
 #[test]
@@ -39,12 +34,9 @@ fn a_prepared_reply_that_is_not_the_last_strikes_its_item_alone() {
     *before.client_mut(1) = writing(&[0, 2]);
     let mut expected = before.clone();
     *expected.client_mut(1) = writing(&[0]);
-    let prepared = Message::Prepared {
-        item: 2,
-        stamp: Stamp::new(1, 1),
-    };
+    let prepared = Message::Prepared { item: 2, stamp: Stamp::new(1, 1) };
     let (answer, after) = delivered(before, prepared);
-    assert_eq!(answer.bytes(), [0, 2, 0, 0, 0]);
+    assert_eq!(answer.bytes(&[]), [0, 2, 0, 0, 0]);
     assert_eq!(after, expected);
 }
 
@@ -55,10 +47,7 @@ fn last_prepared(partitions: u64, view: &[(usize, Entry)]) -> (Answer, Tables, T
     for (item, entry) in view {
         before.view_mut(1)[*item] = *entry;
     }
-    let prepared = Message::Prepared {
-        item: 0,
-        stamp: Stamp::new(1, 1),
-    };
+    let prepared = Message::Prepared { item: 0, stamp: Stamp::new(1, 1) };
     let (answer, after) = delivered(before.clone(), prepared);
     (answer, before, after)
 }
@@ -70,34 +59,13 @@ fn the_last_prepared_reply_ends_the_write_and_leaves_its_client_no_set() {
     let mut expected = before;
     expected.view_mut(1)[0] = entry(1, 1, &[0, 2]);
     expected.view_mut(1)[2] = entry(1, 1, &[0, 2]);
-    expected.messages = vec![
-        Message::Commit {
-            partition: 0,
-            stamp,
-        },
-        Message::Commit {
-            partition: 2,
-            stamp,
-        },
-    ];
-    let mut last = Ended {
-        kind: WRITE,
-        set: set_of(&[0, 2]),
-        stamp,
-        ..Ended::NONE
-    };
+    expected.messages =
+        vec![Message::Commit { partition: 0, stamp }, Message::Commit { partition: 2, stamp }];
+    let mut last = Ended { kind: WRITE, set: set_of(&[0, 2]), stamp, ..Ended::NONE };
     last.values[0] = 7;
     last.values[2] = 8;
-    *expected.client_mut(1) = Client {
-        count: 1,
-        last,
-        ..Client::INITIAL
-    };
-    let ended = Answer::Delivered {
-        kind: 2,
-        messages: 2,
-        outcome: Outcome::WriteEnded,
-    };
+    *expected.client_mut(1) = Client { count: 1, last, ..Client::INITIAL };
+    let ended = Answer::Delivered { kind: 2, messages: 2, outcome: WRITE_ENDED };
     assert_eq!(answer, ended);
     assert_eq!(after, expected);
 }
@@ -105,10 +73,7 @@ fn the_last_prepared_reply_ends_the_write_and_leaves_its_client_no_set() {
 #[test]
 fn a_write_of_two_items_in_one_partition_sends_one_commit() {
     let (_, _, after) = last_prepared(2, &[]);
-    let commit = Message::Commit {
-        partition: 0,
-        stamp: Stamp::new(1, 1),
-    };
+    let commit = Message::Commit { partition: 0, stamp: Stamp::new(1, 1) };
     assert_eq!(after.messages, [commit]);
 }
 
@@ -135,12 +100,9 @@ fn a_commit_is_taken_as_latest_by_the_items_of_its_partition_with_that_version()
     let mut expected = before.clone();
     expected.latest[0] = entry(2, 1, &[0, 1, 2]);
     expected.latest[2] = entry(2, 1, &[0, 1, 2]);
-    let commit = Message::Commit {
-        partition: 0,
-        stamp,
-    };
+    let commit = Message::Commit { partition: 0, stamp };
     let (answer, after) = delivered(before, commit);
-    assert_eq!(answer.bytes(), [0, 3, 0, 0, 0]);
+    assert_eq!(answer.bytes(&[]), [0, 3, 0, 0, 0]);
     assert_eq!(after, expected);
 }
 
@@ -155,21 +117,15 @@ fn a_late_commit_leaves_later_and_equal_latest() {
     before.latest[1] = entry(2, 1, &[1]);
     before.latest[2] = entry(3, 1, &[2]);
     let expected = before.clone();
-    let commit = Message::Commit {
-        partition: 0,
-        stamp,
-    };
+    let commit = Message::Commit { partition: 0, stamp };
     let (_, after) = delivered(before, commit);
     assert_eq!(after, expected);
 }
 
 #[test]
 fn a_commit_with_no_version_of_its_stamp_does_nothing() {
-    let commit = Message::Commit {
-        partition: 1,
-        stamp: Stamp::new(9, 2),
-    };
+    let commit = Message::Commit { partition: 1, stamp: Stamp::new(9, 2) };
     let (answer, after) = delivered(tables(2, 2, 3), commit);
-    assert_eq!(answer.bytes(), [0, 3, 0, 0, 0]);
+    assert_eq!(answer.bytes(&[]), [0, 3, 0, 0, 0]);
     assert_eq!(after, tables(2, 2, 3));
 }

@@ -8,14 +8,14 @@ use mathlib.Core.Path.{_≡_, refl, sym, _∙_}
 use Prim.Native.Nat.{ℕ, _-_, _≤_, _+_, _<_}
 use native.Mathlib.Nat.{sub-zero, le-antisymm}
 use native.Mathlib.Omega.{arith}
-use Rattle.judge_log.specs.Cut.{framesIn}
-use Rattle.judge.specs.Findings.{faultAt}
+use Rattle.judge_frames.specs.Cut.{framesIn}
+use Rattle.findings.specs.Findings.{faultAt}
 use Rattle.judge.specs.Search.{itemFault, writeFault}
 use Rattle.judge.proofs.Searching.{fault-search, item-not, item-unwritten, item-writes}
 use Rattle.judge.proofs.Searching.{write-fault}
-use Rattle.judge_log.specs.Some.{someFrom, firstFrom}
-use Rattle.judge_log.proofs.Some.{someFrom-here, someFrom-next, someFrom-end, firstFrom-here}
-use Rattle.judge_log.proofs.Some.{firstFrom-next, firstFrom-end}
+use Rattle.log.specs.Some.{someFrom, firstFrom}
+use Rattle.log.proofs.Some.{someFrom-here, someFrom-next, someFrom-end, firstFrom-here}
+use Rattle.log.proofs.Some.{firstFrom-next, firstFrom-end}
 use Rattle.judge.proofs.search.first_fault.Statement.{statement}
 use Rattle.judge.proofs.search.first_fault.Tie as tie
 

@@ -4,12 +4,12 @@ use mathlib.Core.Path.{_≡_, refl, sym, ap, ap₂, _∙_}
 use mathlib.Core.Bool.{_&&_}
 use Prim.Native.Nat.{_-_}
 use Rattle.itemset.specs.Set.{has}
-use Rattle.judge_log.specs.Cut.{framesIn}
-use Rattle.judge_log.specs.Log.{shown}
+use Rattle.judge_frames.specs.Cut.{framesIn}
+use Rattle.log.specs.Log.{shown}
 use Rattle.judge.specs.Search.{findingOf}
 use Rattle.judge.proofs.Searching.{holds-search}
-use Rattle.judge_log.specs.Some.{someFrom}
-use Rattle.judge_log.proofs.Some.{someFrom-here, someFrom-next, someFrom-end}
+use Rattle.log.specs.Some.{someFrom}
+use Rattle.log.proofs.Some.{someFrom-here, someFrom-next, someFrom-end}
 use borrow.Author.Needs.{needs}
 use Rattle.judge.proofs.search.holds_at.Statement.{statement}
 use Rattle.judge.proofs.search.holds_at.Tie as tie

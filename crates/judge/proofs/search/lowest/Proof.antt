@@ -1,6 +1,6 @@
 -- `judge::search::lowest` meets its contract: each test rewrites the definition by one finding.
 use mathlib.Core.Path.{sym, _∙_}
-use Rattle.judge.specs.Findings.{lowest}
+use Rattle.findings.specs.Findings.{lowest}
 use borrow.Author.Needs.{needs}
 use Rattle.judge.proofs.search.lowest.Statement.{statement}
 use Rattle.judge.proofs.search.lowest.Tie as tie

@@ -9,7 +9,7 @@ use native.Mathlib.Omega.{arith}
 use Rattle.basics.proofs.Cases.{by-test, not-both, and-both}
 use Rattle.basics.specs.Lists.{every}
 use Rattle.basics.proofs.Lists.{every-at}
-use Rattle.judge_log.specs.Log.{isWhole, entryNumber, entryWriter, entriesWhole}
+use Rattle.log.specs.Log.{isWhole, entryNumber, entryWriter, entriesWhole}
 use borrow.Author.Needs.{needs}
 use Rattle.judge_log.proofs.form.entries_whole.Statement.{statement}
 use Rattle.judge_log.proofs.form.entries_whole.Tie as tie
@@ -20,8 +20,8 @@ Inv-loop f n i₀ i = (every i (λ j. isWhole (entryNumber f j) (entryWriter f j
 abbrev μ-loop : tie.MeasureT-loop
 μ-loop f n i₀ i = n - i
 
-items-requires : tie.Need-items-requires Inv-loop μ-loop
-items-requires c κs = search needs
+shown-count-requires : tie.Need-shown-count-requires Inv-loop μ-loop
+shown-count-requires c κs = search needs
 
 loop-holds : tie.Need-loop-holds Inv-loop μ-loop
 unfolding every
@@ -49,9 +49,9 @@ returns : tie.Need-returns Inv-loop μ-loop
 unfolding entriesWhole
 returns c =
     let f = c .before .before .before .before .before .before .args .f .now in
-    let n = c .before .before .before .before .items .ensures .0 in
+    let n = c .before .before .before .before .shown-count .ensures .0 in
     sym
-    (by-test (every (c .before .before .before .before .items .result)
+    (by-test (every (c .before .before .before .before .shown-count .result)
     (λ i. isWhole (entryNumber f i) (entryWriter f i)))
     (λ t. not-both (every-at _ _ t (c .before .before .before .loop .i)
     (c .before .before .loop-test .taken))
@@ -64,7 +64,7 @@ returns-2 c =
     let f = c .before .before .before .before .args .f .now in
     sym
     (ap (λ (m : ℕ). every m (λ i. isWhole (entryNumber f i) (entryWriter f i)))
-    (sym (c .before .before .items .ensures .0)
+    (sym (c .before .before .shown-count .ensures .0)
     ∙ sym (le-antisymm (c .before .loop .inv .1) (c .loop-test .left)))
     ∙ c .before .loop .inv .0)
 
@@ -74,7 +74,7 @@ entries-whole-spec =
     (tie.spec
     Inv-loop
     μ-loop
-    items-requires
+    shown-count-requires
     loop-holds
     entry-whole-requires
     add-i

@@ -1,4 +1,6 @@
 -- `judge_log::form::entry_whole` meets its contract.
+use mathlib.Core.Path.{ap₂, _∙_}
+use Rattle.log.specs.Log.{isWhole}
 use borrow.Author.Needs.{needs}
 use Rattle.judge_log.proofs.form.entry_whole.Statement.{statement}
 use Rattle.judge_log.proofs.form.entry_whole.Tie as tie
@@ -22,7 +24,9 @@ is-whole-requires : tie.Need-is-whole-requires
 is-whole-requires c κs = search needs
 
 returns : tie.Need-returns
-returns c = cc
+returns c =
+    c .is-whole .ensures
+    ∙ ap₂ isWhole (c .before .before .word .ensures .0) (c .before .byte .ensures .0)
 
 pub entry-whole-spec : {M : Type 1} → statement M
 entry-whole-spec =

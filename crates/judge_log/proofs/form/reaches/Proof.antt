@@ -1,11 +1,12 @@
 -- `judge_log::form::reaches` meets its contract.
-use Rattle.judge_log.specs.Log.{reaches}
+use mathlib.Core.Bool.{_&&_}
+use mathlib.Core.Path.{ap₂}
+use Prim.Native.Nat.{ℕ}
+use lib.Dec.{eqb, leb}
+use Rattle.log.specs.Log.{reaches}
 use borrow.Author.Needs.{needs}
 use Rattle.judge_log.proofs.form.reaches.Statement.{statement}
 use Rattle.judge_log.proofs.form.reaches.Tie as tie
-
-byte-requires : tie.Need-byte-requires
-byte-requires c κs = search needs
 
 client-requires : tie.Need-client-requires
 client-requires c κs = search needs
@@ -15,7 +16,10 @@ write-number-requires c κs = search needs
 
 returns : tie.Need-returns
 unfolding reaches
-returns c = cc
+returns c =
+    let a = c .before .before .before .args in
+    ap₂ (λ (d n : ℕ). eqb d (a .of) && leb (a .number) n) (c .before .client .ensures .0)
+    (c .write-number .ensures .0)
 
 pub reaches-spec : {M : Type 1} → statement M
-reaches-spec = tie.close (tie.spec byte-requires client-requires write-number-requires returns)
+reaches-spec = tie.close (tie.spec client-requires write-number-requires returns)

@@ -55,7 +55,8 @@ loop-again c = (
   omega (
     arith,
     counted-next
-        (c .before .before .before .before .before .args .log .now) (c .before .before .before .loop .i)
+        (c .before .before .before .before .before .args .log .now)
+        (c .before .before .before .loop .i)
         (c .before .before .loop-test .taken),
     c .is-end .ensures .0,
   ),

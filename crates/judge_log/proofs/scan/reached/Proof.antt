@@ -3,10 +3,10 @@
 use mathlib.Core.Path.{_≡_, refl, sym, ap, _∙_}
 use Prim.Native.Nat.{_-_}
 use lib.ListN.{drop}
-use Rattle.judge_log.specs.Cut.{frameIn, framesIn}
-use Rattle.judge_log.proofs.Cuts.{cut-here, cut-next, cut-end}
-use Rattle.judge_log.specs.Log.{reaches}
-use Rattle.judge_log.specs.Some.{some}
+use Rattle.judge_frames.specs.Cut.{frameIn, framesIn}
+use Rattle.judge_frames.proofs.Cuts.{cut-here, cut-next, cut-end}
+use Rattle.log.specs.Log.{reaches}
+use Rattle.log.specs.Some.{some}
 use borrow.Author.Needs.{needs}
 use Rattle.judge_log.proofs.scan.reached.Statement.{statement}
 use Rattle.judge_log.proofs.scan.reached.Tie as tie

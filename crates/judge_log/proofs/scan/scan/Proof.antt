@@ -2,16 +2,15 @@
 -- the rest of the log is what is left of its lines. The measure is what is left of the log.
 use mathlib.Core.List.{List}
 use mathlib.Core.Path.{subst}
-use Prim.Native.Nat.{ℕ, _-_}
+use Prim.Native.Nat.{ℕ, _-_, _<_}
 use native.Mathlib.Omega.{arith}
 use lib.ListN.{length}
 use Rattle.hex.proofs.Line.{lineEnd-ge}
-use Rattle.judge_log.specs.Scan.{Scanning, Step, TakenOf}
+use Rattle.judge_log.specs.Scan.{Scanning, TakenOf}
 use Rattle.judge_log.proofs.Scanning.{scan-end, scan-malformed, scan-step}
 use Rattle.judge_log.specs.declared.scan.Taken.{Taken}
+use Rattle.judge_log.specs.declared.scan.Taken.the-variants.{Next}
 use borrow.Author.Needs.{needs}
-use Prim.Native.Nat.{_-_}
-use Rattle.judge_log.specs.Scan.{Scanning}
 use Rattle.judge_log.proofs.scan.scan.Statement.{statement}
 use Rattle.judge_log.proofs.scan.scan.Tie as tie
 
@@ -21,22 +20,27 @@ Inv-loop log bytes₀ starts₀ at₀ i₀ bytes starts at i = Scanning log at b
 abbrev μ-loop : tie.MeasureT-loop
 μ-loop log bytes₀ starts₀ at₀ i₀ bytes starts at i = length log - at
 
-module _ (c : tie.After-known-told Inv-loop μ-loop) where
+-- a line taken
+module _ (c : tie.After-take-line Inv-loop μ-loop) where
   abbrev head : tie.At-loop Inv-loop μ-loop
-  head = c .before .before .before .before .before .before .before .before .before .before .before
+  head = c .before .before .before .before
 
   abbrev log : List ℕ
-  log = c .before .before .before .before .before .before .before .before .before .before .before .before .before .before .before .args .log .now
+  log = head .before .before .before .before .args .log .now
 
-  stepped : Step log (head .loop .at) (head .loop .i) (head .loop .bytes) (head .loop .starts)
-      (c .before .before .before .before .before .before .before .take-line .last .1 .1 .0)
-      (c .before .before .before .before .before .before .before .take-line .last .1 .1 .1 .0)
-      (c .before .taken .given .0 .0)
-  stepped =
-      subst (λ (t : Taken). TakenOf log (head .loop .at) (head .loop .i) (head .loop .bytes)
-      (head .loop .starts)
-      (c .before .before .before .before .before .before .before .take-line .last .1 .1 .0)
-      (c .before .before .before .before .before .before .before .take-line .last .1 .1 .1 .0) t) (c .before .taken .given .1) (c .before .before .before .before .before .before .before .take-line .ensures)
+  below : head .loop .at < length log
+  below = c .before .before .before .loop-test .taken
+
+  abbrev Told : Taken → Type 0
+  Told = TakenOf log (head .loop .at) (head .loop .i) (head .loop .bytes) (head .loop .starts)
+      (c .take-line .last .1 .1 .0) (c .take-line .last .1 .1 .1 .0)
+
+abbrev of-line : tie.After-known-told Inv-loop μ-loop → tie.After-take-line Inv-loop μ-loop
+of-line c = c .before .before .before .before .before .before .before
+
+stepped : (c : tie.After-known-told Inv-loop μ-loop)
+    → Told (of-line c) (Next (c .before .taken .given .0 .0))
+stepped c = subst (Told (of-line c)) (c .before .taken .given .1) (of-line c .take-line .ensures)
 
 loop-holds : tie.Need-loop-holds Inv-loop μ-loop
 loop-holds c = search needs
@@ -58,35 +62,25 @@ same-length-2 c = search needs
 
 returns : tie.Need-returns Inv-loop μ-loop
 returns c =
-    let l = c .before .before .before .before .before .before .before .before .before .before in
-    let a = c .before .before .before .before .before .before .before .before .before .before .before .before .before .before in
-    let t = subst (λ (t : Taken). TakenOf (a .args .log .now) (l .loop .at) (l .loop .i)
-    (l .loop .bytes) (l .loop .starts)
-    (c .before .before .before .before .before .before .take-line .last .1 .1 .0)
-    (c .before .before .before .before .before .before .take-line .last .1 .1 .1 .0) t)
-    (c .enum-told .given .1)
-    (c .before .before .before .before .before .before .take-line .ensures) in
-    let p = scan-malformed (a .args .log .now) (l .loop .at) (l .loop .bytes) (l .loop .starts)
-    (l .loop .i) (l .loop .inv)
-    (c .before .before .before .before .before .before .before .before .before .loop-test .taken) t in
-    (p .0, p .1, omega (arith, l .loop .inv .ends))
+    let s = c .before .before .before .before .before .before in
+    let l = head s .loop in
+    let p = scan-malformed (log s) (l .at) (l .bytes) (l .starts) (l .i) (l .inv) (below s)
+    (subst (Told s) (c .enum-told .given .1) (s .take-line .ensures)) in
+    (p .0, p .1, omega (arith, l .inv .ends))
 
 add-i : tie.Need-add-i Inv-loop μ-loop
 add-i c = search needs
 
 loop-less : tie.Need-loop-less Inv-loop μ-loop
-loop-less c = omega (
-  arith,
-  stepped c .after,
-  lineEnd-ge (log c)
-      (head c .loop .at),
-  c .before .before .before .before .before .before .before .before .before .before .loop-test .taken,
-)
+loop-less c =
+    let s = of-line c in
+    omega (arith, stepped c .after, lineEnd-ge (log s) (head s .loop .at), below s)
 
 loop-again : tie.Need-loop-again Inv-loop μ-loop
-loop-again c = scan-step (log c) (head c .loop .at) (head c .loop .bytes) (head c .loop .starts)
-    (head c .loop .i) (head c .loop .inv)
-    (c .before .before .before .before .before .before .before .before .before .before .loop-test .taken) _ _ _ (stepped c)
+loop-again c =
+    let s = of-line c in
+    let l = head s .loop in
+    scan-step (log s) (l .at) (l .bytes) (l .starts) (l .i) (l .inv) (below s) _ _ _ (stepped c)
 
 same-length-3 : tie.Need-same-length-3 Inv-loop μ-loop
 same-length-3 c = search needs

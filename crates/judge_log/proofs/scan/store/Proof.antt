@@ -7,7 +7,7 @@ use native.Mathlib.Omega.{arith}
 use lib.ListN.{length, take, drop}
 use Rattle.hex.specs.Text.{bytesOf}
 use Rattle.hex.proofs.Text.{length-bytesOf-le}
-use Rattle.judge_log.proofs.Cuts.{put-part}
+use Rattle.judge_frames.proofs.Cuts.{put-part}
 use borrow.Author.Needs.{needs}
 use Rattle.judge_log.proofs.scan.store.Statement.{statement}
 use Rattle.judge_log.proofs.scan.store.Tie as tie

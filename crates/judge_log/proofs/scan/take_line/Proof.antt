@@ -14,8 +14,8 @@ use Rattle.hex.specs.Line.{lineEnd}
 use Rattle.hex.proofs.Line.{lineEnd-ge}
 use Rattle.hex.specs.Text.{isHex, bytesOf}
 use Rattle.hex.proofs.Text.{length-bytesOf}
-use Rattle.judge_log.specs.Cut.{part, framesIn}
-use Rattle.judge_log.specs.Log.{frameOf, malformed}
+use Rattle.judge_frames.specs.Cut.{part, framesIn}
+use Rattle.log.specs.Log.{frameOf, malformed}
 use Rattle.judge_log.specs.Parsed.{parsed, refused}
 use Rattle.judge_log.proofs.Parsed.{malformed-parsed}
 use Rattle.judge_log.specs.Scan.{Room, Step, lineAt}
@@ -88,7 +88,7 @@ module _ (c : tie.After-known-told) where
   hex = sized .0
 
   abbrev stop : ℕ
-  stop = c .before .before .before .before .before .before .before .before .before .before .start .result + size
+  stop = of-store .before .before .before .before .before .start .result + size
 
   end-at : stop ≡ getD (starts of-store) (i of-store) 0 + length frame
   end-at = ap₂ _+_ (begins of-store)

@@ -4,7 +4,7 @@ use mathlib.Core.Path.{_≡_, sym}
 use Prim.Native.Nat.{_-_, _≤_}
 use native.Mathlib.Omega.{arith}
 use Rattle.basics.specs.Lists.{counted, table}
-use Rattle.protocol.specs.Range.{isPrepare}
+use Rattle.protocol.specs.Message.{isPrepare}
 use Rattle.layout.specs.Decode.{messageIn}
 use Rattle.range.proofs.Sums.{counted-none, counted-next, at-end}
 use Rattle.range.proofs.capacity.prepares.Statement.{statement}

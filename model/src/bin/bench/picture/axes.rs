@@ -13,9 +13,7 @@ impl Linear {
         let step = step.unwrap_or(greatest);
         let marks = (0..).map(|mark| f64::from(mark) * step);
         let below = marks.clone().take_while(|mark| *mark < greatest).count();
-        Linear {
-            marks: marks.take(below + 1).collect(),
-        }
+        Linear { marks: marks.take(below + 1).collect() }
     }
 
     /// From 0 at the first mark to 1 at the last.
@@ -37,9 +35,7 @@ impl Powers {
         let first = marks.iter().rposition(|mark| *mark <= least).unwrap_or(0);
         let last = marks.iter().position(|mark| *mark >= greatest);
         let last = last.unwrap_or(marks.len() - 1);
-        Powers {
-            marks: marks[first..=last].to_vec(),
-        }
+        Powers { marks: marks[first..=last].to_vec() }
     }
 
     pub fn at(&self, number: f64) -> f64 {

@@ -47,19 +47,10 @@ impl Panel {
         }
         svg.line((left, bottom), (right, bottom), AXIS);
         svg.line((left, top), (left, bottom), AXIS);
-        svg.anchored(
-            (left + right) / 2.0,
-            bottom + 36.0,
-            12,
-            "middle",
-            &self.label,
-        );
+        svg.anchored((left + right) / 2.0, bottom + 36.0, 12, "middle", &self.label);
         for curve in &self.curves {
-            let points: Vec<(f64, f64)> = curve
-                .points
-                .iter()
-                .map(|(count, time)| (along(*count), up(*time)))
-                .collect();
+            let points: Vec<(f64, f64)> =
+                curve.points.iter().map(|(count, time)| (along(*count), up(*time))).collect();
             svg.curve(&points, curve.colour);
         }
     }

@@ -48,10 +48,7 @@ impl Svg {
 
     /// A line through the points, with a dot at each.
     pub fn curve(&mut self, points: &[(f64, f64)], colour: &str) {
-        let path: Vec<String> = points
-            .iter()
-            .map(|(x, y)| format!("{x:.1},{y:.1}"))
-            .collect();
+        let path: Vec<String> = points.iter().map(|(x, y)| format!("{x:.1},{y:.1}")).collect();
         self.add(format_args!(
             "<polyline points=\"{}\" fill=\"none\" stroke=\"{colour}\" stroke-width=\"2.2\"/>",
             path.join(" ")

@@ -1,0 +1,5 @@
+-- Laws of the definitions.
+pub mod WellFormed
+pub mod Faults
+pub mod Theorem
+pub mod Examples

@@ -1,0 +1,3 @@
+-- The findings and the verdict, and the published definitions as statements.
+pub mod Findings
+pub mod Published

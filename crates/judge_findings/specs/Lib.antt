@@ -1,0 +1,3 @@
+-- The definitions that the contracts of `judge_findings` cite.
+pub mod Marks
+pub mod Tests

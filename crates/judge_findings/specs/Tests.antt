@@ -1,0 +1,17 @@
+-- What the findings ask of one item, and of one write.
+use mathlib.Core.Bool.{Bool, _&&_, _||_}
+use mathlib.Core.List.{List}
+use Prim.Native.Nat.{ℕ}
+use lib.Dec.{ltb}
+use Rattle.itemset.specs.Set.{has}
+use Rattle.log.specs.Log.{shownStamp}
+use Rattle.findings.specs.Findings.{fractures, outdates}
+
+-- r shows the item, one of those written, with an earlier stamp
+unfoldable pub behindAt : List ℕ → ℕ → ℕ → ℕ → ℕ → Bool
+behindAt r items wrote stamp item =
+    has items item && (has wrote item && ltb (shownStamp r item) stamp)
+
+-- w, above the read r or not, has it at fault at the item
+unfoldable pub faultsOf : List ℕ → ℕ → ℕ → ℕ → List ℕ → Bool → Bool
+faultsOf r of item stamp w above = fractures r item stamp w || (above && outdates of item stamp w)

@@ -1,0 +1,2 @@
+-- The definitions that the contracts of `judge_frames` cite.
+pub mod Cut

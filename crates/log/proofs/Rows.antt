@@ -1,0 +1,218 @@
+-- Which line of a log is malformed and which log is too long, row by row, from the log's bytes
+-- through the whole definition; each answer is document 01's, worked out by hand.
+use mathlib.Core.Bool.{Bool, true, false, cond, _&&_, Bool·beq}
+use mathlib.Core.List.{List, [], _∷_, _++_}
+use mathlib.Core.Path.{_≡_, refl}
+use Prim.Native.Nat.{ℕ, zero, suc, _+_}
+use lib.Count.{onesIn}
+use lib.Dec.{eqb, ltb}
+use lib.ListN.{length}
+use Rattle.basics.specs.Lists.{all, counted, every}
+use Rattle.hex.specs.Digit.{digit, pair, hexDigit}
+use Rattle.hex.specs.Line.{lineLength}
+use Rattle.hex.specs.Number.{numberAt, bigEndian}
+use Rattle.hex.specs.Text.{isHex, bytesOf, hexText}
+use Rattle.log.specs.Some.{some, firstFrom}
+use Rattle.log.specs.Log.{linesOf, frameOf, framesOf, shown, writeAt, written, numberOf}
+use Rattle.log.specs.Log.{endOf, entriesWhole, readShaped, writeShaped, shaped, reaches}
+use Rattle.log.specs.Log.{malformed, malformedAt, firstLine, tooLong}
+
+-- a line of n bytes, its digits as one number, most significant first
+line : ℕ → ℕ → List ℕ
+line n digits = hexText (bigEndian n digits) ++ 0x0a ∷ []
+
+-- ---- the first malformed line
+
+record Row : Type 0 where
+  log : List ℕ
+  -- counted from 1; 0 where every line is well-formed
+  bad : ℕ
+
+firstBad : List ℕ → ℕ
+firstBad log =
+    let i = firstLine malformedAt (framesOf log) in
+    cond (ltb i (length (framesOf log))) (i + 1) 0
+
+rows : List Row
+rows =
+    record { log = []; bad = 0 }
+    -- a write of {0, 1}, number 1, by client 1; a read of {0, 1} by client 2
+    ∷ record { log = line 22 0x2001_0000000000000003_00000001_00000007_00000008; bad = 0 }
+    ∷ record {
+      log = line 28 0x2102_0000000000000003_00000001_01_00000007_00000000_00_00000000;
+      bad = 0;
+    }
+    -- kinds: 1f, 22, a0, a1
+    ∷ record { log = line 18 0x1f01_0000000000000001_00000001_00000007; bad = 1 }
+    ∷ record { log = line 18 0x2201_0000000000000001_00000001_00000007; bad = 1 }
+    ∷ record { log = line 18 0xa001_0000000000000001_00000001_00000007; bad = 1 }
+    ∷ record { log = line 19 0xa101_0000000000000001_00000001_01_00000007; bad = 1 }
+    -- the kind and the client alone
+    ∷ record { log = line 2 0x2001; bad = 1 }
+    ∷ record { log = line 2 0x2101; bad = 1 }
+    ∷ record { log = line 2 0x2201; bad = 1 }
+    -- clients 0, 5, 8, 9, 11 (17)
+    ∷ record { log = line 18 0x2000_0000000000000001_00000001_00000007; bad = 1 }
+    ∷ record { log = line 18 0x2005_0000000000000001_00000001_00000007; bad = 0 }
+    ∷ record { log = line 18 0x2008_0000000000000001_00000001_00000007; bad = 0 }
+    ∷ record { log = line 18 0x2009_0000000000000001_00000001_00000007; bad = 1 }
+    ∷ record { log = line 18 0x2011_0000000000000001_00000001_00000007; bad = 1 }
+    ∷ record { log = line 19 0x2111_0000000000000001_00000001_01_00000007; bad = 1 }
+    -- empty sets
+    ∷ record { log = line 14 0x2001_0000000000000000_00000001; bad = 1 }
+    ∷ record { log = line 10 0x2101_0000000000000000; bad = 1 }
+    -- a value too few, a value too many; an entry too few, a byte too many
+    ∷ record { log = line 18 0x2001_0000000000000003_00000001_00000007; bad = 1 }
+    ∷ record { log = line 22 0x2001_0000000000000001_00000001_00000007_00000008; bad = 1 }
+    ∷ record { log = line 19 0x2102_0000000000000003_00000001_01_00000007; bad = 1 }
+    ∷ record { log = line 20 0x2102_0000000000000001_00000001_01_00000007_00; bad = 1 }
+    -- as many values as the set has items, wherever they stand: {1, 3}, {0, 63}, {63}
+    ∷ record { log = line 22 0x2001_000000000000000a_00000001_00000007_00000008; bad = 0 }
+    ∷ record { log = line 22 0x2001_8000000000000001_00000001_00000007_00000008; bad = 0 }
+    ∷ record { log = line 18 0x2001_8000000000000000_00000001_00000007; bad = 0 }
+    -- number 0
+    ∷ record { log = line 18 0x2001_0000000000000001_00000000_00000007; bad = 1 }
+    -- numbers of one client: 1 1, 2 1, 1 2; of two clients: 1 1
+    ∷ record {
+      log =
+          line 18 0x2001_0000000000000001_00000001_00000007
+          ++ line 18 0x2001_0000000000000001_00000001_00000007;
+      bad = 2;
+    }
+    ∷ record {
+      log =
+          line 18 0x2001_0000000000000001_00000002_00000007
+          ++ line 18 0x2001_0000000000000001_00000001_00000007;
+      bad = 2;
+    }
+    ∷ record {
+      log =
+          line 18 0x2001_0000000000000001_00000001_00000007
+          ++ line 18 0x2001_0000000000000001_00000002_00000007;
+      bad = 0;
+    }
+    ∷ record {
+      log =
+          line 18 0x2001_0000000000000001_00000001_00000007
+          ++ line 18 0x2002_0000000000000001_00000001_00000007;
+      bad = 0;
+    }
+    -- not over the last write alone: 2, then client 2's 1, then 1
+    ∷ record {
+      log =
+          line 18 0x2001_0000000000000001_00000002_00000007
+          ++ line 18 0x2002_0000000000000001_00000001_00000007
+          ++ line 18 0x2001_0000000000000001_00000001_00000007;
+      bad = 3;
+    }
+    -- numbers above one byte: 1000001 and then 2; 2 and then 1000001
+    ∷ record {
+      log =
+          line 18 0x2001_0000000000000001_01000001_00000007
+          ++ line 18 0x2001_0000000000000001_00000002_00000007;
+      bad = 2;
+    }
+    ∷ record {
+      log =
+          line 18 0x2001_0000000000000001_00000002_00000007
+          ++ line 18 0x2001_0000000000000001_01000001_00000007;
+      bad = 0;
+    }
+    -- a read is no write: its first number is no number of its client's, above or below
+    ∷ record {
+      log =
+          line 19 0x2101_0000000000000001_00000005_02_00000007
+          ++ line 18 0x2001_0000000000000001_00000002_00000007
+          ++ line 19 0x2101_0000000000000001_00000001_02_00000007;
+      bad = 0;
+    }
+    -- stamps shown: 0 and client 1, 1 and client 0, clients 8, 9 and 11 (17), the second of two
+    ∷ record { log = line 19 0x2102_0000000000000001_00000000_01_00000000; bad = 1 }
+    ∷ record { log = line 19 0x2102_0000000000000001_00000001_00_00000000; bad = 1 }
+    ∷ record { log = line 19 0x2102_0000000000000001_01000000_01_00000000; bad = 0 }
+    ∷ record { log = line 19 0x2102_0000000000000001_00000001_08_00000007; bad = 0 }
+    ∷ record { log = line 19 0x2102_0000000000000001_00000001_09_00000007; bad = 1 }
+    ∷ record { log = line 19 0x2102_0000000000000001_00000001_11_00000007; bad = 1 }
+    ∷ record {
+      log = line 28 0x2102_0000000000000003_00000001_01_00000007_00000001_00_00000007;
+      bad = 1;
+    }
+    -- text: an empty line, an odd digit, an uppercase digit, a carriage return, a line without 0a
+    ∷ record { log = 0x0a ∷ []; bad = 1 }
+    ∷ record {
+      log = hexText (bigEndian 18 0x2001_0000000000000001_00000001_00000007) ++ 0x30 ∷ 0x0a ∷ [];
+      bad = 1;
+    }
+    ∷ record {
+      log = line 18 0x2001_0000000000000001_00000001_0000000a;
+      bad = 0;
+    }
+    ∷ record {
+      log =
+          hexText (bigEndian 17 0x2001_0000000000000001_00000001_000000)
+          ++ 0x30 ∷ 0x41 ∷ 0x0a ∷ [];
+      bad = 1;
+    }
+    ∷ record {
+      log =
+          hexText (bigEndian 18 0x2001_0000000000000001_00000001_00000007)
+          ++ 0x0d ∷ 0x0a ∷ [];
+      bad = 1;
+    }
+    ∷ record {
+      log = hexText (bigEndian 18 0x2001_0000000000000001_00000001_00000007);
+      bad = 1;
+    }
+    -- a last line without its 0a; two line ends in a row; the first of two malformed lines
+    ∷ record {
+      log =
+          line 18 0x2001_0000000000000001_00000001_00000007
+          ++ hexText (bigEndian 18 0x2001_0000000000000001_00000002_00000007);
+      bad = 2;
+    }
+    ∷ record {
+      log =
+          line 18 0x2001_0000000000000001_00000001_00000007 ++ 0x0a ∷ []
+          ++ line 18 0x2001_0000000000000001_00000002_00000007;
+      bad = 2;
+    }
+    ∷ record {
+      log =
+          line 18 0x2001_0000000000000001_00000001_00000007
+          ++ line 18 0x2009_0000000000000001_00000002_00000007
+          ++ line 18 0x2200_0000000000000001_00000002_00000007;
+      bad = 2;
+    }
+    ∷ []
+
+-- ---- the limits
+
+-- n bytes alike
+times : ℕ → ℕ → List ℕ
+times zero c = []
+times (suc n) c = c ∷ times n c
+
+record Limit : Type 0 where
+  log : List ℕ
+  long : Bool
+
+limits : List Limit
+limits =
+    record { log = times 256 0x0a; long = false }
+    ∷ record { log = times 257 0x0a; long = true }
+    -- 256 line ends and a tail
+    ∷ record { log = times 256 0x0a ++ 0x30 ∷ []; long = false }
+    ∷ record { log = times 32768 0x30; long = false }
+    ∷ record { log = times 32769 0x30; long = true }
+    ∷ []
+
+malformed-rows : all (λ (r : Row). eqb (firstBad (r .log)) (r .bad)) rows ≡ true
+unfolding all rows firstBad line hexText bigEndian hexDigit
+    digit pair lineLength numberAt isHex bytesOf some every onesIn firstFrom
+    linesOf frameOf shown writeAt written numberOf endOf
+    entriesWhole readShaped writeShaped shaped reaches malformed
+malformed-rows = refl
+
+long-rows : all (λ (r : Limit). Bool·beq (tooLong (r .log)) (r .long)) limits ≡ true
+unfolding all limits times tooLong counted
+long-rows = refl

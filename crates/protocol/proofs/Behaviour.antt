@@ -1,0 +1,102 @@
+-- What the steps do, as plain facts: sentences of document 01 that a near miss breaks.
+use mathlib.Core.Bool.{true, false, cond, _&&_}
+use mathlib.Core.List.{List, [], _∷_, _++_}
+use mathlib.Core.Logic.{inl}
+use mathlib.Core.Path.{_≡_, refl, ap}
+use Prim.Native.Nat.{ℕ, _≤_, _<_}
+use native.Mathlib.Nat.{le-refl}
+use native.Mathlib.Omega.{arith}
+use lib.Dec.{eqb, ltb}
+use borrow.Author.Tests.{ltb-true, ltb-false}
+use Rattle.basics.proofs.Cases.{by-test, eqb-same}
+use Rattle.basics.specs.Lists.{In}
+use Rattle.itemset.specs.Set.{has}
+use Rattle.protocol.specs.declared.Version.{Version}
+use Rattle.protocol.specs.declared.Entry.{Entry}
+use Rattle.protocol.specs.declared.Message.{Message}
+use Rattle.protocol.specs.declared.Message.the-variants.{Prepare, Prepared, Get, Got}
+use Rattle.protocol.specs.Tables.{Tables, ofRead, ofWrite, writerOf, laterOf, partitionOf}
+use Rattle.protocol.specs.Message.{partsOf}
+use Rattle.protocol.specs.Steps.{asks, committed, delivered, joined, deliveredAt, messageAt}
+use Rattle.protocol.specs.Steps.{stored, found, seen, isLast, startedWrite}
+use Rattle.protocol.specs.Calls.{outcomeOf}
+use Rattle.protocol.proofs.Stored.{choice-own, choice-ge}
+
+-- ---- the later of two
+
+pub later-one : (a b : Entry) → a .stamp ≤ laterOf a b .stamp
+later-one a b =
+    by-test (ltb (a .stamp) (b .stamp))
+    (λ e. rw e (omega (arith, ltb-true (a .stamp) (b .stamp) e)))
+    (λ e. rw e (le-refl (a .stamp)))
+
+pub later-other : (a b : Entry) → b .stamp ≤ laterOf a b .stamp
+later-other a b = by-test (ltb (a .stamp) (b .stamp)) (λ e. rw e (le-refl (b .stamp)))
+    (λ e. rw e (ltb-false (a .stamp) (b .stamp) e))
+
+-- ---- what a read asks for
+
+-- is no earlier than the view's own entry, nor than an entry whose write set contains the item
+pub asks-own : (t : Tables) (d k : ℕ) → t .view d k .stamp ≤ asks t d k
+asks-own t d k = omega (arith, choice-own (t .view d) k (t .sizes .items))
+
+pub asks-sibling : (t : Tables) (d k j : ℕ) → j < t .sizes .items
+    → has (t .view d j .set) k ≡ true → t .view d j .stamp ≤ asks t d k
+asks-sibling t d k j l e = omega (arith, choice-ge (t .view d) k (t .sizes .items) j l e)
+
+-- and a get is answered with exactly the stamp asked for
+pub answered-exactly : (t : Tables) (d k s : ℕ) (j : Message) → In j (joined t (Get d k s))
+    → partsOf j .stamp ≡ s
+unfolding joined
+answered-exactly t d k s j (inl e) = ap (λ (m : Message). partsOf m .stamp) e
+
+-- ---- what becomes the latest
+
+-- no commit replaces a later latest
+pub committed-later : (t : Tables) (p s k : ℕ) → t .latest k .stamp ≤ committed t p s k .stamp
+committed-later t p s k =
+    let new : Entry = record { stamp = s; set = found (t .versions) k s .set } in
+    by-test (eqb (partitionOf t k) p && stored (t .versions) k s)
+    (λ e. rw e (omega (arith, later-one (t .latest k) new)))
+    (λ e. rw e (le-refl (t .latest k .stamp)))
+
+-- a prepare is stored, and changes no latest
+pub prepare-latest : (t : Tables) (v : Version) (k : ℕ)
+    → delivered t (Prepare v) .latest k .stamp ≡ t .latest k .stamp
+unfolding delivered
+prepare-latest t v k = refl
+
+pub prepare-stored : (t : Tables) (i : ℕ) (v : Version) → messageAt t i ≡ Prepare v
+    → deliveredAt t i .versions ≡ t .versions ++ v ∷ []
+unfolding delivered
+prepare-stored t i v e = ap (λ (m : Message). delivered t m .versions) e
+
+-- ---- what enters the writer's view
+
+-- nothing at the write's start
+pub started-view : (t : Tables) (d s : ℕ) (bytes : List ℕ) (e k : ℕ)
+    → startedWrite t d s bytes .view e k .stamp ≡ t .view e k .stamp
+started-view t d s bytes e k = refl
+
+-- the write at its end
+seen-ge : (view : ℕ → Entry) (s stamp k : ℕ) → has s k ≡ true → stamp ≤ seen view s stamp k .stamp
+seen-ge view s stamp k e = rw e (later-other (view k) (record { stamp = stamp; set = s }))
+
+pub ended-view : (t : Tables) (k s : ℕ) → isLast ofWrite (t .client (writerOf s)) k ≡ true → (j : ℕ)
+    → has (t .client (writerOf s) .write .set) j ≡ true
+    → s ≤ delivered t (Prepared k s) .view (writerOf s) j .stamp
+unfolding delivered
+ended-view t k s last j e =
+    let d = writerOf s in
+    let c = t .client d in
+    let entered : s ≤ cond (isLast ofWrite c k) (seen (t .view d) (c .write .set) s)
+    (t .view d) j .stamp = rw last (seen-ge (t .view d) (c .write .set) s j e) in
+    rw (eqb-same d) (omega arith)
+
+-- ---- when a read ends
+
+-- not before its last reply
+pub unended : (t : Tables) (d : ℕ) (v : Version) (e : Entry)
+    → isLast ofRead (t .client d) (v .item) ≡ false → outcomeOf t (Got d v e) ≡ 0
+unfolding outcomeOf
+unended t d v e not-last = ap (λ b. cond b (cond (eqb (t .client d .write .set) 0) 1 2) 0) not-last

@@ -1,0 +1,83 @@
+//! The answer to a call, as document 01's bytes and as one number.
+
+use crate::call::Call;
+
+/// What a delivery reports.
+pub const NONE_ENDED: u64 = 0;
+pub const READ_ENDED: u64 = 1;
+pub const WRITE_ENDED: u64 = 2;
+
+/// The answer to a call.
+#[derive(Clone, Copy, Debug, PartialEq, Eq)]
+pub enum Answer {
+    Refused(u64),
+    Fresh,
+    Started {
+        messages: u64,
+    },
+    Delivered {
+        kind: u64,
+        messages: u64,
+        outcome: u64,
+    },
+    /// The length of the log frame that was written to the output.
+    Shown {
+        length: u64,
+    },
+}
+
+impl Answer {
+    /// The number that a call returns: a refusal alone, or 0 in the lowest byte and what follows it
+    /// above.
+    pub fn number(self) -> u64 {
+        match self {
+            Answer::Refused(refusal) => refusal,
+            Answer::Fresh => 0,
+            Answer::Started { messages } => messages << 8,
+            Answer::Delivered { kind, messages, outcome } => {
+                kind << 8 | messages << 16 | outcome << 32
+            }
+            Answer::Shown { length } => length << 8,
+        }
+    }
+
+    /// The answer that a number is, if such a call can give it.
+    pub fn of(call: &Call, number: u64) -> Option<Answer> {
+        let answer = match call {
+            _ if number & 0xff != 0 => Answer::Refused(number & 0xff),
+            Call::Fresh { .. } => Answer::Fresh,
+            Call::Read { .. } | Call::Write { .. } => {
+                Answer::Started { messages: number >> 8 & 0xffff }
+            }
+            Call::Deliver { .. } => Answer::Delivered {
+                kind: number >> 8 & 0xff,
+                messages: number >> 16 & 0xffff,
+                outcome: number >> 32 & 0xff,
+            },
+            Call::Show { .. } => Answer::Shown { length: number >> 8 & 0xffff },
+        };
+        (answer.number() == number && answer.refusal() <= 14).then_some(answer)
+    }
+
+    /// The bytes that a driver prints, of a call with this output.
+    pub fn bytes(self, output: &[u8]) -> Vec<u8> {
+        let length = |messages: u64| [(messages >> 8) as u8, messages as u8];
+        match self {
+            Answer::Refused(refusal) => vec![refusal as u8],
+            Answer::Fresh => vec![0],
+            Answer::Started { messages } => [&[0], &length(messages)[..]].concat(),
+            Answer::Delivered { kind, messages, outcome } => {
+                [&[0, kind as u8], &length(messages)[..], &[outcome as u8]].concat()
+            }
+            Answer::Shown { length } => [&[0], &output[..length as usize]].concat(),
+        }
+    }
+
+    /// The refusal, or 0.
+    pub fn refusal(self) -> u64 {
+        match self {
+            Answer::Refused(refusal) => refusal,
+            _ => 0,
+        }
+    }
+}

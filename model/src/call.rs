@@ -1,0 +1,49 @@
+//! The calls.
+
+/// A call and what it was given.
+#[derive(Clone, Debug, PartialEq, Eq)]
+pub enum Call {
+    /// Fresh, on a block that is long enough or not.
+    Fresh {
+        long_enough: bool,
+        clients: u64,
+        partitions: u64,
+        items: u64,
+    },
+    Read {
+        client: u64,
+        set: u64,
+    },
+    /// The values as bytes, four an item.
+    Write {
+        client: u64,
+        set: u64,
+        values: Vec<u8>,
+    },
+    Deliver {
+        place: u64,
+    },
+    /// The output's bytes before the call.
+    Show {
+        client: u64,
+        output: Vec<u8>,
+    },
+}
+
+impl Call {
+    /// The output's bytes before the call, none but at a showing.
+    pub fn output(&self) -> Vec<u8> {
+        match self {
+            Call::Show { output, .. } => output.clone(),
+            _ => Vec::new(),
+        }
+    }
+}
+
+/// A call, the number it answered, and the output's bytes after it (none but at a showing).
+#[derive(Clone, Debug, PartialEq, Eq)]
+pub struct Event {
+    pub call: Call,
+    pub answer: u64,
+    pub output: Vec<u8>,
+}

@@ -1,0 +1,130 @@
+//! Hexadecimal lines and log frames, byte for byte.
+
+use koolvent_model::frames::hex::{from_line, to_hex};
+use koolvent_model::frames::log::{LogFrame, Shown};
+use koolvent_model::random::Random;
+
+const WRITE: &[u8] = &[
+    0x20, 0x03, 0x80, 0, 0, 0, 0, 0, 0, 0x02, 0, 0x01, 0x02, 0x03, 0, 0, 0, 0x07, 0xff, 0xfe, 0xfd,
+    0xfc,
+];
+const READ: &[u8] = &[
+    0x21, 0x08, 0, 0, 0, 0, 0, 0, 0, 0x05, 0, 0, 0, 0, 0, 0, 0, 0, 0, 0x0a, 0x0b, 0x0c, 0x0d, 0x02,
+    0x01, 0x02, 0x03, 0x04,
+];
+
+fn write() -> LogFrame {
+    LogFrame::Write {
+        client: 3,
+        set: 1 << 63 | 1 << 1,
+        number: 66_051,
+        values: vec![7, 4_294_901_244],
+    }
+}
+
+fn read() -> LogFrame {
+    let initial = Shown { number: 0, client: 0, value: 0 };
+    let written = Shown { number: 0x0a0b_0c0d, client: 2, value: 0x0102_0304 };
+    LogFrame::Read { client: 8, set: 0b101, shown: vec![initial, written] }
+}
+
+/// The bytes of a line without its 0a.
+fn from_hex(digits: &[u8]) -> Option<Vec<u8>> {
+    from_line(&[digits, b"\n"].concat()).ok()
+}
+
+#[test]
+fn hex_of_a_byte_is_two_lowercase_digits() {
+    assert_eq!(to_hex(&[]), "");
+    assert_eq!(to_hex(&[0x00, 0x0f, 0xa5, 0xff]), "000fa5ff");
+    for byte in 0..=255 {
+        let digits = format!("{byte:02x}");
+        assert_eq!(to_hex(&[byte]), digits);
+        assert_eq!(from_hex(digits.as_bytes()), Some(vec![byte]));
+    }
+}
+
+#[test]
+fn hex_takes_lowercase_digits_alone_and_an_even_number() {
+    assert_eq!(from_hex(b""), None);
+    assert!(from_line(b"00").is_err(), "no line end");
+    assert_eq!(from_hex(b"0"), None);
+    assert_eq!(from_hex(b"000"), None);
+    assert_eq!(from_hex(b"12ef"), Some(vec![0x12, 0xef]));
+    for character in 0..=255 {
+        let is_digit = b"0123456789abcdef".contains(&character);
+        assert_eq!(from_hex(&[character, b'7']).is_some(), is_digit);
+        assert_eq!(from_hex(&[b'7', character]).is_some(), is_digit);
+    }
+}
+
+#[test]
+fn frames_have_the_bytes_of_the_paper() {
+    assert_eq!(write().bytes(), WRITE);
+    assert_eq!(read().bytes(), READ);
+    assert_eq!(write().line(), "200380000000000000020001020300000007fffefdfc\n");
+    assert_eq!(LogFrame::parse(WRITE), Ok(write()));
+    assert_eq!(LogFrame::parse(READ), Ok(read()));
+}
+
+#[test]
+fn every_truncation_and_extension_of_a_frame_is_refused() {
+    for frame in [WRITE, READ] {
+        for length in 0..frame.len() {
+            assert!(LogFrame::parse(&frame[..length]).is_err());
+        }
+        for more in 1..=64 {
+            assert!(LogFrame::parse(&[frame, &vec![0; more]].concat()).is_err());
+        }
+    }
+}
+
+#[test]
+fn other_kinds_are_refused() {
+    for kind in (0..0x20).chain(0x22..=0xff) {
+        for frame in [WRITE, READ] {
+            assert!(LogFrame::parse(&[&[kind], &frame[1..]].concat()).is_err());
+        }
+    }
+}
+
+#[test]
+fn parsing_leaves_clients_sets_and_numbers_to_the_judge() {
+    let frames = [
+        LogFrame::Write { client: 0, set: 0, number: 0, values: vec![] },
+        LogFrame::Write {
+            client: 255,
+            set: u64::MAX,
+            number: u32::MAX,
+            values: vec![u32::MAX; 64],
+        },
+        LogFrame::Read { client: 9, set: 0, shown: vec![] },
+    ];
+    let lengths = [14, 270, 10];
+    for (frame, length) in frames.into_iter().zip(lengths) {
+        assert_eq!(frame.bytes().len(), length);
+        assert_eq!(LogFrame::parse(&frame.bytes()), Ok(frame));
+    }
+}
+
+#[test]
+fn random_bytes_are_no_frame_or_the_bytes_of_their_frame() {
+    let mut random = Random::new(1);
+    let mut below = |bound| random.below(bound);
+    let mut parsed = 0;
+    for _ in 0..20_000 {
+        let mut bytes = vec![0x20 + below(2) as u8, below(256) as u8];
+        let set = below(4) << (below(3) * 31);
+        bytes.extend(set.to_be_bytes());
+        bytes.extend((0..below(30)).map(|_| below(256) as u8));
+        if let Ok(frame) = LogFrame::parse(&bytes) {
+            assert_eq!(frame.bytes(), bytes);
+            parsed += 1;
+        }
+        let noise: Vec<u8> = (0..below(40)).map(|_| below(256) as u8).collect();
+        if let Some(decoded) = from_hex(&noise) {
+            assert_eq!(to_hex(&decoded).as_bytes(), noise);
+        }
+    }
+    assert!(parsed > 300, "{parsed} of 20,000 had the length of a frame");
+}

@@ -1,0 +1,198 @@
+//! Wrong judges: the hand-worked examples and the random logs each tell them from a right one.
+
+use koolvent_model::frames::log::LogFrame;
+use koolvent_model::judge::findings::{fractured, own_write_missed, unwritten, Finding};
+use koolvent_model::judge::generate::random_log;
+use koolvent_model::judge::{examples, judge, judge_by, Verdict};
+use koolvent_model::random::Random;
+use koolvent_model::stamp::Stamp;
+
+/// The names of the examples to which a judge gives a wrong verdict.
+fn mistaken(judge: &dyn Fn(&[u8]) -> Verdict) -> Vec<&'static str> {
+    examples::all()
+        .into_iter()
+        .filter(|example| judge(&example.log).text() != example.verdict)
+        .map(|example| example.name)
+        .collect()
+}
+
+/// The example catches the wrong judge, and so does one of a thousand random logs.
+fn assert_caught(wrong: &dyn Fn(&[u8]) -> Verdict, example: &str) {
+    let mistaken = mistaken(wrong);
+    assert!(mistaken.contains(&example), "wrong on {mistaken:?} only");
+    let mut random = Random::new(5);
+    let mut logs = (0..1_000).map(|_| random_log(&mut random));
+    assert!(logs.any(|log| wrong(&log) != judge(&log)));
+}
+
+/// A judge with these definitions of findings 1, 2 and 3.
+fn judge_with(findings: [Finding; 3]) -> impl Fn(&[u8]) -> Verdict {
+    let [first, second, third] = findings;
+    move |log| judge_by(&[(1, first), (2, second), (3, third)], log)
+}
+
+#[test]
+fn a_right_judge_is_not_caught() {
+    assert_eq!(mistaken(&judge), Vec::<&str>::new());
+    let unchanged = judge_with([unwritten, fractured, own_write_missed]);
+    assert_eq!(mistaken(&unchanged), Vec::<&str>::new());
+}
+
+#[test]
+fn clean_to_all_is_caught() {
+    assert_caught(&|_| Verdict::CLEAN, "fractured read");
+    assert_caught(&|log| judge_by(&[], log), "fractured read");
+}
+
+#[test]
+fn made_up_line_is_caught() {
+    let made_up = |log: &[u8]| match judge(log) {
+        Verdict::Judged { finding, .. } if finding != 0 => Verdict::Judged { finding, line: 2 },
+        Verdict::Malformed { .. } => Verdict::Malformed { line: 1 },
+        other => other,
+    };
+    assert_caught(&made_up, "fault at line 256");
+    assert_caught(&made_up, "256 writes and a digit");
+}
+
+#[test]
+fn own_writes_counted_below_the_read_are_caught() {
+    fn anywhere(log: &[LogFrame], place: usize) -> Option<String> {
+        let own = log.iter().filter(|frame| frame.client() == log[place].client());
+        let own: Vec<_> = own.flat_map(LogFrame::written).collect();
+        let fault = log[place]
+            .shown()
+            .iter()
+            .any(|entry| own.iter().any(|own| own.item == entry.item && entry.stamp < own.stamp));
+        fault.then(String::new)
+    }
+    let wrong = judge_with([unwritten, fractured, anywhere]);
+    assert_caught(&wrong, "own write below the read");
+}
+
+/// Finding 2 with another comparison of the sibling's stamp and the write's, and over some frames.
+fn fractured_if(
+    read: &LogFrame,
+    frames: &[LogFrame],
+    behind: fn(Stamp, Stamp) -> bool,
+) -> Option<String> {
+    let shown = read.shown();
+    let siblings: Vec<_> = frames.iter().flat_map(LogFrame::written).collect();
+    let fractured = shown.iter().any(|entry| {
+        siblings
+            .iter()
+            .filter(|sibling| sibling.stamp == entry.stamp && sibling.item != entry.item)
+            .any(|sibling| {
+                shown
+                    .iter()
+                    .any(|other| other.item == sibling.item && behind(other.stamp, entry.stamp))
+            })
+    });
+    fractured.then(String::new)
+}
+
+#[test]
+fn fracture_by_a_stamp_not_later_is_caught() {
+    fn not_later(log: &[LogFrame], place: usize) -> Option<String> {
+        fractured_if(&log[place], log, |other, stamp| stamp >= other)
+    }
+    let wrong = judge_with([unwritten, not_later, own_write_missed]);
+    assert_caught(&wrong, "whole read");
+}
+
+#[test]
+fn fracture_by_clients_before_numbers_is_caught() {
+    fn clients_first(log: &[LogFrame], place: usize) -> Option<String> {
+        fractured_if(&log[place], log, |other, stamp| {
+            (other.client, other.number) < (stamp.client, stamp.number)
+        })
+    }
+    let wrong = judge_with([unwritten, clients_first, own_write_missed]);
+    assert_caught(&wrong, "greater number of a smaller client");
+}
+
+#[test]
+fn fracture_by_numbers_alone_is_caught() {
+    fn numbers_alone(log: &[LogFrame], place: usize) -> Option<String> {
+        fractured_if(&log[place], log, |other, stamp| other.number < stamp.number)
+    }
+    let wrong = judge_with([unwritten, numbers_alone, own_write_missed]);
+    assert_caught(&wrong, "equal numbers, sibling of a smaller client");
+}
+
+#[test]
+fn fracture_by_writes_above_alone_is_caught() {
+    fn above(log: &[LogFrame], place: usize) -> Option<String> {
+        fractured_if(&log[place], &log[..place], |other, stamp| other < stamp)
+    }
+    let wrong = judge_with([unwritten, above, own_write_missed]);
+    assert_caught(&wrong, "fractured by a write below");
+}
+
+#[test]
+fn writes_sought_above_alone_are_caught() {
+    fn not_above(log: &[LogFrame], place: usize) -> Option<String> {
+        unwritten(&log[..=place], place)
+    }
+    let wrong = judge_with([not_above, fractured, own_write_missed]);
+    assert_caught(&wrong, "write below the read");
+}
+
+#[test]
+fn values_not_compared_are_caught() {
+    fn stamp_and_item(log: &[LogFrame], place: usize) -> Option<String> {
+        let writes: Vec<_> = log.iter().flat_map(LogFrame::written).collect();
+        let fault = log[place].shown().iter().any(|entry| {
+            entry.stamp != Stamp::INITIAL
+                && !writes
+                    .iter()
+                    .any(|write| (write.stamp, write.item) == (entry.stamp, entry.item))
+        });
+        fault.then(String::new)
+    }
+    let wrong = judge_with([stamp_and_item, fractured, own_write_missed]);
+    assert_caught(&wrong, "value of another item");
+    assert_caught(&wrong, "initial stamp with a value");
+}
+
+#[test]
+fn writes_of_any_client_counted_as_own_are_caught() {
+    fn of_any_client(log: &[LogFrame], place: usize) -> Option<String> {
+        let above: Vec<_> = log[..place].iter().flat_map(LogFrame::written).collect();
+        let fault = log[place].shown().iter().any(|entry| {
+            above.iter().any(|write| write.item == entry.item && entry.stamp < write.stamp)
+        });
+        fault.then(String::new)
+    }
+    let wrong = judge_with([unwritten, fractured, of_any_client]);
+    assert_caught(&wrong, "both initial to another client");
+}
+
+#[test]
+fn findings_in_another_order_are_caught() {
+    let later_first =
+        |log: &[u8]| judge_by(&[(1, unwritten), (3, own_write_missed), (2, fractured)], log);
+    assert_caught(&later_first, "fractured and missed on one line");
+}
+
+#[test]
+fn lowest_finding_of_the_whole_log_is_caught() {
+    let lowest = |log: &[u8]| {
+        let findings: [(u8, Finding); 3] = [(1, unwritten), (2, fractured), (3, own_write_missed)];
+        let verdicts = findings.map(|finding| judge_by(&[finding], log));
+        let fault = verdicts.into_iter().find(|verdict| *verdict != Verdict::CLEAN);
+        fault.unwrap_or(Verdict::CLEAN)
+    };
+    assert_caught(&lowest, "missed above unwritten");
+}
+
+#[test]
+fn findings_before_malformed_lines_are_caught() {
+    let hasty = |log: &[u8]| {
+        let lines: Vec<&[u8]> = log.split_inclusive(|byte| *byte == b'\n').collect();
+        let faults = (1..=lines.len()).map(|count| judge(&lines[..count].concat()));
+        let mut faults = faults.filter(|verdict| *verdict != Verdict::CLEAN);
+        faults.next().unwrap_or(Verdict::CLEAN)
+    };
+    assert_caught(&hasty, "unwritten read above a bad line");
+}
