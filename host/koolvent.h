@@ -56,7 +56,7 @@ extern "C" {
 /* ---- Sizes and limits ---- */
 
 /* The words of 64 bits that a block needs, whatever its sizes. More may be lent: no call changes them. */
-#define KOOLVENT_WORDS 6352
+#define KOOLVENT_WORDS 6416
 
 /* The most clients (desks; numbered from 1), partitions (cabinets; from 0) and items (lines; from 0), 1 being the
  * least of each. Item k lies in partition k mod the number of partitions. */

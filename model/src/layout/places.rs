@@ -5,7 +5,7 @@ use crate::store::tables::{LOAD_CAPACITY, VERSION_CAPACITY};
 
 /// Words of the header, of a client's scalars, of an entry, a version and a message.
 const HEADER_WORDS: usize = 16;
-const CLIENT_WORDS: usize = 8;
+const CLIENT_WORDS: usize = 16;
 const ENTRY_WORDS: usize = 2;
 const VERSION_WORDS: usize = 4;
 pub const MESSAGE_WORDS: usize = 8;

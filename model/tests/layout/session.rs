@@ -6,13 +6,13 @@ use koolvent_model::store::Store;
 
 /// The words that aren't 0, as the place of the first of a row and the row.
 fn assert_words(store: &Store, rows: &[(usize, &[u64])]) {
-    let mut expected = vec![0; 6352];
+    let mut expected = vec![0; 6416];
     for (place, row) in rows {
         expected[*place..][..row.len()].copy_from_slice(row);
     }
     let words = encode(&store.tables);
-    assert_eq!(words.len(), 6352);
-    let differ: Vec<(usize, u64, u64)> = (0..6352)
+    assert_eq!(words.len(), 6416);
+    let differ: Vec<(usize, u64, u64)> = (0..6416)
         .filter(|place| words[*place] != expected[*place])
         .map(|place| (place, words[place], expected[place]))
         .collect();
@@ -32,7 +32,7 @@ fn the_words_of_the_session() {
     let prepares: [u64; 16] = [1, 0, 0, 7, 17, 3, 0, 0, 1, 0, 1, 8, 17, 3, 0, 0];
     assert_words(
         &store,
-        &[(0, &[2, 2, 3, 0, 2]), (16, &[2, 1, 3, 3, 17]), (1744, &[7, 8]), (5328, &prepares)],
+        &[(0, &[2, 2, 3, 0, 2]), (16, &[2, 1, 3, 3, 17]), (1808, &[7, 8]), (5392, &prepares)],
     );
 
     store.deliver(0);
@@ -44,9 +44,9 @@ fn the_words_of_the_session() {
         &[
             (0, &[2, 2, 3, 2, 2]),
             (16, &[2, 1, 3, 3, 17]),
-            (1744, &[7, 8]),
-            (3280, &versions),
-            (5328, &replies),
+            (1808, &[7, 8]),
+            (3344, &versions),
+            (5392, &replies),
         ],
     );
 
@@ -55,13 +55,13 @@ fn the_words_of_the_session() {
     store.deliver(0);
     let written: [(usize, &[u64]); 5] = [
         (16, &[0, 1, 0, 0, 0, 2, 3, 17]),
-        (80, &[17, 3]),
-        (208, &[17, 3, 17, 3]),
-        (2768, &[7, 8]),
-        (3280, &versions),
+        (144, &[17, 3]),
+        (272, &[17, 3, 17, 3]),
+        (2832, &[7, 8]),
+        (3344, &versions),
     ];
     let commit: [u64; 8] = [3, 1, 0, 0, 17, 0, 0, 0];
-    let after_the_write = [&written[..], &[(0, &[2, 2, 3, 2, 1]), (5328, &commit)]];
+    let after_the_write = [&written[..], &[(0, &[2, 2, 3, 2, 1]), (5392, &commit)]];
     assert_words(&store, &after_the_write.concat());
 
     store.start_read(2, 0b11);
@@ -69,25 +69,25 @@ fn the_words_of_the_session() {
     let get: [u64; 8] = [4, 2, 1, 0, 0, 0, 0, 0];
     let got: [u64; 8] = [5, 2, 0, 0, 0, 0, 17, 3];
     let reading: [(usize, &[u64]); 5] =
-        [(0, &[2, 2, 3, 2, 3]), (24, &[1, 0, 3, 3]), (5328, &commit), (5336, &get), (5344, &got)];
+        [(0, &[2, 2, 3, 2, 3]), (32, &[1, 0, 3, 3]), (5392, &commit), (5400, &get), (5408, &got)];
     assert_words(&store, &[&written[..], &reading].concat());
 
     store.deliver(1);
     store.deliver(1);
     store.deliver(1);
     let read: [(usize, &[u64]); 4] =
-        [(0, &[2, 2, 3, 2, 1]), (24, &[0, 0, 0, 0, 0, 1, 3]), (336, &[17, 3]), (5328, &commit)];
+        [(0, &[2, 2, 3, 2, 1]), (32, &[0, 0, 0, 0, 0, 1, 3]), (400, &[17, 3]), (5392, &commit)];
     assert_words(&store, &[&written[..], &read].concat());
 
     store.start_read(2, 0b110);
     let asked: [u64; 16] = [4, 2, 1, 0, 17, 0, 0, 0, 4, 2, 2, 0, 0, 0, 0, 0];
     let reading_again: [(usize, &[u64]); 6] = [
         (0, &[2, 2, 3, 2, 3]),
-        (24, &[1, 0, 6, 6, 0, 1, 3]),
-        (336, &[17, 3]),
-        (1297, &[17]),
-        (5328, &commit),
-        (5336, &asked),
+        (32, &[1, 0, 6, 6, 0, 1, 3]),
+        (400, &[17, 3]),
+        (1361, &[17]),
+        (5392, &commit),
+        (5400, &asked),
     ];
     assert_words(&store, &[&written[..], &reading_again].concat());
     while store.tables.messages.len() > 1 {
@@ -95,11 +95,11 @@ fn the_words_of_the_session() {
     }
     let read_again: [(usize, &[u64]); 6] = [
         (0, &[2, 2, 3, 2, 1]),
-        (24, &[0, 0, 0, 0, 0, 1, 6]),
-        (336, &[17, 3]),
-        (2321, &[17]),
-        (2833, &[8]),
-        (5328, &commit),
+        (32, &[0, 0, 0, 0, 0, 1, 6]),
+        (400, &[17, 3]),
+        (2385, &[17]),
+        (2897, &[8]),
+        (5392, &commit),
     ];
     assert_words(&store, &[&written[..], &read_again].concat());
 }
