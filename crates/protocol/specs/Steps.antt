@@ -37,8 +37,7 @@ reader t d s =
         set = s;
         awaited = s;
         asked = λ k. cond (has s k) (asks t d k) 0;
-        values =
-            λ k. 0;
+        values = λ k. 0;
       };
       write = noWrite;
       last = c .last;
@@ -109,8 +108,7 @@ answered c k value =
       read = record {
         set = c .read .set;
         awaited = remove (c .read .awaited) k;
-        asked =
-            c .read .asked;
+        asked = c .read .asked;
         values = put (c .read .values) k value;
       };
       write = c .write;
@@ -126,8 +124,7 @@ struck c k =
       write = record {
         set = c .write .set;
         awaited = remove (c .write .awaited) k;
-        stamp =
-            c .write .stamp;
+        stamp = c .write .stamp;
         values = c .write .values;
       };
       last = c .last;
@@ -186,23 +183,23 @@ pub record Delivery : Type 0 where
   -- 0 none ended, 1 a read ended, 2 a transaction with a write part ended
   pub outcome : ℕ
 
-abbrev pub delivery : Tables → List Message → ℕ → Delivery
-delivery after joins outcome = record { tables = after; joins = joins; outcome = outcome }
+abbrev pub delivering : Tables → List Message → ℕ → Delivery
+delivering after joins outcome = record { tables = after; joins = joins; outcome = outcome }
 
 abbrev pub deliveryOf : Tables → Message → Delivery
 deliveryOf t (Prepare v) =
-    delivery (withVersions t (t .versions ++ v ∷ [])) (Prepared (v .item) (v .stamp) ∷ []) 0
+    delivering (withVersions t (t .versions ++ v ∷ [])) (Prepared (v .item) (v .stamp) ∷ []) 0
 deliveryOf t (Prepared k stamp) =
     let d = writerOf stamp in
     let c = t .client d in
     let last = isLast ofWrite c k in
     let view = cond last (seen (t .view d) (c .write .set) stamp) (t .view d) in
-    delivery (withView (withClient t d (prepared c k)) d view)
+    delivering (withView (withClient t d (prepared c k)) d view)
     (cond last (commits t (c .write .set) stamp) [])
     (cond last 2 0)
-deliveryOf t (Commit p stamp) = delivery (withLatest t (committed t p stamp)) [] 0
+deliveryOf t (Commit p stamp) = delivering (withLatest t (committed t p stamp)) [] 0
 deliveryOf t (Get d k stamp) =
-    delivery t
+    delivering t
     (Got d (version k (found (t .versions) k stamp .value) stamp 0) (t .latest k) ∷ []) 0
 deliveryOf t (Got d v latest) =
     let c = t .client d in
@@ -210,7 +207,7 @@ deliveryOf t (Got d v latest) =
     let last = isLast ofRead c k in
     let offered = put (t .view d) k (laterOf (t .view d k) latest) in
     let view = cond last (seen offered (c .write .set) (c .write .stamp)) offered in
-    delivery (withView (withClient t d (got c k (v .value))) d view)
+    delivering (withView (withClient t d (got c k (v .value))) d view)
     (cond last (commits t (c .write .set) (c .write .stamp)) [])
     (cond last (cond (eqb (c .write .set) 0) 1 2) 0)
 
