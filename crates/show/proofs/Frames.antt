@@ -1,7 +1,7 @@
 -- The frame that a block holds, by the kind of the client's last ended transaction; its length; and
 -- the same frame in the tables.
 use mathlib.Core.Bool.{true}
-use mathlib.Core.List.{List, [], _++_}
+use mathlib.Core.List.{List, [], _++_, append-assoc}
 use mathlib.Core.Path.{_≡_, refl, sym, ap, _∙_}
 use Prim.Native.Nat.{ℕ, zero, suc, _+_, _*_, _%_, _^_, _≤_, _<_}
 use native.Mathlib.Nat.{mod-lt}
@@ -22,13 +22,13 @@ use Rattle.protocol.proofs.Shown.{length-listed, length-frame-read, length-fram
 use Rattle.layout.specs.Layout.{scalars, lastStamps, lastValues, at, lastKindAt, lastSetAt}
 use Rattle.layout.specs.Layout.{lastStampAt, itemAt}
 use Rattle.layout.specs.Decode.{within, endedOf, sizesIn, clientIn, tablesOf}
-use Rattle.show.specs.Show.{frameIn, head, readItem, writtenItem, readFrame, writeFrame}
+use Rattle.show.specs.Show.{frameIn, head, readItem, writtenItem, readPart, writePart}
 use Rattle.show.proofs.Listed.{listed-ext}
 
 -- ---- lengths of the parts
 
-pub length-head : (kind d s : ℕ) → length (head kind d s) ≡ 10
-length-head kind d s = simp (length-append, length-bigEndian)
+pub length-head : (kind d : ℕ) → length (head kind d) ≡ 2
+length-head kind d = simp length-bigEndian
 
 length-shownEntry : (stamp value : ℕ) → length (shownEntry stamp value) ≡ 9
 length-shownEntry stamp value = simp (length-append, length-bigEndian)
@@ -96,21 +96,23 @@ module _ (b : List ℕ) (d : ℕ) where
   unfolding frame
   frameIn-nothing e = ap (frame d) (last-nothing e)
 
-  pub frameIn-read : kind ≡ 1 → frameIn b d ≡ readFrame b d set
+  pub frameIn-read : kind ≡ 1 → frameIn b d ≡ head 0x21 d ++ readPart b d set
   unfolding frame
   frameIn-read e =
       ap (frame d) (last-read e)
-      ∙ ap (λ (l : List ℕ). head 0x21 d set ++ l)
+      ∙ append-assoc (head 0x21 d) (bigEndian 8 set) _
+      ∙ ap (λ (l : List ℕ). head 0x21 d ++ (bigEndian 8 set ++ l))
       (listed-ext (λ k. shownEntry (within set stamps k) (within set values k))
       (readItem b d) set 64 (λ k h. rw h))
 
   pub frameIn-write : (kind ≡ 0 → ⊥) → (kind ≡ 1 → ⊥)
-      → frameIn b d ≡ writeFrame b d set (numberOf stamp)
+      → frameIn b d ≡ head 0x20 d ++ writePart b d set
   unfolding frame
   frameIn-write some other =
       ap (frame d) (last-write some other)
-      ∙ ap (λ (l : List ℕ). head 0x20 d set ++ bigEndian 4 (numberOf stamp) ++ l)
+      ∙ ap (λ (l : List ℕ). head 0x20 d ++ bigEndian 8 set ++ bigEndian 4 (numberOf stamp) ++ l)
       (listed-ext (λ k. bigEndian 4 (within set values k)) (writtenItem b d) set 64 (λ k h. rw h))
+      ∙ simp append-assoc
 
   -- ---- its length
 
@@ -144,30 +146,13 @@ unfolding frame
 length-frame-le d nothing = omega arith
 length-frame-le d (read s asked shown) =
     let entry : ℕ → List ℕ = λ k. shownEntry (asked k) (shown k) in
-    omega (
-      arith,
-      length-append (head 0x21 d s)
-          (listed entry (members 64 s)),
-      length-head 0x21 d s,
-      length-listed entry 9
-          (λ k. length-shownEntry (asked k) (shown k))
-          (members 64 s),
-      length-members-rank s 64,
-      rank-le-item s 64,
-    )
+    let entries : length (listed entry (members 64 s)) ≡ 9 * length (members 64 s) =
+    length-listed entry 9 (λ k. length-shownEntry (asked k) (shown k)) (members 64 s) in
+    simp (length-append, length-bigEndian)
+    (omega (arith, length-members-rank s 64, rank-le-item s 64))
 length-frame-le d (write s own shown) =
-    let number = bigEndian 4 (numberOf own) in
     let entry : ℕ → List ℕ = λ k. bigEndian 4 (shown k) in
-    omega (
-      arith,
-      length-append (head 0x20 d s ++ number) (listed entry (members 64 s)),
-      length-append
-          (head 0x20 d s) number,
-      length-head 0x20 d s,
-      length-bigEndian 4
-          (numberOf own),
-      length-listed entry 4 (λ k. length-bigEndian 4 (shown k))
-          (members 64 s),
-      length-members-rank s 64,
-      rank-le-item s 64,
-    )
+    let entries : length (listed entry (members 64 s)) ≡ 4 * length (members 64 s) =
+    length-listed entry 4 (λ k. length-bigEndian 4 (shown k)) (members 64 s) in
+    simp (length-append, length-bigEndian)
+    (omega (arith, length-members-rank s 64, rank-le-item s 64))

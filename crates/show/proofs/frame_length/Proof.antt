@@ -27,23 +27,11 @@ module _ (c : tie.After-last-kind) where
   few : count (c .before .last-set .result) ≤ 64
   few = count-le (c .before .last-set .result) 64 (c .before .last-set .ok)
 
-last-set-requires : tie.Need-last-set-requires
-last-set-requires c κs = search needs
-
-last-kind-requires : tie.Need-last-kind-requires
-last-kind-requires c κs = search needs
-
-count-requires : tie.Need-count-requires
-count-requires c κs = search needs
-
 mul-result : tie.Need-mul-result
 mul-result c = omega (arith, few (c .before .before))
 
 add-result : tie.Need-add-result
 add-result c = omega (arith, few (c .before .before))
-
-count-requires-2 : tie.Need-count-requires-2
-count-requires-2 c κs = search needs
 
 mul-result-2 : tie.Need-mul-result-2
 mul-result-2 c = omega (arith, few (c .before .before))
@@ -78,12 +66,12 @@ pub frame-length-spec : {M : Type 1} → statement M
 frame-length-spec =
     tie.close
     (tie.spec
-    last-set-requires
-    last-kind-requires
-    count-requires
+    (λ c κs. search needs)
+    (λ c κs. search needs)
+    (λ c κs. search needs)
     mul-result
     add-result
-    count-requires-2
+    (λ c κs. search needs)
     mul-result-2
     add-result-2
     returns

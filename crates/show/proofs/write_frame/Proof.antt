@@ -1,5 +1,5 @@
--- `show::write_frame` meets its contract: what is stored from the front on is the frame of the last
--- ended transaction's kind.
+-- `show::write_frame` meets its contract: the parts that are stored behind the head make the frame
+-- of the last ended transaction's kind.
 use mathlib.Core.List.{List, [], _++_}
 use mathlib.Core.Path.{_≡_, sym, ap, _∙_}
 use Prim.Native.Nat.{ℕ, _+_, _*_, _^_, _≤_, _<_}
@@ -7,12 +7,11 @@ use native.Mathlib.Omega.{arith}
 use borrow.Author.Needs.{needs}
 use lib.ListN.{length, drop}
 use lib.Seq.{sets}
-use Rattle.hex.proofs.Stores.{sets-front}
+use Rattle.hex.proofs.Stores.{sets-front, sets-join}
 use Rattle.itemset.specs.Set.{count}
-use Rattle.protocol.specs.Tables.{numberOf}
-use Rattle.layout.specs.Layout.{scalars, at, lastKindAt, lastSetAt, lastStampAt}
-use Rattle.show.specs.Show.{frameIn, readFrame, writeFrame}
-use Rattle.show.proofs.Frames.{frameIn-nothing, frameIn-read, frameIn-write}
+use Rattle.layout.specs.Layout.{scalars, at, lastKindAt, lastSetAt}
+use Rattle.show.specs.Show.{frameIn, head, readPart, writePart}
+use Rattle.show.proofs.Frames.{length-head, frameIn-nothing, frameIn-read, frameIn-write}
 use Rattle.show.proofs.Frames.{length-frameIn-read, length-frameIn-write}
 use Rattle.show.proofs.write_frame.Statement.{statement}
 use Rattle.show.proofs.write_frame.Tie as tie
@@ -21,11 +20,17 @@ use Rattle.show.proofs.write_frame.Tie as tie
 none : (out frame : List ℕ) → frame ≡ [] → out ≡ frame ++ drop (length frame) out
 none out frame e = rw e
 
--- the whole frame, stored from the front on
-front : (out after stored frame : List ℕ) → after ≡ sets out 0 stored → stored ≡ frame
-    → length frame ≤ length out
+-- a part behind the head makes the frame
+whole : (out headed after frame : List ℕ) (kind d : ℕ) (part : List ℕ)
+    → headed ≡ sets out 0 (head kind d) → after ≡ sets headed 2 part
+    → head kind d ++ part ≡ frame → length frame ≤ length out
     → after ≡ frame ++ drop (length frame) out
-front out after stored frame e f h = e ∙ ap (sets out 0) f ∙ sets-front out frame h
+whole out headed after frame kind d part p q f h =
+    q
+    ∙ ap (λ (l : List ℕ). sets l 2 part) p
+    ∙ sets-join out 0 2 (head kind d) part (omega (arith, length-head kind d))
+    ∙ ap (sets out 0) f
+    ∙ sets-front out frame h
 
 module _ (c : tie.After-last-kind) where
   abbrev block : List ℕ
@@ -66,47 +71,28 @@ module _ (c : tie.At-match-rest) where
       length-frameIn-write (block (c .before)) (client (c .before)) (word (c .before)) some no-read
       ∙ ap (λ (s : ℕ). 14 + 4 * count s) (sym (same-set (c .before)))
 
-last-set-requires : tie.Need-last-set-requires
-last-set-requires c κs = search needs
-
-last-kind-requires : tie.Need-last-kind-requires
-last-kind-requires c κs = search needs
-
-write-read-requires : tie.Need-write-read-requires
-write-read-requires c κs = omega (arith, length-read (c .before))
-
-write-write-requires : tie.Need-write-write-requires
-write-write-requires c κs = omega (arith, length-write (c .before))
-
-returns : tie.Need-returns
-returns c =
-    none _ _ (frameIn-nothing (block (c .before)) (client (c .before))
-    (sym (c .before .last-kind .ensures) ∙ c .match .keys1))
-
-same-length : tie.Need-same-length
-same-length c = search needs
-
 returns-2 : tie.Need-returns-2
 returns-2 c =
     let wrote = c .before .before in
-    let arm = wrote .before .before in
+    let headed = wrote .before .before .before .before in
+    let arm = headed .before .before in
     let look = arm .before in
-    front _ _ _ _ (wrote .write-read .ensures)
-    (ap (readFrame (block look) (client look)) (same-set look)
+    whole _ _ _ _ 0x21 (client look) _ (headed .put-head .ensures) (wrote .put-read-part .ensures)
+    (ap (λ (s : ℕ). head 0x21 (client look) ++ readPart (block look) (client look) s)
+    (same-set look)
     ∙ sym (frameIn-read (block look) (client look) (is-read arm)))
     (look .before .before .before .before .pre .2)
-
-same-length-2 : tie.Need-same-length-2
-same-length-2 c = search needs
 
 returns-3 : tie.Need-returns-3
 returns-3 c =
     let wrote = c .before .before in
-    let arm = wrote .before .before in
+    let headed = wrote .before .before .before .before in
+    let arm = headed .before .before in
     let look = arm .before in
-    front _ _ _ _ (wrote .write-write .ensures)
-    (ap (λ (s : ℕ). writeFrame (block look) (client look) s
-    (numberOf (at (block look) scalars (lastStampAt (client look))))) (same-set look)
+    whole _ _ _ _ 0x20 (client look) _ (headed .put-head2 .ensures)
+    (wrote .put-write-part .ensures)
+    (ap (λ (s : ℕ). head 0x20 (client look) ++ writePart (block look) (client look) s)
+    (same-set look)
     ∙ sym (frameIn-write (block look) (client look) (some arm) (no-read arm)))
     (look .before .before .before .before .pre .2)
 
@@ -114,12 +100,15 @@ pub write-frame-spec : {M : Type 1} → statement M
 write-frame-spec =
     tie.close
     (tie.spec
-    last-set-requires
-    last-kind-requires
-    write-read-requires
-    write-write-requires
-    returns
-    same-length
+    (λ c κs. search needs)
+    (λ c κs. search needs)
+    (λ c κs. omega (arith, length-read (c .before)))
+    (λ c κs. omega (arith, length-read (c .before .before .before .before .before)))
+    (λ c κs. omega (arith, length-write (c .before)))
+    (λ c κs. omega (arith, length-write (c .before .before .before .before .before)))
+    (λ c. none _ _ (frameIn-nothing (block (c .before)) (client (c .before))
+    (sym (c .before .last-kind .ensures) ∙ c .match .keys1)))
+    (λ c. search needs)
     returns-2
-    same-length-2
+    (λ c. search needs)
     returns-3)
