@@ -57,12 +57,6 @@ isNothing-ended (suc zero) s stamp stamps vs = refl
 isNothing-ended (suc (suc n)) s stamp stamps vs = sym (eqb·suc-zero (suc n))
 
 module _ (b : List ℕ) (d : ℕ) where
-  abbrev kind : ℕ
-  kind = at b scalars (lastKindAt d)
-
-  abbrev set : ℕ
-  set = at b scalars (lastSetAt d)
-
   abbrev stamp : ℕ
   stamp = at b scalars (lastStampAt d)
 
@@ -72,29 +66,36 @@ module _ (b : List ℕ) (d : ℕ) where
   abbrev values : ℕ → ℕ
   values k = at b lastValues (itemAt d k)
 
-  last-nothing : kind ≡ 0 → clientIn b d .last ≡ nothing
-  unfolding clientIn endedOf
-  last-nothing e = rw e
+  -- refusal 13
+  pub isNothing-last : isNothing (clientIn b d .last) ≡ eqb (at b scalars (lastKindAt d)) 0
+  unfolding clientIn
+  isNothing-last = isNothing-ended _ (at b scalars (lastSetAt d)) stamp stamps values
 
-  last-read : kind ≡ 1 → clientIn b d .last ≡ read set (within set stamps) (within set values)
+  -- the same frame in the tables
+  pub shownFrame-tablesOf : isClient (sizesIn b) d ≡ true → shownFrame (tablesOf b) d ≡ frameIn b d
+  unfolding tablesOf
+  shownFrame-tablesOf e = rw e
+
+-- ---- the frame and its length, by kind and set as read from the block
+
+module _ (b : List ℕ) (d : ℕ) {kind set : ℕ} (k : kind ≡ at b scalars (lastKindAt d))
+    (s : set ≡ at b scalars (lastSetAt d)) where
+  pub frameIn-nothing : kind ≡ 0 → frameIn b d ≡ []
+  unfolding clientIn endedOf frame
+  frameIn-nothing e = rw (sym k ∙ e)
+
+  last-read : kind ≡ 1
+      → clientIn b d .last ≡ read set (within set (stamps b d)) (within set (values b d))
   unfolding clientIn endedOf
-  last-read e = rw e
+  last-read e = rw (s, sym k ∙ e)
 
   last-write : (kind ≡ 0 → ⊥) → (kind ≡ 1 → ⊥)
-      → clientIn b d .last ≡ write set stamp (within set values)
+      → clientIn b d .last ≡ write set (stamp b d) (within set (values b d))
   unfolding clientIn
-  last-write some other = ended-write kind set stamp stamps values some other
-
-  -- refusal 13
-  pub isNothing-last : isNothing (clientIn b d .last) ≡ eqb kind 0
-  unfolding clientIn
-  isNothing-last = isNothing-ended kind set stamp stamps values
-
-  -- ---- the frame
-
-  pub frameIn-nothing : kind ≡ 0 → frameIn b d ≡ []
-  unfolding frame
-  frameIn-nothing e = ap (frame d) (last-nothing e)
+  last-write some other =
+      rw s
+      (ended-write (at b scalars (lastKindAt d)) (at b scalars (lastSetAt d)) (stamp b d)
+      (stamps b d) (values b d) (λ e. some (k ∙ e)) (λ e. other (k ∙ e)))
 
   pub frameIn-read : kind ≡ 1 → frameIn b d ≡ head 0x21 d ++ readPart b d set
   unfolding frame
@@ -102,7 +103,7 @@ module _ (b : List ℕ) (d : ℕ) where
       ap (frame d) (last-read e)
       ∙ append-assoc (head 0x21 d) (bigEndian 8 set) _
       ∙ ap (λ (l : List ℕ). head 0x21 d ++ (bigEndian 8 set ++ l))
-      (listed-ext (λ k. shownEntry (within set stamps k) (within set values k))
+      (listed-ext (λ k. shownEntry (within set (stamps b d) k) (within set (values b d) k))
       (readItem b d) set 64 (λ k h. rw h))
 
   pub frameIn-write : (kind ≡ 0 → ⊥) → (kind ≡ 1 → ⊥)
@@ -110,31 +111,22 @@ module _ (b : List ℕ) (d : ℕ) where
   unfolding frame
   frameIn-write some other =
       ap (frame d) (last-write some other)
-      ∙ ap (λ (l : List ℕ). head 0x20 d ++ bigEndian 8 set ++ bigEndian 4 (numberOf stamp) ++ l)
-      (listed-ext (λ k. bigEndian 4 (within set values k)) (writtenItem b d) set 64 (λ k h. rw h))
+      ∙ ap (λ (l : List ℕ). head 0x20 d ++ bigEndian 8 set ++ bigEndian 4
+      (numberOf (stamp b d)) ++ l)
+      (listed-ext (λ k. bigEndian 4 (within set (values b d) k)) (writtenItem b d) set 64
+      (λ k h. rw h))
       ∙ simp append-assoc
-
-  -- ---- its length
-
-  pub length-frameIn-nothing : kind ≡ 0 → length (frameIn b d) ≡ 0
-  length-frameIn-nothing e = ap length (frameIn-nothing e)
 
   pub length-frameIn-read : set < 2 ^ 64 → kind ≡ 1 → length (frameIn b d) ≡ 10 + 9 * count set
   length-frameIn-read below e =
       ap (λ (x : Ended). length (frame d x)) (last-read e)
-      ∙ length-frame-read d set (within set stamps) (within set values) below
+      ∙ length-frame-read d set (within set (stamps b d)) (within set (values b d)) below
 
   pub length-frameIn-write : set < 2 ^ 64 → (kind ≡ 0 → ⊥) → (kind ≡ 1 → ⊥)
       → length (frameIn b d) ≡ 14 + 4 * count set
   length-frameIn-write below some other =
       ap (λ (x : Ended). length (frame d x)) (last-write some other)
-      ∙ length-frame-write d set stamp (within set values) below
-
-  -- ---- the same frame in the tables
-
-  pub shownFrame-tablesOf : isClient (sizesIn b) d ≡ true → shownFrame (tablesOf b) d ≡ frameIn b d
-  unfolding tablesOf
-  shownFrame-tablesOf e = rw e
+      ∙ length-frame-write d set (stamp b d) (within set (values b d)) below
 
 -- ---- no frame is longer than that of a read of 64 items
 
