@@ -2,3 +2,4 @@
 pub mod Cases
 pub mod Lists
 pub mod Fold
+pub mod Turns

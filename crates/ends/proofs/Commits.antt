@@ -1,89 +1,52 @@
--- Messages that join partition by partition: after n partitions, one for each of the first n that
--- passes.
-use mathlib.Core.Bool.{Bool, true, false}
-use mathlib.Core.List.{List, [], _∷_, _++_, map, append-nil, append-assoc}
-use mathlib.Core.Path.{_≡_, sym, ap, _∙_, subst}
-use Prim.Native.Nat.{ℕ, suc, _+_, _≤_, _<_}
+-- Messages that join partition by partition: one for each partition that passes.
+use mathlib.Core.Bool.{Bool, true}
+use mathlib.Core.List.{List, _++_, map}
+use mathlib.Core.Path.{_≡_}
+use Prim.Native.Nat.{ℕ, _+_, _≤_, _<_}
 use native.Mathlib.Omega.{arith}
-use lib.ListN.{length, length-append, length-map}
+use lib.ListN.{length}
 use Rattle.basics.specs.Fold.{upTo}
-use Rattle.basics.proofs.Fold.{upTo-all}
-use Rattle.basics.proofs.Lists.{map-append}
-use Rattle.itemset.specs.Set.{has, only, upto}
-use Rattle.itemset.proofs.Members.{upto-suc, length-upto-lt}
+use Rattle.itemset.specs.Set.{has, rank, upto}
+use Rattle.itemset.proofs.Members.{upto-ext, length-members-rank, length-upto-lt}
+use Rattle.itemset.proofs.Pass.{pass-grows, length-grown}
 use Rattle.protocol.specs.declared.Message.{Message}
 use Rattle.protocol.specs.declared.Message.the-variants.{Commit}
 use Rattle.protocol.specs.Tables.{Tables, withMessages}
-use Rattle.protocol.proofs.Put.{by-cond}
 use Rattle.layout.specs.Encodes.{Encodes}
-use Rattle.layout.proofs.Room.{HasRoom}
-use Rattle.slots.specs.Room.{send}
-use Rattle.slots.proofs.EncodesRoom.{encodes-send}
 use Rattle.layout.specs.Layout.{mostMessages}
+use Rattle.layout.proofs.Room.{HasRoom, room-messages}
+use Rattle.slots.proofs.EncodesRoom.{encodes-send}
 use Rattle.ends.specs.Ends.{sendCommit}
 
-module _ (t : Tables) (ps stamp partitions : ℕ) (q : ℕ → Bool)
-    (same : (p : ℕ) → p < partitions → has ps p ≡ q p) (r : HasRoom t)
-    (room : length (t .messages ++ map (λ p. Commit p stamp) (upto partitions q)) ≤ mostMessages)
-  where
-    -- the messages after n partitions
-    abbrev after : ℕ → List Message
-    after n = t .messages ++ map (λ p. Commit p stamp) (upto n q)
+module _ (t : Tables) (ps stamp partitions : ℕ) where
+  abbrev commit : ℕ → Message
+  commit p = Commit p stamp
 
-    length-after : (n : ℕ) → length (after n) ≡ length (t .messages) + length (upto n q)
-    length-after n =
-        length-append (t .messages) (map (λ p. Commit p stamp) (upto n q))
-        ∙ ap (λ (x : ℕ). length (t .messages) + x) (length-map (upto n q) (λ p. Commit p stamp))
+  -- a partition of the set leaves room for its message
+  rank-below : (p : ℕ) → p < partitions → has ps p ≡ true → rank ps p < rank ps partitions
+  rank-below p l e = omega (
+    arith,
+    length-upto-lt (has ps) p partitions l e,
+    length-members-rank ps p,
+    length-members-rank ps partitions,
+  )
 
-    after-more : (n : ℕ) → q n ≡ true → after n ++ Commit n stamp ∷ [] ≡ after (suc n)
-    after-more n e =
-        append-assoc (t .messages) (map (λ p. Commit p stamp) (upto n q)) (Commit n stamp ∷ [])
-        ∙ ap (λ (x : List Message). t .messages ++ x)
-        (sym (ap (map (λ p. Commit p stamp))
-        (upto-suc n q ∙ ap (λ (x : Bool). upto n q ++ only x n) e)
-        ∙ map-append (λ p. Commit p stamp) (upto n q) (n ∷ [])))
-
-    after-same : (n : ℕ) → q n ≡ false → after n ≡ after (suc n)
-    after-same n e =
-        ap (λ (x : List ℕ). t .messages ++ map (λ p. Commit p stamp) x)
-        (sym (upto-suc n q ∙ (ap (λ (x : Bool). upto n q ++ only x n) e ∙ append-nil (upto n q))))
-
-    turn : (n : ℕ) (c : List ℕ) → n < partitions → Encodes c (withMessages t (after n))
-        → Encodes (sendCommit ps stamp c n) (withMessages t (after (suc n)))
-    turn n c l h =
-        by-cond (λ (x : List ℕ). Encodes x (withMessages t (after (suc n)))) (has ps n)
-        (send c (Commit n stamp)) c
-        (λ e.
-        let passes : q n ≡ true = sym (same n l) ∙ e in
-        let few : length (after n) < mostMessages =
-        omega (
-          arith,
-          length-after n,
-          length-after partitions,
-          length-upto-lt q n partitions l
-              passes,
-        )
-        in
-        subst (λ (ms : List Message). Encodes (send c (Commit n stamp)) (withMessages t ms))
-        (after-more n passes)
-        (encodes-send (Commit n stamp) h
-        (record {
-          clients = r .clients;
-          items = r .items;
-          versions = r .versions;
-          messages =
-              omega arith;
-          client = r .client;
-        }) few))
-        (λ e. subst (λ (ms : List Message). Encodes c (withMessages t ms))
-        (after-same n (sym (same n l) ∙ e)) h)
-
-    none : after 0 ≡ t .messages
-    unfolding upto
-    none = append-nil (t .messages)
-
-    pub encodes-commits : {b : List ℕ} → Encodes b t
-        → Encodes (upTo (sendCommit ps stamp) b partitions) (withMessages t (after partitions))
-    encodes-commits {b} n =
-        upTo-all (λ i c. Encodes c (withMessages t (after i))) (sendCommit ps stamp) b partitions
-        (subst (λ (ms : List Message). Encodes b (withMessages t ms)) (sym none) n) turn
+  pub encodes-commits : {b : List ℕ} (q : ℕ → Bool)
+      → ((p : ℕ) → p < partitions → has ps p ≡ q p) → HasRoom t
+      → length (t .messages ++ map (λ p. Commit p stamp) (upto partitions q)) ≤ mostMessages
+      → Encodes b t
+      → Encodes (upTo (sendCommit ps stamp) b partitions)
+      (withMessages t (t .messages ++ map (λ p. Commit p stamp) (upto partitions q)))
+  encodes-commits {b} q same r room n =
+      rw (← upto-ext partitions (has ps) q same)
+      (pass-grows ps partitions (λ ms x. Encodes x (withMessages t ms)) _ b commit (t .messages) n
+      (λ p x ms l e long h.
+      let few : length ms < mostMessages =
+      omega (
+        arith,
+        rank-below p l e,
+        length-grown commit ps (t .messages) partitions,
+        rw (← upto-ext partitions (has ps) q same) at room,
+      )
+      in
+      encodes-send (commit p) h (room-messages t ms r (omega arith)) few))

@@ -9,6 +9,7 @@ use lib.Dec.{lit<}
 use Rattle.basics.specs.Fold.{upTo}
 use Rattle.itemset.specs.Set.{has}
 use Rattle.itemset.proofs.Laws.{has-below}
+use Rattle.itemset.proofs.Pass.{filled-at}
 use Rattle.protocol.specs.Tables.{Tables, read, write, resting, withClient, withView}
 use Rattle.protocol.specs.Range.{isWriting}
 use Rattle.protocol.specs.Steps.{seen}
@@ -40,11 +41,11 @@ encodes-write-kept {b} {t} d stamp n r first last writes set =
     let h : HoldsClient b₁ d (t .client d) = e .client d first last in
     let v = values-taken s (changed-none d b₁ first (omega (arith, r .clients)) (e .long)) items
     (r .items) in
-    encodes-changed e r last (changed-scalar (ended-changed 2 s (v .changed)) 7 stamp (lit< tt))
+    encodes-changed e r last (changed-scalar (ended-changed 2 s v) 7 stamp (lit< tt))
     (narrow-resting (t .client d .count) (write s stamp (t .client d .write .values))
     (narrow-below s items set (r .items)))
     (rests-write _ (t .client d .count) s stamp (t .client d .write .values) (h .count)
-    (λ k m. v .taken k (has-below s k items set m) m ∙ h .write writes .values k m))
+    (λ k m. filled-at s _ _ items k (has-below s k items set m) m ∙ h .write writes .values k m))
 
 -- ---- a read: its stamps and answers go over
 
@@ -62,8 +63,8 @@ encodes-read-ended {a} {b} {t} {d} {w} count s stamps vs n r last set c counted 
     subst (λ (z : ℕ). Encodes (ended (upTo (keepAnswer d z) b items) d 1 z)
     (withClient t d (resting count (read s stamps vs))))
     (sym (c .words .scalar 2 (lit< tt) ∙ same))
-    (encodes-changed n r last (ended-changed 1 s (v .changed))
+    (encodes-changed n r last (ended-changed 1 s v)
     (narrow-resting count (read s stamps vs) (narrow-below s items set (r .items)))
     (rests-read _ count s stamps vs counted
-    (λ k m. v .takenStamps k (has-below s k items set m) m ∙ asked k m)
-    (λ k m. v .takenValues k (has-below s k items set m) m ∙ values k m)))
+    (λ k m. filled-at s _ _ items k (has-below s k items set m) m ∙ asked k m)
+    (λ k m. filled-at s _ _ items k (has-below s k items set m) m ∙ values k m)))

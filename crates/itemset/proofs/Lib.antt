@@ -4,3 +4,4 @@ pub mod Counts
 pub mod Members
 pub mod Least
 pub mod Bits
+pub mod Pass

@@ -19,8 +19,8 @@ use Rattle.layout.specs.Layout.{needed}
 use Rattle.layout.specs.Decode.{wellFormed, validBlock}
 use Rattle.layout.specs.Store.{freshBlock}
 use Rattle.range.specs.Sized.{sizes}
-use Rattle.store.specs.Calls.{freshRefusalOn, freshAnswerOn, freshAfter, refusalOn, answerOn}
-use Rattle.store.specs.Calls.{blockAfter}
+use Rattle.block_calls.specs.Calls.{freshRefusalOn, freshAnswerOn, freshAfter, refusalOn, answerOn}
+use Rattle.block_calls.specs.Calls.{blockAfter}
 use Rattle.store_frames.specs.declared.StoreFrame.the-variants.{Fresh, Read, Write, Deliver, Show}
 use Rattle.store_frames.specs.declared.Parsed.{Parsed}
 use Rattle.store_frames.specs.declared.Parsed.the-variants.{Frame, Malformed}

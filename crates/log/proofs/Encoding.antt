@@ -309,9 +309,9 @@ module _ (f : List ℕ) (h : EachByte f) (e : shaped f ≡ true) where
   size : length f ≡ endOf f
   size = eqb-true (length f) (endOf f) (shaped-size f e)
 
-  module _ (has-write : hasWrite (kindOf f) ≡ true) where
-    kind-write : kindOf f ≡ 0x20
-    kind-write = eqb-true (kindOf f) 0x20 has-write
+  module _ (kind-write : kindOf f ≡ 0x20) where
+    has-write : hasWrite (kindOf f) ≡ true
+    has-write = ap hasWrite kind-write
 
     no-read : hasRead (kindOf f) ≡ false
     no-read = ap hasRead kind-write
@@ -362,9 +362,9 @@ module _ (f : List ℕ) (h : EachByte f) (e : shaped f ≡ true) where
         ∙ sym (append-assoc (0x20 ∷ clientOf f ∷ bigEndian 8 (written f)) (bigEndian 4 (numberOf f))
         (each (λ item. bigEndian 4 (writtenValue f item)) (members 64 (written f))))
 
-  module _ (has-read : hasRead (kindOf f) ≡ true) where
-    kind-read : kindOf f ≡ 0x21
-    kind-read = eqb-true (kindOf f) 0x21 has-read
+  module _ (kind-read : kindOf f ≡ 0x21) where
+    has-read : hasRead (kindOf f) ≡ true
+    has-read = ap hasRead kind-read
 
     set-shown : shown f ≡ numberAt 8 f 2
     unfolding shown

@@ -1,5 +1,5 @@
--- Document 01's examples, what each test and frame tells, that valid tables stay valid, the
--- invariant, runs of calls, and condition 3.
+-- Document 01's examples, what each test and frame tells, what the steps do, that valid tables stay
+-- valid, the invariant, runs of calls, and condition 3.
 pub mod Examples
 pub mod Stamp
 pub mod Tells
@@ -14,13 +14,8 @@ pub mod Delivered
 pub mod Touched
 pub mod Load
 pub mod Occupied
+pub mod Commits
 pub mod Kept
 pub mod Sorts
 pub mod Keeps
 pub mod Valid
-pub mod Common
-pub mod Runs
-pub mod Never
-pub mod Sound
-pub mod Link
-pub mod Condition3

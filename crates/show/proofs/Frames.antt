@@ -1,7 +1,7 @@
 -- The frame that a block holds, by the kind of the client's last ended transaction; its length; and
 -- the same frame in the tables.
 use mathlib.Core.Bool.{true}
-use mathlib.Core.List.{List, [], _++_}
+use mathlib.Core.List.{List, [], _++_, append-assoc}
 use mathlib.Core.Path.{_≡_, refl, sym, ap, _∙_}
 use Prim.Native.Nat.{ℕ, zero, suc, _+_, _*_, _%_, _^_, _≤_, _<_}
 use native.Mathlib.Nat.{mod-lt}
@@ -22,13 +22,13 @@ use Rattle.protocol.proofs.Shown.{length-listed, length-frame-read, length-fram
 use Rattle.layout.specs.Layout.{scalars, lastStamps, lastValues, at, lastKindAt, lastSetAt}
 use Rattle.layout.specs.Layout.{lastStampAt, itemAt}
 use Rattle.layout.specs.Decode.{within, endedOf, sizesIn, clientIn, tablesOf}
-use Rattle.show.specs.Show.{frameIn, head, readItem, writtenItem, readFrame, writeFrame}
+use Rattle.show.specs.Show.{frameIn, head, readItem, writtenItem, readPart, writePart}
 use Rattle.show.proofs.Listed.{listed-ext}
 
 -- ---- lengths of the parts
 
-pub length-head : (kind d s : ℕ) → length (head kind d s) ≡ 10
-length-head kind d s = simp (length-append, length-bigEndian)
+pub length-head : (kind d : ℕ) → length (head kind d) ≡ 2
+length-head kind d = simp length-bigEndian
 
 length-shownEntry : (stamp value : ℕ) → length (shownEntry stamp value) ≡ 9
 length-shownEntry stamp value = simp (length-append, length-bigEndian)
@@ -57,12 +57,6 @@ isNothing-ended (suc zero) s stamp stamps vs = refl
 isNothing-ended (suc (suc n)) s stamp stamps vs = sym (eqb·suc-zero (suc n))
 
 module _ (b : List ℕ) (d : ℕ) where
-  abbrev kind : ℕ
-  kind = at b scalars (lastKindAt d)
-
-  abbrev set : ℕ
-  set = at b scalars (lastSetAt d)
-
   abbrev stamp : ℕ
   stamp = at b scalars (lastStampAt d)
 
@@ -72,67 +66,67 @@ module _ (b : List ℕ) (d : ℕ) where
   abbrev values : ℕ → ℕ
   values k = at b lastValues (itemAt d k)
 
-  last-nothing : kind ≡ 0 → clientIn b d .last ≡ nothing
-  unfolding clientIn endedOf
-  last-nothing e = rw e
+  -- refusal 13
+  pub isNothing-last : isNothing (clientIn b d .last) ≡ eqb (at b scalars (lastKindAt d)) 0
+  unfolding clientIn
+  isNothing-last = isNothing-ended _ (at b scalars (lastSetAt d)) stamp stamps values
 
-  last-read : kind ≡ 1 → clientIn b d .last ≡ read set (within set stamps) (within set values)
+  -- the same frame in the tables
+  pub shownFrame-tablesOf : isClient (sizesIn b) d ≡ true → shownFrame (tablesOf b) d ≡ frameIn b d
+  unfolding tablesOf
+  shownFrame-tablesOf e = rw e
+
+-- ---- the frame and its length, by kind and set as read from the block
+
+module _ (b : List ℕ) (d : ℕ) {kind set : ℕ} (k : kind ≡ at b scalars (lastKindAt d))
+    (s : set ≡ at b scalars (lastSetAt d)) where
+  pub frameIn-nothing : kind ≡ 0 → frameIn b d ≡ []
+  unfolding clientIn endedOf frame
+  frameIn-nothing e = rw (sym k ∙ e)
+
+  last-read : kind ≡ 1
+      → clientIn b d .last ≡ read set (within set (stamps b d)) (within set (values b d))
   unfolding clientIn endedOf
-  last-read e = rw e
+  last-read e = rw (s, sym k ∙ e)
 
   last-write : (kind ≡ 0 → ⊥) → (kind ≡ 1 → ⊥)
-      → clientIn b d .last ≡ write set stamp (within set values)
+      → clientIn b d .last ≡ write set (stamp b d) (within set (values b d))
   unfolding clientIn
-  last-write some other = ended-write kind set stamp stamps values some other
+  last-write some other =
+      rw s
+      (ended-write (at b scalars (lastKindAt d)) (at b scalars (lastSetAt d)) (stamp b d)
+      (stamps b d) (values b d) (λ e. some (k ∙ e)) (λ e. other (k ∙ e)))
 
-  -- refusal 13
-  pub isNothing-last : isNothing (clientIn b d .last) ≡ eqb kind 0
-  unfolding clientIn
-  isNothing-last = isNothing-ended kind set stamp stamps values
-
-  -- ---- the frame
-
-  pub frameIn-nothing : kind ≡ 0 → frameIn b d ≡ []
-  unfolding frame
-  frameIn-nothing e = ap (frame d) (last-nothing e)
-
-  pub frameIn-read : kind ≡ 1 → frameIn b d ≡ readFrame b d set
+  pub frameIn-read : kind ≡ 1 → frameIn b d ≡ head 0x21 d ++ readPart b d set
   unfolding frame
   frameIn-read e =
       ap (frame d) (last-read e)
-      ∙ ap (λ (l : List ℕ). head 0x21 d set ++ l)
-      (listed-ext (λ k. shownEntry (within set stamps k) (within set values k))
+      ∙ append-assoc (head 0x21 d) (bigEndian 8 set) _
+      ∙ ap (λ (l : List ℕ). head 0x21 d ++ (bigEndian 8 set ++ l))
+      (listed-ext (λ k. shownEntry (within set (stamps b d) k) (within set (values b d) k))
       (readItem b d) set 64 (λ k h. rw h))
 
   pub frameIn-write : (kind ≡ 0 → ⊥) → (kind ≡ 1 → ⊥)
-      → frameIn b d ≡ writeFrame b d set (numberOf stamp)
+      → frameIn b d ≡ head 0x20 d ++ writePart b d set
   unfolding frame
   frameIn-write some other =
       ap (frame d) (last-write some other)
-      ∙ ap (λ (l : List ℕ). head 0x20 d set ++ bigEndian 4 (numberOf stamp) ++ l)
-      (listed-ext (λ k. bigEndian 4 (within set values k)) (writtenItem b d) set 64 (λ k h. rw h))
-
-  -- ---- its length
-
-  pub length-frameIn-nothing : kind ≡ 0 → length (frameIn b d) ≡ 0
-  length-frameIn-nothing e = ap length (frameIn-nothing e)
+      ∙ ap (λ (l : List ℕ). head 0x20 d ++ bigEndian 8 set ++ bigEndian 4
+      (numberOf (stamp b d)) ++ l)
+      (listed-ext (λ k. bigEndian 4 (within set (values b d) k)) (writtenItem b d) set 64
+      (λ k h. rw h))
+      ∙ simp append-assoc
 
   pub length-frameIn-read : set < 2 ^ 64 → kind ≡ 1 → length (frameIn b d) ≡ 10 + 9 * count set
   length-frameIn-read below e =
       ap (λ (x : Ended). length (frame d x)) (last-read e)
-      ∙ length-frame-read d set (within set stamps) (within set values) below
+      ∙ length-frame-read d set (within set (stamps b d)) (within set (values b d)) below
 
   pub length-frameIn-write : set < 2 ^ 64 → (kind ≡ 0 → ⊥) → (kind ≡ 1 → ⊥)
       → length (frameIn b d) ≡ 14 + 4 * count set
   length-frameIn-write below some other =
       ap (λ (x : Ended). length (frame d x)) (last-write some other)
-      ∙ length-frame-write d set stamp (within set values) below
-
-  -- ---- the same frame in the tables
-
-  pub shownFrame-tablesOf : isClient (sizesIn b) d ≡ true → shownFrame (tablesOf b) d ≡ frameIn b d
-  unfolding tablesOf
-  shownFrame-tablesOf e = rw e
+      ∙ length-frame-write d set (stamp b d) (within set (values b d)) below
 
 -- ---- no frame is longer than that of a read of 64 items
 
@@ -144,30 +138,13 @@ unfolding frame
 length-frame-le d nothing = omega arith
 length-frame-le d (read s asked shown) =
     let entry : ℕ → List ℕ = λ k. shownEntry (asked k) (shown k) in
-    omega (
-      arith,
-      length-append (head 0x21 d s)
-          (listed entry (members 64 s)),
-      length-head 0x21 d s,
-      length-listed entry 9
-          (λ k. length-shownEntry (asked k) (shown k))
-          (members 64 s),
-      length-members-rank s 64,
-      rank-le-item s 64,
-    )
+    let entries : length (listed entry (members 64 s)) ≡ 9 * length (members 64 s) =
+    length-listed entry 9 (λ k. length-shownEntry (asked k) (shown k)) (members 64 s) in
+    simp (length-append, length-bigEndian)
+    (omega (arith, length-members-rank s 64, rank-le-item s 64))
 length-frame-le d (write s own shown) =
-    let number = bigEndian 4 (numberOf own) in
     let entry : ℕ → List ℕ = λ k. bigEndian 4 (shown k) in
-    omega (
-      arith,
-      length-append (head 0x20 d s ++ number) (listed entry (members 64 s)),
-      length-append
-          (head 0x20 d s) number,
-      length-head 0x20 d s,
-      length-bigEndian 4
-          (numberOf own),
-      length-listed entry 4 (λ k. length-bigEndian 4 (shown k))
-          (members 64 s),
-      length-members-rank s 64,
-      rank-le-item s 64,
-    )
+    let entries : length (listed entry (members 64 s)) ≡ 4 * length (members 64 s) =
+    length-listed entry 4 (λ k. length-bigEndian 4 (shown k)) (members 64 s) in
+    simp (length-append, length-bigEndian)
+    (omega (arith, length-members-rank s 64, rank-le-item s 64))

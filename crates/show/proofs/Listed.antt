@@ -4,13 +4,14 @@ use mathlib.Core.Bool.{true, false}
 use mathlib.Core.List.{List, [], _∷_, _++_, append-assoc, append-nil}
 use mathlib.Core.Path.{_≡_, refl, sym, ap, ap₂, _∙_}
 use Prim.Native.Nat.{ℕ, zero, suc, _+_, _*_}
-use native.Mathlib.Numerals.{add-one}
 use lib.ListN.{length}
 use lib.Seq.{sets}
 use Rattle.basics.proofs.Cases.{by-test}
+use Rattle.basics.specs.Fold.{upTo}
 use Rattle.hex.proofs.Stores.{sets-join}
 use Rattle.itemset.specs.Set.{has, rank, upto, members}
 use Rattle.itemset.proofs.Members.{upto-suc, length-members-rank}
+use Rattle.itemset.proofs.Pass.{pass}
 use Rattle.protocol.specs.Frame.{listed}
 use Rattle.protocol.proofs.Shown.{length-listed}
 use Rattle.show.specs.Show.{putItem}
@@ -53,25 +54,37 @@ listed-ext f g s (suc n) h =
 
 -- ---- storing them, n bytes an item
 
--- none before item 0
-pub listed-none : (f : ℕ → List ℕ) (first s : ℕ) (out : List ℕ)
-    → out ≡ sets out first (listed f (members 0 s))
-unfolding upto listed
-listed-none f first s out = refl
+module _ (f : ℕ → List ℕ) (n : ℕ) (each : (k : ℕ) → length (f k) ≡ n) (first s : ℕ)
+    (out : List ℕ) where
+  -- item k behind those below it
+  listed-item : (k : ℕ) → has s k ≡ true
+      → sets (sets out first (listed f (members k s))) (first + n * rank s k) (f k)
+      ≡ sets out first (listed f (members (suc k) s))
+  listed-item k e =
+      let below = listed f (members k s) in
+      let long : length below ≡ n * rank s k =
+      length-listed f n each (members k s) ∙ ap (λ (m : ℕ). n * m) (length-members-rank s k) in
+      sets-join out first (first + n * rank s k) below (f k) (ap (λ (i : ℕ). first + i) (sym long))
+      ∙ ap (sets out first) (sym (listed-has f s k e))
 
--- item k behind those below it
-pub listed-item : (f : ℕ → List ℕ) (n : ℕ) → ((k : ℕ) → length (f k) ≡ n)
-    → (first s k : ℕ) (start out after : List ℕ)
-    → out ≡ sets start first (listed f (members k s))
-    → after ≡ putItem f first n s out k
-    → after ≡ sets start first (listed f (members (k + 1) s))
-listed-item f n each first s k start out after p q =
-    let below = listed f (members k s) in
-    let long : length below ≡ n * rank s k =
-    length-listed f n each (members k s) ∙ ap (λ (m : ℕ). n * m) (length-members-rank s k) in
-    rw (add-one k, q, p)
-    (by-test (has s k)
-    (λ e. rw e
-    (sets-join start first (first + n * rank s k) below (f k) (ap (λ (i : ℕ). first + i) (sym long))
-    ∙ ap (sets start first) (sym (listed-has f s k e))))
-    (λ e. rw e (ap (sets start first) (sym (listed-hasnt f s k e)))))
+  listed-none : out ≡ sets out first (listed f (members 0 s))
+  unfolding upto listed
+  listed-none = refl
+
+  put-listed : (m : ℕ)
+      → upTo (putItem f first n s) out m ≡ sets out first (listed f (members m s))
+  put-listed m =
+      pass s m (λ k x. x ≡ sets out first (listed f (members k s))) _ out listed-none
+      (λ k x l e h. rw h (listed-item k e))
+      (λ k x e h. h ∙ ap (sets out first) (sym (listed-hasnt f s k e)))
+
+-- the items right behind the bytes of `before`
+pub listed-behind : (f : ℕ → List ℕ) (n : ℕ) → ((k : ℕ) → length (f k) ≡ n)
+    → (s place first m : ℕ) (before out stored last : List ℕ) → first ≡ place + length before
+    → stored ≡ sets out place before → last ≡ upTo (putItem f first n s) stored m
+    → last ≡ sets out place (before ++ listed f (members m s))
+listed-behind f n each s place first m before out stored last e p q =
+    q
+    ∙ put-listed f n each first s stored m
+    ∙ ap (λ (l : List ℕ). sets l first (listed f (members m s))) p
+    ∙ sets-join out place first before (listed f (members m s)) e

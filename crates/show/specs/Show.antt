@@ -6,7 +6,8 @@ use lib.Seq.{sets}
 use Rattle.hex.specs.Number.{bigEndian}
 use Rattle.itemset.specs.Set.{has, rank, members}
 use Rattle.protocol.specs.Frame.{listed, shownEntry, frame}
-use Rattle.layout.specs.Layout.{lastStamps, lastValues, at, itemAt}
+use Rattle.protocol.specs.Tables.{numberOf}
+use Rattle.layout.specs.Layout.{scalars, lastStamps, lastValues, at, lastStampAt, itemAt}
 use Rattle.layout.specs.Decode.{clientIn}
 
 -- the log frame of client d's last ended transaction; empty where none has ended
@@ -15,9 +16,9 @@ frameIn b d = frame d (clientIn b d .last)
 
 -- ---- the parts
 
--- kind, client and set: what every frame begins with
-abbrev pub head : ℕ → ℕ → ℕ → List ℕ
-head kind d s = kind ∷ bigEndian 1 d ++ bigEndian 8 s
+-- kind and client: what every frame begins with
+abbrev pub head : ℕ → ℕ → List ℕ
+head kind d = kind ∷ bigEndian 1 d
 
 -- item k of a last read: its number, writing client and value
 abbrev pub readItem : List ℕ → ℕ → ℕ → List ℕ
@@ -31,10 +32,12 @@ writtenItem b d k = bigEndian 4 (at b lastValues (itemAt d k))
 abbrev pub putItem : (ℕ → List ℕ) → ℕ → ℕ → ℕ → List ℕ → ℕ → List ℕ
 putItem f first n s out k = cond (has s k) (sets out (first + n * rank s k) (f k)) out
 
--- the frame of a read, and of a write, of the items of s
-abbrev pub readFrame : List ℕ → ℕ → ℕ → List ℕ
-readFrame b d s = head 0x21 d s ++ listed (readItem b d) (members 64 s)
+-- a read part: set, then per item its entry
+abbrev pub readPart : List ℕ → ℕ → ℕ → List ℕ
+readPart b d s = bigEndian 8 s ++ listed (readItem b d) (members 64 s)
 
-abbrev pub writeFrame : List ℕ → ℕ → ℕ → ℕ → List ℕ
-writeFrame b d s number = head 0x20 d s ++ bigEndian 4 number ++ listed (writtenItem b d)
-    (members 64 s)
+-- a write part: set, number, values
+abbrev pub writePart : List ℕ → ℕ → ℕ → List ℕ
+writePart b d s =
+    bigEndian 8 s ++ bigEndian 4 (numberOf (at b scalars (lastStampAt d)))
+    ++ listed (writtenItem b d) (members 64 s)

@@ -4,11 +4,10 @@ ghost use mathlib.Core.Path.{_≡_};
 ghost use Prim.Native.Nat.{_+_, _*_, _≤_, _<_};
 ghost use lib.ListN.{length, drop};
 ghost use lib.Seq.{sets};
-ghost use Rattle.itemset.specs.Set.{count, members};
+ghost use Rattle.itemset.specs.Set.{count};
 ghost use Rattle.layout.specs.Layout.{at, scalars, lastStampAt};
-ghost use Rattle.protocol.specs.Frame.{listed};
 ghost use Rattle.protocol.specs.Tables.{numberOf};
-ghost use Rattle.show.specs.Show.{frameIn, head, readItem, writtenItem, putItem, readFrame, writeFrame};
+ghost use Rattle.show.specs.Show.{frameIn, head, readItem, writtenItem, putItem, readPart, writePart};
 use hex::put_bytes;
 use itemset::count;
 use itemset::has;
@@ -19,14 +18,13 @@ use layout::client::last_set;
 use layout::client::last_stamp;
 use layout::client::last_value;
 
-// Kind, client and set: what every frame begins with.
-fn put_head(out: &mut [u8], kind: u8, d: u64, s: u64)
-    requires { ⌜ 10 ≤ length (now out) ⌝ }
-    ensures { λ _. ⌜ now (out .exit) ≡ sets (now (out .entry)) 0 (head kind d s) ⌝ }
+// Kind and client: what every frame begins with.
+fn put_head(out: &mut [u8], kind: u8, d: u64)
+    requires { ⌜ 2 ≤ length (now out) ⌝ }
+    ensures { λ _. ⌜ now (out .exit) ≡ sets (now (out .entry)) 0 (head kind d) ⌝ }
 {
     out[0] = kind;
     put_bytes(out, 1, 1, d);
-    put_bytes(out, 2, 8, s);
 }
 
 // Item `k` of a last read: number (4), writing client (1), value (4).
@@ -41,57 +39,38 @@ fn put_entry(b: &[u64], d: u64, k: u64, out: &mut [u8], at: usize)
     put_bytes(out, at + 5, 4, value);
 }
 
-// Item `k` where the last read's set `s` has it, behind the items below it.
-fn put_read_item(b: &[u64], d: u64, s: u64, out: &mut [u8], k: u64)
-    requires { ⌜ (1 ≤ d) × (d ≤ 8) × (k < 64) × (10 + 9 * count s ≤ length (now out)) ⌝ }
-    ensures { λ _. ⌜ now (out .exit) ≡ putItem (readItem (now (b .entry)) d) 10 9 s (now (out .entry)) k ⌝ }
+// Item `k` where the last read's set `s` has it, behind the items below it, which begin at `at`.
+fn put_read_item(b: &[u64], d: u64, s: u64, out: &mut [u8], at: usize, k: u64)
+    requires { ⌜ (1 ≤ d) × (d ≤ 8) × (k < 64) × (at + 9 * count s ≤ length (now out)) ⌝ }
+    ensures { λ _. ⌜ now (out .exit) ≡ putItem (readItem (now (b .entry)) d) at 9 s (now (out .entry)) k ⌝ }
 {
     if has(s, k) {
-        put_entry(b, d, k, out, (10 + 9 * rank(s, k)) as usize);
+        put_entry(b, d, k, out, at + (9 * rank(s, k)) as usize);
     }
 }
 
-// The entries of the last read's set `s`, ascending.
-fn put_entries(b: &[u64], d: u64, s: u64, out: &mut [u8])
-    requires { ⌜ (1 ≤ d) × (d ≤ 8) × (10 + 9 * count s ≤ length (now out)) ⌝ }
-    ensures { λ _. ⌜ now (out .exit) ≡ sets (now (out .entry)) 10 (listed (readItem (now (b .entry)) d) (members 64 s)) ⌝ }
+// The read part of a last read of set `s`: the set, then its entries, ascending.
+fn put_read_part(b: &[u64], d: u64, s: u64, out: &mut [u8], at: usize)
+    requires { ⌜ (1 ≤ d) × (d ≤ 8) × (at + 8 + 9 * count s ≤ length (now out)) ⌝ }
+    ensures { λ _. ⌜ now (out .exit) ≡ sets (now (out .entry)) at (readPart (now (b .entry)) d s) ⌝ }
 {
+    put_bytes(out, at, 8, s);
+    let first = at + 8;
     let mut k = 0;
     while k < 64 {
-        put_read_item(b, d, s, out, k);
+        put_read_item(b, d, s, out, first, k);
         k += 1;
     }
 }
 
-// Item `k` where the last write's set `s` has it, its value (4), behind the items below it.
-fn put_written_item(b: &[u64], d: u64, s: u64, out: &mut [u8], k: u64)
-    requires { ⌜ (1 ≤ d) × (d ≤ 8) × (k < 64) × (14 + 4 * count s ≤ length (now out)) ⌝ }
-    ensures { λ _. ⌜ now (out .exit) ≡ putItem (writtenItem (now (b .entry)) d) 14 4 s (now (out .entry)) k ⌝ }
+// Item `k` where the last write's set `s` has it, its value (4), behind the items below it, which begin at `at`.
+fn put_written_item(b: &[u64], d: u64, s: u64, out: &mut [u8], at: usize, k: u64)
+    requires { ⌜ (1 ≤ d) × (d ≤ 8) × (k < 64) × (at + 4 * count s ≤ length (now out)) ⌝ }
+    ensures { λ _. ⌜ now (out .exit) ≡ putItem (writtenItem (now (b .entry)) d) at 4 s (now (out .entry)) k ⌝ }
 {
     if has(s, k) {
-        put_bytes(out, (14 + 4 * rank(s, k)) as usize, 4, last_value(b, d, k));
+        put_bytes(out, at + (4 * rank(s, k)) as usize, 4, last_value(b, d, k));
     }
-}
-
-// The values of the last write's set `s`, ascending.
-fn put_values(b: &[u64], d: u64, s: u64, out: &mut [u8])
-    requires { ⌜ (1 ≤ d) × (d ≤ 8) × (14 + 4 * count s ≤ length (now out)) ⌝ }
-    ensures { λ _. ⌜ now (out .exit) ≡ sets (now (out .entry)) 14 (listed (writtenItem (now (b .entry)) d) (members 64 s)) ⌝ }
-{
-    let mut k = 0;
-    while k < 64 {
-        put_written_item(b, d, s, out, k);
-        k += 1;
-    }
-}
-
-// The frame of a last read.
-fn write_read(b: &[u64], d: u64, s: u64, out: &mut [u8])
-    requires { ⌜ (1 ≤ d) × (d ≤ 8) × (10 + 9 * count s ≤ length (now out)) ⌝ }
-    ensures { λ _. ⌜ now (out .exit) ≡ sets (now (out .entry)) 0 (readFrame (now (b .entry)) d s) ⌝ }
-{
-    put_head(out, 0x21, d, s);
-    put_entries(b, d, s, out);
 }
 
 // The number of a last write: that of its stamp, never the client's count.
@@ -102,15 +81,20 @@ fn last_number(b: &[u64], d: u64) -> u64
     last_stamp(b, d) / 16
 }
 
-// The frame of a last write.
-fn write_write(b: &[u64], d: u64, s: u64, out: &mut [u8])
-    requires { ⌜ (1 ≤ d) × (d ≤ 8) × (14 + 4 * count s ≤ length (now out)) ⌝ }
-    ensures { λ _. ⌜ now (out .exit) ≡ sets (now (out .entry)) 0 (writeFrame (now (b .entry)) d s (numberOf (at (now (b .entry)) scalars (lastStampAt d)))) ⌝ }
+// The write part of a last write of set `s`: the set, the write's number, then the values, ascending.
+fn put_write_part(b: &[u64], d: u64, s: u64, out: &mut [u8], at: usize)
+    requires { ⌜ (1 ≤ d) × (d ≤ 8) × (at + 12 + 4 * count s ≤ length (now out)) ⌝ }
+    ensures { λ _. ⌜ now (out .exit) ≡ sets (now (out .entry)) at (writePart (now (b .entry)) d s) ⌝ }
 {
     let number = last_number(b, d);
-    put_head(out, 0x20, d, s);
-    put_bytes(out, 10, 4, number);
-    put_values(b, d, s, out);
+    put_bytes(out, at, 8, s);
+    put_bytes(out, at + 8, 4, number);
+    let first = at + 12;
+    let mut k = 0;
+    while k < 64 {
+        put_written_item(b, d, s, out, first, k);
+        k += 1;
+    }
 }
 
 // The length of the log frame of client `d` (document 01: desk); 0 where no transaction of its has ended.
@@ -134,7 +118,13 @@ pub fn write_frame(b: &[u64], d: u64, out: &mut [u8])
     let s = last_set(b, d);
     match last_kind(b, d) {
         0 => {}
-        1 => write_read(b, d, s, out),
-        _ => write_write(b, d, s, out),
+        1 => {
+            put_head(out, 0x21, d);
+            put_read_part(b, d, s, out, 2);
+        }
+        _ => {
+            put_head(out, 0x20, d);
+            put_write_part(b, d, s, out, 2);
+        }
     }
 }

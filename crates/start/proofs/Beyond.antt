@@ -6,15 +6,14 @@ use native.Mathlib.Omega.{arith}
 use lib.ListN.{length, getD, length-set}
 use lib.Seq.{getD-set-other}
 use Rattle.basics.specs.Fold.{upTo}
-use Rattle.basics.proofs.Fold.{upTo-all}
-use Rattle.itemset.specs.Set.{has, count, rank}
+use Rattle.itemset.specs.Set.{count, rank}
 use Rattle.itemset.proofs.Counts.{rank-lt}
+use Rattle.itemset.proofs.Pass.{pass-keeps}
 use Rattle.protocol.specs.declared.Message.{Message}
 use Rattle.protocol.specs.declared.Message.the-variants.{Prepare, Get}
 use Rattle.protocol.specs.Tables.{Tables, stampOf}
 use Rattle.protocol.specs.Range.{capacities, load}
 use Rattle.protocol.specs.Steps.{version}
-use Rattle.protocol.proofs.Put.{by-cond}
 use Rattle.protocol.proofs.Refusals.{AcceptedStart, AcceptedWrite}
 use Rattle.layout.specs.Layout.{mostMessages, messageWords, Section, scalars, asked, values}
 use Rattle.layout.specs.Layout.{messages, base, needed, at, store, messagesAt, modeAt, countAt}
@@ -23,7 +22,7 @@ use Rattle.layout.specs.Store.{wordsOfMessage, storeMessage, appendMessage}
 use Rattle.layout.specs.Encodes.{Encodes}
 use Rattle.layout.proofs.Room.{HasRoom, room-valid}
 use Rattle.slots.proofs.Runs.{run-length, run-behind}
-use Rattle.start.specs.Start.{busy, sendItem, askItem, readStarted, valueItem, writeStarted}
+use Rattle.start.specs.Start.{busy, sendItem, readStarted, writeStarted}
 use Rattle.start.proofs.Started.{read-started, write-started}
 
 pub record SameBeyond (b x : List ℕ) : Type 0 where
@@ -58,11 +57,8 @@ same-sends : {b : List ℕ} (x : List ℕ) (n s : ℕ) (made : List ℕ → ℕ 
     → ((y : List ℕ) (k : ℕ) → length (wordsOfMessage (made y k)) ≡ messageWords) → SameBeyond b x
     → SameBeyond b (upTo (λ y k. sendItem n s (made y k) y k) x items)
 same-sends {b} x n s made items l w h =
-    upTo-all (λ k y. SameBeyond b y) (λ y k. sendItem n s (made y k) y k) x items h
-    (λ k y g p.
-    by-cond (SameBeyond b) (has s k) (appendMessage y (n + rank s k) (made y k)) y
-    (λ e. same-append (n + rank s k) (made y k) (omega (arith, rank-lt s k e)) (w y k) p)
-    (λ e. p))
+    pass-keeps s items (SameBeyond b) _ x h
+    (λ k y g e p. same-append (n + rank s k) (made y k) (omega (arith, rank-lt s k e)) (w y k) p)
 
 module _ (b : List ℕ) (t : Tables) (d s : ℕ) (n : Encodes b t)
     (a : AcceptedStart capacities t d s) where
@@ -95,13 +91,10 @@ module _ (b : List ℕ) (t : Tables) (d s : ℕ) (n : Encodes b t)
       (read-started b d s items sent (sym (n .items)) (sym (n .messageCount)) _ _ _ refl refl refl)
       (same-sends _ sent s made items fits (λ y k. refl)
       (same-busy _ 1
-      (upTo-all (λ k x. SameBeyond b x) (askItem d s items) b items same-none
-      (λ k x l h.
-      by-cond (SameBeyond b) (has s k) _ x
-      (λ e.
+      (pass-keeps s items (SameBeyond b) _ b same-none
+      (λ k x l e h.
       same-store values (itemAt d k) 0 (omega (arith, last, room .items))
-      (same-store asked (itemAt d k) _ (omega (arith, last, room .items)) h))
-      (λ e. h)))))
+      (same-store asked (itemAt d k) _ (omega (arith, last, room .items)) h)))))
 
 module _ (b : List ℕ) (t : Tables) (d s : ℕ) (bytes : List ℕ) (n : Encodes b t)
     (w : AcceptedWrite capacities t d s bytes) where
@@ -121,8 +114,6 @@ module _ (b : List ℕ) (t : Tables) (d s : ℕ) (bytes : List ℕ) (n : Encodes
       (same-store scalars (stampAt d) stamp (omega arith)
       (same-store scalars (countAt d) number (omega arith)
       (same-busy b t d s n a _ 2
-      (upTo-all (λ k x. SameBeyond b x) (valueItem d s bytes) b z same-none
-      (λ k x l h.
-      by-cond (SameBeyond b) (has s k) _ x
-      (λ e. same-store values (itemAt d k) _ (omega (arith, room b t d s n a .items)) h)
-      (λ e. h)))))))
+      (pass-keeps s z (SameBeyond b) _ b same-none
+      (λ k x l e h. same-store values (itemAt d k) _
+      (omega (arith, room b t d s n a .items)) h))))))

@@ -29,8 +29,8 @@ use Rattle.layout.proofs.Changed.{Changed, changed-scalar, encodes-changed}
 use Rattle.layout.proofs.EncodesEntry.{view-held}
 use Rattle.start.specs.Start.{busy, askItem, readStarted}
 use Rattle.start.proofs.Choice.{choice-ext}
-use Rattle.start.proofs.Filled.{Filled, filled-last}
-use Rattle.start.proofs.Asked.{AskedFor, asked-filled}
+use Rattle.itemset.proofs.Pass.{filled-at}
+use Rattle.start.proofs.Asked.{askedWords, asked-changed}
 use Rattle.start.proofs.Sent.{encodes-sent}
 use Rattle.start.proofs.Started.{read-started}
 
@@ -51,32 +51,31 @@ module _ (b : List ℕ) (t : Tables) (d s : ℕ) (n : Encodes b t)
   abbrev askedBlock : List ℕ
   askedBlock = upTo (askItem d s items) b items
 
-  filled : Filled d b askedBlock (AskedFor b d s items items)
-  filled = asked-filled b d s items (a .client .0) (omega (arith, a .client .1, room .clients))
-      (room .items) (n .long)
-
   abbrev readerWords : Words
-  readerWords = putScalar (putScalar (putScalar (filled .words) 0 1) 2 s) 3 s
+  readerWords = putScalar (putScalar (putScalar (askedWords b d s items) 0 1) 2 s) 3 s
 
   reader-changed : Changed d b (busy askedBlock d 1 s) readerWords
-  reader-changed = changed-scalar (changed-scalar (changed-scalar (filled .changed) 0 1 (lit< tt)) 2
-      s (lit< tt)) 3 s (lit< tt)
+  reader-changed =
+      let asked = asked-changed b d s items (a .client .0)
+      (omega (arith, a .client .1, room .clients)) (room .items) (n .long) in
+      changed-scalar (changed-scalar (changed-scalar asked 0 1 (lit< tt)) 2 s (lit< tt)) 3 s
+      (lit< tt)
 
   reader-hold : WordsHold readerWords (reader t d s)
   reader-hold =
       let held = words-hold (n .client d (a .client .0) (a .client .1)) in
       record {
         mode = rw (ne-eqb s 0 (a .some)) refl;
-        count = ap (λ (f : ℕ → ℕ). f 1) (filled .scalar) ∙ held .count;
+        count = held .count;
         read = λ e. record {
           set = refl;
           awaited = refl;
           asked = λ k i. let l : k < items = has-below s k items (a .set) i in
-              rw i (filled .done .asked k l i ∙ chosen k l);
-          values = λ k i. filled .done .values k (has-below s k items (a .set) i) i;
+              rw i (filled-at s _ _ items k l i ∙ chosen k l);
+          values = λ k i. filled-at s _ _ items k (has-below s k items (a .set) i) i;
         };
         write = λ e. not-both e refl;
-        last = filled-last filled (t .client d .last) (held .last);
+        last = held .last;
       }
 
   narrow-reader : NarrowClient (reader t d s)

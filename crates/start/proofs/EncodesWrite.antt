@@ -26,8 +26,8 @@ use Rattle.layout.proofs.ClientWords.{Words, putScalar}
 use Rattle.layout.proofs.ClientHolds.{WordsHold, words-hold}
 use Rattle.layout.proofs.Changed.{Changed, changed-scalar, encodes-changed}
 use Rattle.start.specs.Start.{busy, valueItem, writeStarted}
-use Rattle.start.proofs.Filled.{Filled, filled-last}
-use Rattle.start.proofs.Valued.{bytesOf, ValuesKept, values-filled}
+use Rattle.itemset.proofs.Pass.{filled-at}
+use Rattle.start.proofs.Valued.{bytesOf, valuedWords, valued-changed}
 use Rattle.start.proofs.Sent.{encodes-sent}
 use Rattle.start.proofs.Started.{write-started}
 
@@ -57,12 +57,9 @@ module _ (b : List ℕ) (t : Tables) (d s : ℕ) (bytes : List ℕ) (n : Encodes
   abbrev valuedBlock : List ℕ
   valuedBlock = upTo (valueItem d s bytes) b items
 
-  filled : Filled d b valuedBlock (ValuesKept s bytes items)
-  filled = values-filled b d s bytes items (a .client .0)
-      (omega (arith, a .client .1, room .clients)) (room .items) (n .long)
-
   abbrev writerWords : Words
-  writerWords = putScalar (putScalar (putScalar (putScalar (putScalar (filled .words) 0 2) 2 s) 3 s)
+  writerWords = putScalar (putScalar (putScalar (putScalar
+      (putScalar (valuedWords b d s bytes items) 0 2) 2 s) 3 s)
       1 number) 4 (nextStamp t d)
 
   abbrev writerBlock : List ℕ
@@ -71,9 +68,11 @@ module _ (b : List ℕ) (t : Tables) (d s : ℕ) (bytes : List ℕ) (n : Encodes
 
   writer-changed : Changed d b writerBlock writerWords
   writer-changed =
+      let valued = valued-changed b d s bytes items (a .client .0)
+      (omega (arith, a .client .1, room .clients)) (room .items) (n .long) in
       changed-scalar
       (changed-scalar
-      (changed-scalar (changed-scalar (changed-scalar (filled .changed) 0 2 (lit< tt)) 2 s
+      (changed-scalar (changed-scalar (changed-scalar valued 0 2 (lit< tt)) 2 s
       (lit< tt)) 3 s (lit< tt))
       1 number (lit< tt))
       4 (nextStamp t d) (lit< tt)
@@ -90,9 +89,9 @@ module _ (b : List ℕ) (t : Tables) (d s : ℕ) (bytes : List ℕ) (n : Encodes
           awaited = refl;
           stamp = refl;
           values = λ k i.
-              filled .done k (has-below s k items (a .set) i) i ∙ value-bytes s bytes k i;
+              filled-at s _ _ items k (has-below s k items (a .set) i) i ∙ value-bytes s bytes k i;
         };
-        last = filled-last filled (t .client d .last) (held .last);
+        last = held .last;
       }
 
   narrow-writer : NarrowClient (writer t d s bytes)

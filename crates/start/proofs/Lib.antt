@@ -3,7 +3,6 @@
 pub mod Choice
 pub mod Started
 pub mod Ready
-pub mod Filled
 pub mod Asked
 pub mod Valued
 pub mod Sent

@@ -4,11 +4,9 @@ ghost use mathlib.Core.Path.{_≡_};
 ghost use Prim.Native.Nat.{_+_, _≤_, _<_, max};
 ghost use Rattle.basics.specs.Fold.{upTo};
 ghost use Rattle.itemset.specs.Set.{has, count};
-ghost use Rattle.protocol.specs.declared.Message.the-variants.{Get};
 ghost use Rattle.protocol.specs.Steps.{choice};
-ghost use Rattle.layout.specs.Layout.{mostMessages, header, asked, values, at, store, itemsAt, messagesAt, itemAt};
+ghost use Rattle.layout.specs.Layout.{mostMessages, header, at, itemsAt, messagesAt};
 ghost use Rattle.layout.specs.Decode.{viewIn};
-ghost use Rattle.layout.specs.Store.{appendMessage};
 ghost use Rattle.start.specs.Start.{askItem, sendGet, readStarted};
 use crate::put_busy;
 use itemset::has;
@@ -50,22 +48,15 @@ pub fn choose(b: &[u64], d: u64, k: u64, items: u64) -> u64
     stamp
 }
 
-// Item `k`: the stamp asked for, no value yet.
-fn ask(b: &mut [u64], d: u64, k: u64, items: u64)
-    requires { ⌜ (1 ≤ d) × (d ≤ 8) × (k < 64) × (items ≤ 64) ⌝ }
-    ensures { λ _. ⌜ now (b .exit) ≡ store (store (now (b .entry)) asked (itemAt d k) (choice (viewIn (now (b .entry)) d) k items)) values (itemAt d k) 0 ⌝ }
-{
-    let stamp = choose(b, d, k, items);
-    put_asked(b, d, k, stamp);
-    put_value(b, d, k, 0);
-}
-
+// Item `k` of set `s`: the stamp asked for, no value yet.
 fn ask_item(b: &mut [u64], d: u64, s: u64, items: u64, k: u64)
     requires { ⌜ (1 ≤ d) × (d ≤ 8) × (k < 64) × (items ≤ 64) ⌝ }
     ensures { λ _. ⌜ now (b .exit) ≡ askItem d s items (now (b .entry)) k ⌝ }
 {
     if has(s, k) {
-        ask(b, d, k, items);
+        let stamp = choose(b, d, k, items);
+        put_asked(b, d, k, stamp);
+        put_value(b, d, k, 0);
     }
 }
 
@@ -80,29 +71,22 @@ fn ask_items(b: &mut [u64], d: u64, s: u64, items: u64)
     }
 }
 
-// A get of item `k`, with the stamp asked for, joins the `place` messages that are there.
-fn send_get(b: &mut [u64], place: u64, d: u64, k: u64)
-    requires { ⌜ (place < mostMessages) × (1 ≤ d) × (d ≤ 8) × (k < 64) ⌝ }
-    ensures { λ _. ⌜ now (b .exit) ≡ appendMessage (now (b .entry)) place (Get d k (at (now (b .entry)) asked (itemAt d k))) ⌝ }
-{
-    let stamp = asked(b, d, k);
-    append(
-        b,
-        place,
-        Message::Get {
-            client: d,
-            item: k,
-            stamp,
-        },
-    );
-}
-
+// A get of item `k` of set `s`, with the stamp asked for, joins the `n` messages and those of the items below it.
 fn get_item(b: &mut [u64], n: u64, d: u64, s: u64, k: u64)
     requires { ⌜ (n + count s ≤ mostMessages) × (1 ≤ d) × (d ≤ 8) × (k < 64) ⌝ }
     ensures { λ _. ⌜ now (b .exit) ≡ sendGet n d s (now (b .entry)) k ⌝ }
 {
     if has(s, k) {
-        send_get(b, n + rank(s, k), d, k);
+        let stamp = asked(b, d, k);
+        append(
+            b,
+            n + rank(s, k),
+            Message::Get {
+                client: d,
+                item: k,
+                stamp,
+            },
+        );
     }
 }
 

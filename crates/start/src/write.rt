@@ -1,14 +1,10 @@
 // The start of a write: the value of each item of the set, one stamp for all of them, and a prepare for each.
 ghost use mathlib.Core.Path.{_≡_};
-ghost use Prim.Native.Nat.{_+_, _*_, _%_, _^_, _≤_, _<_};
+ghost use Prim.Native.Nat.{_+_, _*_, _^_, _≤_, _<_};
 ghost use lib.ListN.{length};
 ghost use Rattle.basics.specs.Fold.{upTo};
-ghost use Rattle.hex.specs.Number.{numberAt};
 ghost use Rattle.itemset.specs.Set.{count};
-ghost use Rattle.protocol.specs.declared.Message.the-variants.{Prepare};
-ghost use Rattle.protocol.specs.Steps.{version};
-ghost use Rattle.layout.specs.Layout.{mostMessages, header, scalars, values, at, store, itemsAt, messagesAt, countAt, itemAt};
-ghost use Rattle.layout.specs.Store.{appendMessage};
+ghost use Rattle.layout.specs.Layout.{mostMessages, header, scalars, at, itemsAt, messagesAt, countAt};
 ghost use Rattle.start.specs.Start.{valueItem, sendPrepare, writeStarted};
 use crate::put_busy;
 use hex::number_at;
@@ -23,20 +19,14 @@ use protocol::Message;
 use protocol::Version;
 use slots::message::append;
 
-// Item `k` takes the four bytes at `place` as its value.
-fn keep_value(b: &mut [u64], d: u64, k: u64, bytes: &[u8], place: u64)
-    requires { ⌜ (1 ≤ d) × (d ≤ 8) × (k < 64) × (place + 4 ≤ length (now bytes)) ⌝ }
-    ensures { λ _. ⌜ now (b .exit) ≡ store (now (b .entry)) values (itemAt d k) (numberAt 4 (now (bytes .entry)) place % 2 ^ 32) ⌝ }
-{
-    put_value(b, d, k, number_at(bytes, place as usize, 4) % 4294967296);
-}
-
+// Item `k` of set `s` takes its four bytes as its value.
 fn keep_item(b: &mut [u64], d: u64, s: u64, bytes: &[u8], k: u64)
     requires { ⌜ (1 ≤ d) × (d ≤ 8) × (k < 64) × (4 * count s ≤ length (now bytes)) ⌝ }
     ensures { λ _. ⌜ now (b .exit) ≡ valueItem d s (now (bytes .entry)) (now (b .entry)) k ⌝ }
 {
     if has(s, k) {
-        keep_value(b, d, k, bytes, 4 * rank(s, k));
+        let place = 4 * rank(s, k);
+        put_value(b, d, k, number_at(bytes, place as usize, 4) % 4294967296);
     }
 }
 
@@ -51,30 +41,23 @@ fn keep_items(b: &mut [u64], d: u64, s: u64, bytes: &[u8], items: u64)
     }
 }
 
-// A prepare of item `k`, with the value kept for it, joins the `place` messages that are there.
-fn send_prepare(b: &mut [u64], place: u64, d: u64, s: u64, stamp: u64, k: u64)
-    requires { ⌜ (place < mostMessages) × (1 ≤ d) × (d ≤ 8) × (k < 64) ⌝ }
-    ensures { λ _. ⌜ now (b .exit) ≡ appendMessage (now (b .entry)) place (Prepare (version k (at (now (b .entry)) values (itemAt d k)) stamp s)) ⌝ }
-{
-    let value = value(b, d, k);
-    append(
-        b,
-        place,
-        Message::Prepare(Version {
-            item: k,
-            value,
-            stamp,
-            set: s,
-        }),
-    );
-}
-
+// A prepare of item `k` of set `s`, with the value kept for it, joins the `n` messages and those of the items below it.
 fn prepare_item(b: &mut [u64], n: u64, d: u64, s: u64, stamp: u64, k: u64)
     requires { ⌜ (n + count s ≤ mostMessages) × (1 ≤ d) × (d ≤ 8) × (k < 64) ⌝ }
     ensures { λ _. ⌜ now (b .exit) ≡ sendPrepare n d s stamp (now (b .entry)) k ⌝ }
 {
     if has(s, k) {
-        send_prepare(b, n + rank(s, k), d, s, stamp, k);
+        let value = value(b, d, k);
+        append(
+            b,
+            n + rank(s, k),
+            Message::Prepare(Version {
+                item: k,
+                value,
+                stamp,
+                set: s,
+            }),
+        );
     }
 }
 

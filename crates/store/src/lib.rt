@@ -4,11 +4,10 @@ ghost use mathlib.Core.Path.{_≡_};
 ghost use Rattle.protocol.specs.Calls.{startRead, startWrite, deliver, show, numberOfAnswer};
 ghost use Rattle.layout.specs.Decode.{tablesOf};
 ghost use Rattle.range.specs.Sized.{sizes};
-ghost use Rattle.store.specs.Calls.{freshAnswerOn, freshAfter, freshTables, answerOn, outputOn, blockAfter, tablesAfter, Fits};
+ghost use Rattle.block_calls.specs.Calls.{freshAnswerOn, freshAfter, freshTables, answerOn, outputOn, blockAfter, tablesAfter, Fits};
 use protocol::Answer;
 
 pub mod calls;
-mod refusals;
 
 // The number that tells this answer.
 fn number_of(a: Answer) -> u64

@@ -7,7 +7,7 @@ use Prim.Native.Nat.{ℕ}
 use native.Mathlib.Omega.{arith}
 use lib.ListN.{length}
 use Rattle.protocol.specs.Calls.{startWrite}
-use Rattle.store.specs.Calls.{answerOn, blockAfter}
+use Rattle.block_calls.specs.Calls.{answerOn, blockAfter}
 use Rattle.store_frames.specs.declared.StoreFrame.{StoreFrame}
 use Rattle.store_frames.specs.declared.Parsed.the-variants.{Frame}
 use Rattle.store_frames.proofs.Parsing.{parsed-write}

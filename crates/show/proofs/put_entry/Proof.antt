@@ -35,30 +35,6 @@ joined out first second third at stamp value s v p q r e f =
           (stamp % 16),
     )))
 
-last-read-stamp-requires : tie.Need-last-read-stamp-requires
-last-read-stamp-requires c κs = search needs
-
-last-value-requires : tie.Need-last-value-requires
-last-value-requires c κs = search needs
-
-put-bytes-requires : tie.Need-put-bytes-requires
-put-bytes-requires c κs = search needs
-
-add-put-bytes : tie.Need-add-put-bytes
-add-put-bytes c = search needs
-
-put-bytes-requires-2 : tie.Need-put-bytes-requires-2
-put-bytes-requires-2 c κs = search needs
-
-add-put-bytes-2 : tie.Need-add-put-bytes-2
-add-put-bytes-2 c = search needs
-
-put-bytes-requires-3 : tie.Need-put-bytes-requires-3
-put-bytes-requires-3 c κs = search needs
-
-same-length : tie.Need-same-length
-same-length c = search needs
-
 returns : tie.Need-returns
 returns c =
     let third = c .before .before in
@@ -73,12 +49,12 @@ pub put-entry-spec : {M : Type 1} → statement M
 put-entry-spec =
     tie.close
     (tie.spec
-    last-read-stamp-requires
-    last-value-requires
-    put-bytes-requires
-    add-put-bytes
-    put-bytes-requires-2
-    add-put-bytes-2
-    put-bytes-requires-3
-    same-length
+    (λ c κs. search needs)
+    (λ c κs. search needs)
+    (λ c κs. search needs)
+    (λ c. search needs)
+    (λ c κs. search needs)
+    (λ c. search needs)
+    (λ c κs. search needs)
+    (λ c. search needs)
     returns)

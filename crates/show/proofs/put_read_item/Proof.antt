@@ -16,24 +16,6 @@ place c =
     let found = c .before .before in
     rw (c .rank .ensures) (rank-lt _ _ (sym (found .before .has .ensures) ∙ found .if1 .taken))
 
-has-requires : tie.Need-has-requires
-has-requires c κs = search needs
-
-rank-requires : tie.Need-rank-requires
-rank-requires c κs = search needs
-
-mul-put-entry : tie.Need-mul-put-entry
-mul-put-entry c = omega (arith, place c)
-
-add-put-entry : tie.Need-add-put-entry
-add-put-entry c = omega (arith, place c)
-
-put-entry-requires : tie.Need-put-entry-requires
-put-entry-requires c κs = omega (arith, place c)
-
-same-length : tie.Need-same-length
-same-length c = search needs
-
 returns : tie.Need-returns
 returns c =
     let wrote = c .before .before in
@@ -42,18 +24,15 @@ returns c =
     rw (sym (found .before .has .ensures) ∙ found .if1 .taken, ← ranked .rank .ensures)
     (wrote .put-entry .ensures)
 
-returns-2 : tie.Need-returns-2
-returns-2 c = rw (sym (c .before .has .ensures) ∙ c .if1 .left)
-
 pub put-read-item-spec : {M : Type 1} → statement M
 put-read-item-spec =
     tie.close
     (tie.spec
-    has-requires
-    rank-requires
-    mul-put-entry
-    add-put-entry
-    put-entry-requires
-    same-length
+    (λ c κs. search needs)
+    (λ c κs. search needs)
+    (λ c. omega (arith, place c))
+    (λ c. omega (arith, place c))
+    (λ c κs. omega (arith, place c))
+    (λ c. search needs)
     returns
-    returns-2)
+    (λ c. rw (sym (c .before .has .ensures) ∙ c .if1 .left)))

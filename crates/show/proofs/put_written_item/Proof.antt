@@ -16,27 +16,6 @@ place c =
     let found = c .before .before in
     rw (c .rank .ensures) (rank-lt _ _ (sym (found .before .has .ensures) ∙ found .if1 .taken))
 
-has-requires : tie.Need-has-requires
-has-requires c κs = search needs
-
-rank-requires : tie.Need-rank-requires
-rank-requires c κs = search needs
-
-mul-put-bytes : tie.Need-mul-put-bytes
-mul-put-bytes c = omega (arith, place c)
-
-add-put-bytes : tie.Need-add-put-bytes
-add-put-bytes c = omega (arith, place c)
-
-last-value-requires : tie.Need-last-value-requires
-last-value-requires c κs = search needs
-
-put-bytes-requires : tie.Need-put-bytes-requires
-put-bytes-requires c κs = omega (arith, place (c .before))
-
-same-length : tie.Need-same-length
-same-length c = search needs
-
 returns : tie.Need-returns
 returns c =
     let wrote = c .before .before in
@@ -44,26 +23,22 @@ returns c =
     let ranked = value .before in
     let found = ranked .before .before in
     rw (
-      sym (found .before .has .ensures)
-          ∙ found .if1 .taken,
+      sym (found .before .has .ensures) ∙ found .if1 .taken,
       ← ranked .rank .ensures,
       ← value .last-value .ensures,
     )
     (wrote .put-bytes .ensures)
 
-returns-2 : tie.Need-returns-2
-returns-2 c = rw (sym (c .before .has .ensures) ∙ c .if1 .left)
-
 pub put-written-item-spec : {M : Type 1} → statement M
 put-written-item-spec =
     tie.close
     (tie.spec
-    has-requires
-    rank-requires
-    mul-put-bytes
-    add-put-bytes
-    last-value-requires
-    put-bytes-requires
-    same-length
+    (λ c κs. search needs)
+    (λ c κs. search needs)
+    (λ c. omega (arith, place c))
+    (λ c. omega (arith, place c))
+    (λ c κs. search needs)
+    (λ c κs. omega (arith, place (c .before)))
+    (λ c. search needs)
     returns
-    returns-2)
+    (λ c. rw (sym (c .before .has .ensures) ∙ c .if1 .left)))

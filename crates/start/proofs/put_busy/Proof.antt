@@ -3,22 +3,19 @@ use borrow.Author.Needs.{needs}
 use Rattle.start.proofs.put_busy.Statement.{statement}
 use Rattle.start.proofs.put_busy.Tie as tie
 
-put-mode-requires : tie.Need-put-mode-requires
-put-mode-requires c κs = search needs
-
-put-set-requires : tie.Need-put-set-requires
-put-set-requires c κs = search needs
-
-put-awaited-requires : tie.Need-put-awaited-requires
-put-awaited-requires c κs = search needs
-
-same-length : tie.Need-same-length
-same-length c = search needs
-
 returns : tie.Need-returns
-returns c = cc
+returns c =
+    let awaited = c .before .before in
+    let set = awaited .before .before .before .before in
+    let mode = set .before .before .before .before in
+    rw (← mode .put-mode .ensures, ← set .put-set .ensures) (awaited .put-awaited .ensures)
 
 pub put-busy-spec : {M : Type 1} → statement M
 put-busy-spec =
     tie.close
-    (tie.spec put-mode-requires put-set-requires put-awaited-requires same-length returns)
+    (tie.spec
+    (λ c κs. search needs)
+    (λ c κs. search needs)
+    (λ c κs. search needs)
+    (λ c. search needs)
+    returns)

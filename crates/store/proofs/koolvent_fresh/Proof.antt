@@ -2,8 +2,8 @@
 use mathlib.Core.Path.{sym, ap, subst, _∙_}
 use borrow.Author.Needs.{needs}
 use Rattle.protocol.specs.Calls.{numberOfAnswer}
-use Rattle.store.specs.Calls.{Fits}
-use Rattle.store.proofs.Fits.{fresh-fits}
+use Rattle.block_calls.specs.Calls.{Fits}
+use Rattle.block_calls.proofs.Fits.{fresh-fits}
 use Rattle.store.proofs.koolvent_fresh.Statement.{statement}
 use Rattle.store.proofs.koolvent_fresh.Tie as tie
 

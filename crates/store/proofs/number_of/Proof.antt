@@ -5,7 +5,7 @@ use Prim.Native.Nat.{_<_, _^_}
 use native.Mathlib.Omega.{arith}
 use borrow.Author.Needs.{needs}
 use Rattle.protocol.specs.Calls.{numberOfAnswer}
-use Rattle.store.proofs.Fits.{fits-started, fits-delivered, fits-shown}
+use Rattle.block_calls.proofs.Fits.{fits-started, fits-delivered, fits-shown}
 use Rattle.store.proofs.number_of.Statement.{statement}
 use Rattle.store.proofs.number_of.Tie as tie
 

@@ -1,48 +1,31 @@
 -- `ends::write::see_item` meets its contract: by the test.
-use mathlib.Core.Path.{refl, sym, _∙_}
-use Rattle.slots.proofs.Chosen.{when, unless, later-put}
+use mathlib.Core.Path.{sym, _∙_}
+use Rattle.slots.proofs.Chosen.{later-put}
 use Rattle.layout.specs.Store.{storeView}
 use borrow.Author.Needs.{needs}
 use denote.Ref.{now}
 use Rattle.ends.proofs.write.see_item.Statement.{statement}
 use Rattle.ends.proofs.write.see_item.Tie as tie
 
-has-requires : tie.Need-has-requires
-has-requires c κs = search needs
-
-view-requires : tie.Need-view-requires
-view-requires c κs = search needs
-
-later-requires : tie.Need-later-requires
-later-requires c κs = search needs
-
-put-view-requires : tie.Need-put-view-requires
-put-view-requires c κs = search needs
-
-same-length : tie.Need-same-length
-same-length c = search needs
-
 returns : tie.Need-returns
 returns c =
-    let a = c .before .before .before .before .before .before .before .before .before .before .args in
-    when _ _ _ _ (sym
-    (c .before .before .before .before .before .before .before .before .has .ensures)
-    ∙ c .before .before .before .before .before .before .before .if1 .taken)
-    (later-put (storeView (now (a .b)) (a .d) (a .k)) _ _ _ _ _
-    (c .before .before .put-view .ensures) (c .before .before .before .before .later .ensures)
-    (c .before .before .before .before .before .view .ensures))
-
-returns-2 : tie.Need-returns-2
-returns-2 c = unless _ _ _ _ (sym (c .before .has .ensures) ∙ c .if1 .left) refl
+    let put = c .before .before in
+    let later = put .before .before in
+    let view = later .before in
+    let found = view .before .before in
+    let a = found .before .before .before .args in
+    rw (sym (found .before .has .ensures) ∙ found .if1 .taken)
+    (later-put (storeView (now (a .b)) (a .d) (a .k)) _ _ _ _ _ (put .put-view .ensures)
+    (later .later .ensures) (view .view .ensures))
 
 pub see-item-spec : {M : Type 1} → statement M
 see-item-spec =
     tie.close
     (tie.spec
-    has-requires
-    view-requires
-    later-requires
-    put-view-requires
-    same-length
+    (λ c κs. search needs)
+    (λ c κs. search needs)
+    (λ c κs. search needs)
+    (λ c κs. search needs)
+    (λ c. search needs)
     returns
-    returns-2)
+    (λ c. rw (sym (c .before .has .ensures) ∙ c .if1 .left)))

@@ -17,27 +17,12 @@ Inv-loop b d k items stamp₀ i₀ stamp i = (i ≤ items) × (stamp ≡ choice 
 abbrev μ-loop : tie.MeasureT-loop
 μ-loop b d k items stamp₀ i₀ stamp i = items - i
 
-view-requires : tie.Need-view-requires Inv-loop μ-loop
-view-requires c κs = search needs
-
 loop-holds : tie.Need-loop-holds Inv-loop μ-loop
 loop-holds c = (
   search needs,
   ap (λ (e : Entry). e .stamp) (c .view .ensures)
       ∙ sym (choice-none _ _),
 )
-
-sibling-requires : tie.Need-sibling-requires Inv-loop μ-loop
-sibling-requires c κs = search needs
-
-later-requires : tie.Need-later-requires Inv-loop μ-loop
-later-requires c κs = search needs
-
-add-i : tie.Need-add-i Inv-loop μ-loop
-add-i c = search needs
-
-loop-less : tie.Need-loop-less Inv-loop μ-loop
-loop-less c = search needs
 
 loop-again : tie.Need-loop-again Inv-loop μ-loop
 loop-again c = (
@@ -56,11 +41,11 @@ choose-spec =
     (tie.spec
     Inv-loop
     μ-loop
-    view-requires
+    (λ c κs. search needs)
     loop-holds
-    sibling-requires
-    later-requires
-    add-i
-    loop-less
+    (λ c κs. search needs)
+    (λ c κs. search needs)
+    (λ c. search needs)
+    (λ c. search needs)
     loop-again
     returns)

@@ -6,12 +6,6 @@ use Rattle.start.proofs.Choice.{counts-by}
 use Rattle.start.proofs.read.sibling.Statement.{statement}
 use Rattle.start.proofs.read.sibling.Tie as tie
 
-view-requires : tie.Need-view-requires
-view-requires c κs = search needs
-
-has-requires : tie.Need-has-requires
-has-requires c κs = search needs
-
 returns : tie.Need-returns
 returns c = counts-by (c .before .before .view .result) _ _ true (c .before .before .view .ensures)
     (sym (c .before .has .ensures) ∙ c .if1 .taken)
@@ -21,4 +15,9 @@ returns-2 c = counts-by (c .before .before .view .result) _ _ false
     (c .before .before .view .ensures) (sym (c .before .has .ensures) ∙ c .if1 .left)
 
 pub sibling-spec : {M : Type 1} → statement M
-sibling-spec = tie.close (tie.spec view-requires has-requires returns returns-2)
+sibling-spec = tie.close
+    (tie.spec
+    (λ c κs. search needs)
+    (λ c κs. search needs)
+    returns
+    returns-2)

@@ -5,18 +5,6 @@ use Rattle.start.proofs.Started.{read-started}
 use Rattle.start.proofs.read.start_read.Statement.{statement}
 use Rattle.start.proofs.read.start_read.Tie as tie
 
-ask-items-requires : tie.Need-ask-items-requires
-ask-items-requires c κs = search needs
-
-put-busy-requires : tie.Need-put-busy-requires
-put-busy-requires c κs = search needs
-
-get-items-requires : tie.Need-get-items-requires
-get-items-requires c κs = search needs
-
-same-length : tie.Need-same-length
-same-length c = search needs
-
 returns : tie.Need-returns
 returns c =
     let sent = c .before .before in
@@ -29,4 +17,9 @@ returns c =
 pub start-read-spec : {M : Type 1} → statement M
 start-read-spec =
     tie.close
-    (tie.spec ask-items-requires put-busy-requires get-items-requires same-length returns)
+    (tie.spec
+    (λ c κs. search needs)
+    (λ c κs. search needs)
+    (λ c κs. search needs)
+    (λ c. search needs)
+    returns)

@@ -1,54 +1,43 @@
 -- `start::write::prepare_item` meets its contract: one message or none, by the test on the set. A
 -- member's rank is below the count, so there is room for it.
-use mathlib.Core.Bool.{true}
-use mathlib.Core.Path.{_≡_, sym, _∙_}
+use mathlib.Core.Path.{sym, _∙_}
+use Prim.Native.Nat.{_<_}
 use native.Mathlib.Omega.{arith}
 use borrow.Author.Needs.{needs}
-use Rattle.itemset.specs.Set.{has}
-use Rattle.itemset.proofs.Counts.{rank-lt, rank-count}
+use Rattle.itemset.specs.Set.{count}
+use Rattle.itemset.proofs.Counts.{rank-lt}
 use Rattle.start.proofs.write.prepare_item.Statement.{statement}
 use Rattle.start.proofs.write.prepare_item.Tie as tie
 
-has-requires : tie.Need-has-requires
-has-requires c κs = search needs
-
-rank-requires : tie.Need-rank-requires
-rank-requires c κs = search needs
-
-add-send-prepare : tie.Need-add-send-prepare
-add-send-prepare c =
-    let a = c .before .before .before .before .before .args in
-    omega (arith, c .rank .ensures, rank-count (a .s) (a .k))
-
-send-prepare-requires : tie.Need-send-prepare-requires
-send-prepare-requires c κs =
-    let a = c .before .before .before .before .before .args in
-    let in-set : has (a .s) (a .k) ≡ true =
-    sym (c .before .before .before .has .ensures) ∙ c .before .before .if1 .taken in
-    omega (arith, c .rank .ensures, rank-lt (a .s) (a .k) in-set)
-
-same-length : tie.Need-same-length
-same-length c = search needs
+-- the item's place among the members
+place : (c : tie.After-rank) → c .rank .result < count
+    (c .before .before .before .before .before .before .before .args .s)
+place c =
+    let found = c .before .before .before .before in
+    rw (c .rank .ensures) (rank-lt _ _ (sym (found .before .has .ensures) ∙ found .if1 .taken))
 
 returns : tie.Need-returns
 returns c =
     let sent = c .before .before in
     let ranked = sent .before in
-    let tested = ranked .before .before in
-    rw (sym (tested .before .has .ensures) ∙ tested .if1 .taken, ← ranked .rank .ensures)
-    (sent .send-prepare .ensures)
-
-returns-2 : tie.Need-returns-2
-returns-2 c = rw (sym (c .before .has .ensures) ∙ c .if1 .left)
+    let kept = ranked .before .before in
+    let found = kept .before .before in
+    rw (
+      sym (found .before .has .ensures) ∙ found .if1 .taken,
+      ← ranked .rank .ensures,
+      ← kept .value .ensures,
+    )
+    (sent .append .ensures)
 
 pub prepare-item-spec : {M : Type 1} → statement M
 prepare-item-spec =
     tie.close
     (tie.spec
-    has-requires
-    rank-requires
-    add-send-prepare
-    send-prepare-requires
-    same-length
+    (λ c κs. search needs)
+    (λ c κs. search needs)
+    (λ c κs. search needs)
+    (λ c. omega (arith, place c))
+    (λ c κs. omega (arith, place c))
+    (λ c. search needs)
     returns
-    returns-2)
+    (λ c. rw (sym (c .before .has .ensures) ∙ c .if1 .left)))

@@ -1,50 +1,23 @@
--- `start::write::prepare_items` meets its contract. The invariant: `k` turns of the fold are done.
--- The measure is what is left of the items.
-use mathlib.Core.Path.{_≡_}
-use Prim.Native.Nat.{_≤_, _-_}
-use native.Mathlib.Nat.{le-antisymm}
+-- `start::write::prepare_items` meets its contract: its loop runs the fold.
+use Prim.Native.Nat.{_-_}
 use borrow.Author.Needs.{needs}
-use lib.ListN.{length}
-use Rattle.basics.specs.Fold.{upTo}
-use Rattle.basics.proofs.Fold.{turn-first, turn-next}
 use Rattle.start.specs.Start.{sendPrepare}
+use Rattle.basics.proofs.Turns.{Turns, turns-first, turns-next, turns-last}
 use Rattle.start.proofs.write.prepare_items.Statement.{statement}
 use Rattle.start.proofs.write.prepare_items.Tie as tie
 
 abbrev Inv-loop : tie.InvT-loop
-Inv-loop b₀ n d s stamp items k₀ b k =
-    (k ≤ items) × (b ≡ upTo (sendPrepare n d s stamp) b₀ k) × (length b ≡ length b₀)
+Inv-loop b₀ n d s stamp items k₀ b k = Turns (sendPrepare n d s stamp) items b₀ b k
 
 abbrev μ-loop : tie.MeasureT-loop
 μ-loop b₀ n d s stamp items k₀ b k = items - k
 
-loop-holds : tie.Need-loop-holds Inv-loop μ-loop
-loop-holds c = (search needs, turn-first _ _, search needs)
-
-prepare-item-requires : tie.Need-prepare-item-requires Inv-loop μ-loop
-prepare-item-requires c κs = search needs
-
-add-k : tie.Need-add-k Inv-loop μ-loop
-add-k c = search needs
-
-loop-less : tie.Need-loop-less Inv-loop μ-loop
-loop-less c = search needs
-
 loop-again : tie.Need-loop-again Inv-loop μ-loop
-loop-again c = (
-  search needs,
-  turn-next _ _ _ _ _
-      (c .before .before .before .before .before .loop .inv .1)
-      (c .before .before .prepare-item .ensures),
-  search needs,
-)
-
-same-length : tie.Need-same-length Inv-loop μ-loop
-same-length c = search needs
-
-returns : tie.Need-returns Inv-loop μ-loop
-returns c = rw (le-antisymm (c .before .loop .inv .0) (c .loop-test .left)) at
-    (c .before .loop .inv .1)
+loop-again c =
+    let turn = c .before .before in
+    let test = turn .before .before in
+    turns-next (test .before .loop .inv) (test .loop-test .taken) (turn .prepare-item .ensures)
+    (turn .prepare-item .kept .0)
 
 pub prepare-items-spec : {M : Type 1} → statement M
 prepare-items-spec =
@@ -52,10 +25,10 @@ prepare-items-spec =
     (tie.spec
     Inv-loop
     μ-loop
-    loop-holds
-    prepare-item-requires
-    add-k
-    loop-less
+    (λ c. turns-first)
+    (λ c κs. search needs)
+    (λ c. search needs)
+    (λ c. search needs)
     loop-again
-    same-length
-    returns)
+    (λ c. search needs)
+    (λ c. turns-last (c .before .loop .inv) (c .loop-test .left)))

@@ -1,42 +1,12 @@
+-- `start::write::start_write` meets its contract: its calls are the steps of `writeStarted`.
 use mathlib.Core.Path.{ap, _∙_}
 use Prim.Native.Nat.{suc, _+_}
 use native.Mathlib.Numerals.{add-one}
--- `start::write::start_write` meets its contract: its calls are the steps of `writeStarted`.
 use denote.Ref.{now}
 use borrow.Author.Needs.{needs}
 use Rattle.start.proofs.Started.{write-started}
 use Rattle.start.proofs.write.start_write.Statement.{statement}
 use Rattle.start.proofs.write.start_write.Tie as tie
-
-count-requires : tie.Need-count-requires
-count-requires c κs = search needs
-
-add-number : tie.Need-add-number
-add-number c = search needs
-
-mul-stamp : tie.Need-mul-stamp
-mul-stamp c = search needs
-
-add-stamp : tie.Need-add-stamp
-add-stamp c = search needs
-
-keep-items-requires : tie.Need-keep-items-requires
-keep-items-requires c κs = search needs
-
-put-busy-requires : tie.Need-put-busy-requires
-put-busy-requires c κs = search needs
-
-put-count-requires : tie.Need-put-count-requires
-put-count-requires c κs = search needs
-
-put-stamp-requires : tie.Need-put-stamp-requires
-put-stamp-requires c κs = search needs
-
-prepare-items-requires : tie.Need-prepare-items-requires
-prepare-items-requires c κs = search needs
-
-same-length : tie.Need-same-length
-same-length c = search needs
 
 returns : tie.Need-returns
 returns c =
@@ -60,14 +30,14 @@ pub start-write-spec : {M : Type 1} → statement M
 start-write-spec =
     tie.close
     (tie.spec
-    count-requires
-    add-number
-    mul-stamp
-    add-stamp
-    keep-items-requires
-    put-busy-requires
-    put-count-requires
-    put-stamp-requires
-    prepare-items-requires
-    same-length
+    (λ c κs. search needs)
+    (λ c. search needs)
+    (λ c. search needs)
+    (λ c. search needs)
+    (λ c κs. search needs)
+    (λ c κs. search needs)
+    (λ c κs. search needs)
+    (λ c κs. search needs)
+    (λ c κs. search needs)
+    (λ c. search needs)
     returns)

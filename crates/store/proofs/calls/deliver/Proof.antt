@@ -3,8 +3,8 @@ use mathlib.Core.Path.{sym, _∙_}
 use native.Mathlib.Omega.{arith}
 use borrow.Author.Needs.{needs}
 use Rattle.protocol.specs.Calls.{deliver}
-use Rattle.store.proofs.Accepted.{refused-invalid}
-use Rattle.store.proofs.Given.{refused-given, tables-given}
+use Rattle.block_calls.proofs.Accepted.{refused-invalid}
+use Rattle.block_calls.proofs.Given.{refused-given, tables-given}
 use Rattle.store.proofs.calls.deliver.Statement.{statement}
 use Rattle.store.proofs.calls.deliver.Tie as tie
 

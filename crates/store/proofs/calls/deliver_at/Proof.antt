@@ -6,8 +6,8 @@ use native.Mathlib.Omega.{arith}
 use borrow.Author.Needs.{needs}
 use Rattle.protocol.specs.Calls.{deliver}
 use Rattle.deliver.specs.Tests.{Bounded, testedIn}
-use Rattle.store.proofs.Given.{refused-given}
-use Rattle.store.proofs.Places.{few-places, few-versions, bounded-message, told-refusal}
+use Rattle.block_calls.proofs.Given.{refused-given}
+use Rattle.block_calls.proofs.Places.{few-places, few-versions, bounded-message, told-refusal}
 use Rattle.store.proofs.calls.deliver_at.Statement.{statement}
 use Rattle.store.proofs.calls.deliver_at.Tie as tie
 

@@ -1,8 +1,8 @@
 -- `store::calls::deliver_on` meets its contract: the message at its place is delivered, and the
 -- messages then counted.
 use borrow.Author.Needs.{needs}
-use Rattle.store.proofs.Accepted.{accepted-valid}
-use Rattle.store.proofs.Places.{few-places, accepted-place, deliver-ready, deliver-given}
+use Rattle.block_calls.proofs.Accepted.{accepted-valid}
+use Rattle.block_calls.proofs.Places.{few-places, accepted-place, deliver-ready, deliver-given}
 use Rattle.store.proofs.calls.deliver_on.Statement.{statement}
 use Rattle.store.proofs.calls.deliver_on.Tie as tie
 

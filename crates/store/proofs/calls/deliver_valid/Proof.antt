@@ -3,8 +3,8 @@ use mathlib.Core.Path.{sym}
 use native.Mathlib.Omega.{arith}
 use borrow.Author.Needs.{needs}
 use Rattle.protocol.specs.Calls.{deliver}
-use Rattle.store.proofs.Given.{refused-given}
-use Rattle.store.proofs.Places.{past-end}
+use Rattle.block_calls.proofs.Given.{refused-given}
+use Rattle.block_calls.proofs.Places.{past-end}
 use Rattle.store.proofs.calls.deliver_valid.Statement.{statement}
 use Rattle.store.proofs.calls.deliver_valid.Tie as tie
 

@@ -2,7 +2,7 @@
 use mathlib.Core.Path.{sym, _∙_}
 use borrow.Author.Needs.{needs}
 use Rattle.range.specs.Sized.{sizes}
-use Rattle.store.proofs.Fresh.{fresh-accepted, fresh-given, fresh-refused}
+use Rattle.block_calls.proofs.Fresh.{fresh-accepted, fresh-given, fresh-refused}
 use Rattle.store.proofs.calls.fresh.Statement.{statement}
 use Rattle.store.proofs.calls.fresh.Tie as tie
 

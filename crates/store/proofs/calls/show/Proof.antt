@@ -1,7 +1,7 @@
 -- `store::calls::show` meets its contract: by the refusal.
 use borrow.Author.Needs.{needs}
 use Rattle.protocol.specs.Calls.{show, lent}
-use Rattle.store.proofs.Given.{refused-shown, show-keeps}
+use Rattle.block_calls.proofs.Given.{refused-shown, show-keeps}
 use Rattle.store.proofs.calls.show.Statement.{statement}
 use Rattle.store.proofs.calls.show.Tie as tie
 

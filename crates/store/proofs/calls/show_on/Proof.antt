@@ -1,7 +1,7 @@
 -- `store::calls::show_on` meets its contract: the frame that the block holds is the one that the
 -- tables show.
 use borrow.Author.Needs.{needs}
-use Rattle.store.proofs.Given.{show-ready, show-given}
+use Rattle.block_calls.proofs.Given.{show-ready, show-given}
 use Rattle.store.proofs.calls.show_on.Statement.{statement}
 use Rattle.store.proofs.calls.show_on.Tie as tie
 

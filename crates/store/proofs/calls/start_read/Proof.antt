@@ -1,7 +1,7 @@
 -- `store::calls::start_read` meets its contract: by the refusal.
 use borrow.Author.Needs.{needs}
 use Rattle.protocol.specs.Calls.{startRead}
-use Rattle.store.proofs.Given.{refused-given, tables-given}
+use Rattle.block_calls.proofs.Given.{refused-given, tables-given}
 use Rattle.store.proofs.calls.start_read.Statement.{statement}
 use Rattle.store.proofs.calls.start_read.Tie as tie
 

@@ -1,7 +1,7 @@
 -- `store::calls::start_write` meets its contract: by the refusal.
 use borrow.Author.Needs.{needs}
 use Rattle.protocol.specs.Calls.{startWrite}
-use Rattle.store.proofs.Given.{refused-given, tables-given}
+use Rattle.block_calls.proofs.Given.{refused-given, tables-given}
 use Rattle.store.proofs.calls.start_write.Statement.{statement}
 use Rattle.store.proofs.calls.start_write.Tie as tie
 

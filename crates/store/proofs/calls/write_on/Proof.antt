@@ -1,7 +1,7 @@
 -- `store::calls::write_on` meets its contract: the start leaves the protocol's tables, whose
 -- messages are counted.
 use borrow.Author.Needs.{needs}
-use Rattle.store.proofs.Given.{write-ready, write-given}
+use Rattle.block_calls.proofs.Given.{write-ready, write-given}
 use Rattle.store.proofs.calls.write_on.Statement.{statement}
 use Rattle.store.proofs.calls.write_on.Tie as tie
 

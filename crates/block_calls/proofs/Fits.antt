@@ -1,0 +1,170 @@
+-- The parts of every answer fit the bits that tell them.
+use mathlib.Core.Bool.{Bool, true, false, cond}
+use mathlib.Core.List.{List, [], _∷_}
+use mathlib.Core.Path.{_≡_, refl, ap, _∙_, subst}
+use Prim.Native.Nat.{ℕ, zero, suc, _%_, _≤_, _<_, _^_}
+use native.Mathlib.Omega.{arith}
+use lib.Dec.{eqb}
+use Rattle.basics.proofs.Cases.{by-test}
+use Rattle.protocol.specs.declared.Message.{Message}
+use Rattle.protocol.specs.declared.Message.the-variants.{Prepare, Prepared, Commit, Get, Got}
+use Rattle.protocol.specs.declared.Answer.{Answer}
+use Rattle.protocol.specs.declared.Answer.the-variants.{Refused, Made, Started, Delivered, Shown}
+use Rattle.protocol.specs.Tables.{Tables, Sizes, ofRead, ofWrite, writerOf}
+use Rattle.protocol.specs.Steps.{messageAt, isLast}
+use Rattle.protocol.specs.Calls.{Call, startRead, startWrite, deliver, show, Test, test, first}
+use Rattle.protocol.specs.Message.{kindOf}
+use Rattle.protocol.specs.Calls.{refusal, effect, reply, step, pick, outcomeOf}
+use Rattle.protocol.specs.Calls.{numberOfAnswer}
+use Rattle.protocol.proofs.Valid.{valid-kept}
+use Rattle.protocol.specs.Range.{capacities}
+use Rattle.layout.specs.Decode.{tablesOf, validBlock}
+use Rattle.encoding.proofs.Decoded.{few-messages}
+use Rattle.show.proofs.Frames.{length-frame-le}
+use Rattle.block_calls.specs.Calls.{freshRefusalOn, freshAnswerOn, refusalOn, answerOn, Fits}
+use Rattle.block_calls.proofs.Accepted.{answer-accepted, answer-refused}
+
+-- ---- refusals
+
+-- one more test
+more : (n : ℕ) (a : Bool) (xs : List Test) → n ≤ 14 → first xs ≤ 14 → first (test n a ∷ xs) ≤ 14
+unfolding first
+more n true xs x y = x
+more n false xs x y = y
+
+none : first [] ≤ 14
+unfolding first
+none = omega arith
+
+-- one of the refusal table's numbers, or 0
+pub refusal-le : (t : Tables) (c : Call) → refusal capacities t c ≤ 14
+unfolding refusal
+refusal-le t (startRead d s) =
+    more 1 _ _ (omega arith) (more 3 _ _ (omega arith)
+    (more 4 _ _ (omega arith) (more 5 _ _ (omega arith) (more 8 _ _ (omega arith) none))))
+refusal-le t (startWrite d s bytes) =
+    more 1 _ _ (omega arith)
+    (more 3 _ _ (omega arith)
+    (more 4 _ _ (omega arith)
+    (more 5 _ _ (omega arith)
+    (more 6 _ _ (omega arith) (more 7 _ _ (omega arith)
+    (more 8 _ _ (omega arith) (more 9 _ _ (omega arith) none)))))))
+refusal-le t (deliver i) = more 1 _ _ (omega arith)
+    (more 10 _ _ (omega arith) (more 11 _ _ (omega arith) (more 12 _ _ (omega arith) none)))
+refusal-le t (show d output) =
+    more 1 _ _ (omega arith) (more 3 _ _ (omega arith)
+    (more 4 _ _ (omega arith) (more 13 _ _ (omega arith) (more 14 _ _ (omega arith) none))))
+
+fresh-refusal-le : (b : List ℕ) (z : Sizes) → freshRefusalOn b z ≤ 14
+unfolding freshRefusalOn
+fresh-refusal-le b z = more 2 _ _ (omega arith) (more 1 _ _ (omega arith) none)
+
+-- ---- kinds and outcomes
+
+kind-le : (m : Message) → kindOf m < 2 ^ 8
+kind-le (Prepare v) = omega arith
+kind-le (Prepared k stamp) = omega arith
+kind-le (Commit p stamp) = omega arith
+kind-le (Get d k stamp) = omega arith
+kind-le (Got d v latest) = omega arith
+
+either : (a : Bool) (n m k : ℕ) → n < k → m < k → cond a n m < k
+either true n m k x y = x
+either false n m k x y = y
+
+outcome-le : (t : Tables) (m : Message) → outcomeOf t m < 2 ^ 8
+unfolding outcomeOf
+outcome-le t (Prepare v) = omega arith
+outcome-le t (Prepared k stamp) = either (isLast ofWrite (t .client (writerOf stamp)) k) 2 0
+    (2 ^ 8)
+    (omega arith) (omega arith)
+outcome-le t (Commit p stamp) = omega arith
+outcome-le t (Get d k stamp) = omega arith
+outcome-le t (Got d v latest) = either (isLast ofRead (t .client d) (v .item)) _ 0 (2 ^ 8)
+    (either (eqb (t .client d .write .set) 0) 1 2 (2 ^ 8) (omega arith) (omega arith)) (omega arith)
+
+-- ---- answers
+
+-- the refusal that an answer tells, 0 for none
+unfoldable pub refusalOf : Answer → ℕ
+refusalOf (Refused n) = n
+refusalOf Made = 0
+refusalOf (Started n) = 0
+refusalOf (Delivered kind n outcome) = 0
+refusalOf (Shown n) = 0
+
+reply-fits : (t : Tables) (c : Call) → refusal capacities t c ≡ 0 → Fits (reply t c)
+unfolding reply effect
+reply-fits t (startRead d s) e = omega
+    (arith, few-messages (effect t (startRead d s)) (valid-kept capacities t (startRead d s) e))
+reply-fits t (startWrite d s bytes) e =
+    omega (
+      arith,
+      few-messages (effect t (startWrite d s bytes))
+          (valid-kept capacities t (startWrite d s bytes) e),
+    )
+reply-fits t (deliver i) e = (
+  kind-le (messageAt t i),
+  omega
+      (arith, few-messages (effect t (deliver i)) (valid-kept capacities t (deliver i) e)),
+  outcome-le t (messageAt t i),
+)
+reply-fits t (show d output) e = omega (arith, length-frame-le d (t .client d .last))
+
+step-fits : (t : Tables) (c : Call) → Fits (step capacities t c .answer)
+unfolding step
+step-fits t c = by-refusal (refusal capacities t c) refl
+  where
+    by-refusal : (r : ℕ) → refusal capacities t c ≡ r → Fits (pick r (reply t c) (Refused r))
+    by-refusal zero e = reply-fits t c e
+    by-refusal (suc r) e = omega (arith, e, refusal-le t c)
+
+pub answer-fits : (b : List ℕ) (c : Call) → Fits (answerOn b c)
+unfolding answerOn
+answer-fits b c = by-test (validBlock b) (λ v. rw v (step-fits (tablesOf b) c))
+    (λ v. rw v (omega arith))
+
+pub fresh-fits : (b : List ℕ) (z : Sizes) → Fits (freshAnswerOn b z)
+unfolding freshAnswerOn
+fresh-fits b z = by-refusal (freshRefusalOn b z) refl
+  where
+    by-refusal : (r : ℕ) → freshRefusalOn b z ≡ r → Fits (pick r Made (Refused r))
+    by-refusal zero e = tt
+    by-refusal (suc r) e = omega (arith, e, fresh-refusal-le b z)
+
+-- ---- the lowest byte of a call's number is its refusal, 0 where it is accepted
+
+low-byte : (a : Answer) → Fits a → numberOfAnswer a % 2 ^ 8 ≡ refusalOf a
+unfolding numberOfAnswer refusalOf
+low-byte (Refused n) f = omega arith
+low-byte Made f = refl
+low-byte (Started n) f = omega arith
+low-byte (Delivered kind n outcome) f = omega arith
+low-byte (Shown n) f = omega arith
+
+reply-accepts : (t : Tables) (c : Call) → refusalOf (reply t c) ≡ 0
+unfolding refusalOf reply
+reply-accepts t (startRead d s) = refl
+reply-accepts t (startWrite d s bytes) = refl
+reply-accepts t (deliver i) = refl
+reply-accepts t (show d output) = refl
+
+tells-refusal : (b : List ℕ) (c : Call) (r : ℕ) → refusalOn b c ≡ r → refusalOf (answerOn b c) ≡ r
+unfolding refusalOf
+tells-refusal b c zero e = ap refusalOf (answer-accepted b c e) ∙ reply-accepts (tablesOf b) c
+tells-refusal b c (suc r) e = ap refusalOf (answer-refused b c r e)
+
+pub lowest-byte : (b : List ℕ) (c : Call) → numberOfAnswer (answerOn b c) % 2 ^ 8 ≡ refusalOn b c
+lowest-byte b c = low-byte (answerOn b c) (answer-fits b c) ∙ tells-refusal b c (refusalOn b c) refl
+
+-- ---- by the answer's case
+
+pub fits-started : (a : Answer) (n : ℕ) → a ≡ Started n → Fits a → n < 2 ^ 16
+fits-started a n e f = subst Fits e f
+
+pub fits-delivered : (a : Answer) (kind n outcome : ℕ) → a ≡ Delivered kind n outcome → Fits a
+    → (kind < 2 ^ 8) × (n < 2 ^ 16) × (outcome < 2 ^ 8)
+fits-delivered a kind n outcome e f = subst Fits e f
+
+pub fits-shown : (a : Answer) (n : ℕ) → a ≡ Shown n → Fits a → n < 2 ^ 16
+fits-shown a n e f = subst Fits e f

@@ -1,0 +1,197 @@
+-- What the calls' code has done, step by step, is what the calls are to give; and what its parts
+-- require.
+use mathlib.Core.Bool.{Bool, true, cond}
+use mathlib.Core.List.{List, _++_}
+use mathlib.Core.Logic.{_≢_}
+use mathlib.Core.Path.{_≡_, refl, sym, ap, _∙_}
+use Prim.Native.Nat.{ℕ, zero, suc, _+_, _*_, _^_, _≤_, _<_}
+use native.Mathlib.Omega.{arith}
+use lib.ListN.{length, drop}
+use Rattle.basics.proofs.Cases.{between}
+use Rattle.itemset.specs.Set.{count}
+use Rattle.protocol.specs.declared.Answer.the-variants.{Refused, Started, Shown}
+use Rattle.protocol.specs.Tables.{Sizes}
+use Rattle.protocol.specs.Range.{capacities, isClient, load, occupied}
+use Rattle.protocol.specs.Calls.{Call, startRead, startWrite, show, effect, reply, written, lent}
+use Rattle.protocol.specs.Calls.{pick, shownFrame}
+use Rattle.protocol.proofs.Ranges.Tables.{Valid, valid-facts}
+use Rattle.protocol.proofs.Refusals.{accepted-read, accepted-write, accepted-show}
+use Rattle.layout.specs.Layout.{mostVersions, mostMessages, header, scalars, at, itemsAt}
+use Rattle.layout.specs.Layout.{messagesAt, countAt}
+use Rattle.layout.specs.Decode.{sizesIn, tablesOf, validBlock}
+use Rattle.start.specs.Start.{readStarted, writeStarted}
+use Rattle.start.proofs.Ready.{ready-start, ready-write}
+use Rattle.show.specs.Show.{frameIn}
+use Rattle.show.proofs.Frames.{shownFrame-tablesOf}
+use Rattle.encoding.proofs.WellFormed.{client-test}
+use Rattle.block_calls.specs.Calls.{refusalOn, answerOn, outputOn, tablesAfter, changed, blockAfter}
+use Rattle.block_calls.proofs.Accepted.{valid-tables, accepted-holds, accepted-tables}
+use Rattle.block_calls.proofs.Accepted.{answer-accepted, output-accepted, block-accepted}
+use Rattle.block_calls.proofs.Accepted.{count-accepted, answer-refused, output-refused}
+use Rattle.block_calls.proofs.Accepted.{block-refused, tables-after}
+use Rattle.block_calls.proofs.Tested.{sizes-read}
+
+-- ---- tests, one behind the other
+
+pub chain : (a a' : Bool) (n m m' r : ℕ) → r ≡ cond a n m → a ≡ a' → m ≡ m' → r ≡ cond a' n m'
+chain a a' n m m' r e x y = e ∙ rw (x, y) refl
+
+-- ---- refused
+
+module _ (b : List ℕ) (c : Call) where
+  pub tables-given : (after : List ℕ) → after ≡ blockAfter b c → tablesOf after ≡ tablesAfter b c
+  tables-given after e = ap tablesOf e ∙ tables-after b c
+
+  pub refused-given : (r : ℕ) → r ≡ refusalOn b c → r ≢ 0 → (Refused r ≡ answerOn b c)
+      × (b ≡ blockAfter b c)
+  refused-given zero e some = absurd (some refl)
+  refused-given (suc r) e some = (
+    sym (answer-refused b c r (sym e)),
+    sym
+        (block-refused b c r (sym e)),
+  )
+
+  pub refused-shown : (r : ℕ) → r ≡ refusalOn b c → r ≢ 0 → (Refused r ≡ answerOn b c)
+      × (lent c ≡ outputOn b c)
+  refused-shown zero e some = absurd (some refl)
+  refused-shown (suc r) e some = (
+    sym (answer-refused b c r (sym e)),
+    sym
+        (output-refused b c r (sym e)),
+  )
+
+-- ---- starts
+
+module _ (b : List ℕ) (c : Call) (e : refusalOn b c ≡ 0) (after : List ℕ)
+    (a : after ≡ changed b c) where
+  pub block-given : after ≡ blockAfter b c
+  block-given = a ∙ sym (block-accepted b c e)
+
+  pub count-given : (n : ℕ) → n ≡ at after header messagesAt
+      → n ≡ length (effect (tablesOf b) c .messages)
+  count-given n m = m ∙ (ap (λ (l : List ℕ). at l header messagesAt) a ∙ count-accepted b c e)
+
+module _ (b : List ℕ) (d s : ℕ) (e : refusalOn b (startRead d s) ≡ 0) where
+  pub read-ready : (items n : ℕ) → items ≡ at b header itemsAt → n ≡ at b header messagesAt
+      → (1 ≤ d) × (d ≤ 8) × (items ≤ 64) × (n + count s ≤ mostMessages)
+      × (items ≡ at b header itemsAt)
+      × (n ≡ at b header messagesAt)
+  read-ready items n i m =
+      let r =
+      ready-start b (tablesOf b) d s (accepted-holds b (startRead d s) e .encodes)
+      (accepted-read capacities (tablesOf b) d s .0 (accepted-tables b (startRead d s) e)) in
+      (r .first, r .last, omega (arith, r .items), omega (arith, r .messages), i, m)
+
+  pub read-given : (after : List ℕ) (n : ℕ) → after ≡ readStarted b d s
+      → n ≡ at after header messagesAt
+      → (Started n ≡ answerOn b (startRead d s)) × (after ≡ blockAfter b (startRead d s))
+  unfolding changed reply effect
+  read-given after n a m = (
+    ap Started (count-given b (startRead d s) e after a n m)
+        ∙ sym (answer-accepted b (startRead d s) e),
+    block-given b (startRead d s) e after a,
+  )
+
+module _ (b : List ℕ) (d s : ℕ) (bytes : List ℕ) (e : refusalOn b (startWrite d s bytes) ≡ 0) where
+  pub write-ready : (items n : ℕ) → items ≡ at b header itemsAt → n ≡ at b header messagesAt
+      → (1 ≤ d) × (d ≤ 8) × (items ≤ 64) × (n + count s ≤ mostMessages)
+      × (items ≡ at b header itemsAt)
+      × (n ≡ at b header messagesAt)
+      × (at b scalars (countAt d) < 2 ^ 32) × (4 * count s ≤ length bytes)
+  write-ready items n i m =
+      let w =
+      ready-write b (tablesOf b) d s bytes (accepted-holds b (startWrite d s bytes) e .encodes)
+      (accepted-write capacities (tablesOf b) d s
+      bytes .0 (accepted-tables b (startWrite d s bytes) e)) in
+      let r = w .start in (
+        r .first,
+        r .last,
+        omega (arith, r .items),
+        omega
+            (arith, r .messages),
+        i,
+        m,
+        w .countFits,
+        w .values,
+      )
+
+  pub write-given : (after : List ℕ) (n : ℕ) → after ≡ writeStarted b d s bytes
+      → n ≡ at after header messagesAt
+      → (Started n ≡ answerOn b (startWrite d s bytes))
+      × (after ≡ blockAfter b (startWrite d s bytes))
+  unfolding changed reply effect
+  write-given after n a m = (
+    ap Started (count-given b (startWrite d s bytes) e after a n m)
+        ∙ sym (answer-accepted b (startWrite d s bytes) e),
+    block-given b
+        (startWrite d s bytes) e after a,
+  )
+
+-- ---- a valid block's clients, load and versions
+
+module _ (b : List ℕ) (v : validBlock b ≡ true) where
+  facts : Valid capacities (tablesOf b)
+  facts = valid-facts capacities (tablesOf b) (valid-tables b v)
+
+  pub has-words : (d : ℕ) → isClient (sizesIn b) d ≡ true → (1 ≤ d) × (d ≤ 8)
+  has-words d c =
+      let p = between 1 (sizesIn b .clients) d c in (
+        p .0,
+        omega (
+          arith,
+          p .1,
+          facts .inRange .sizes .clients,
+          ap (λ (z : Sizes). z .clients)
+              (sizes-read b),
+        ),
+      )
+
+  pub load-few : (n : ℕ) → n ≡ load (tablesOf b) → n ≤ mostMessages
+  load-few n e = omega (arith, e, facts .load)
+
+  pub occupied-few : (n : ℕ) → n ≡ occupied (tablesOf b) → n ≤ mostVersions
+  occupied-few n e = omega (arith, e, facts .occupied)
+
+-- ---- showings
+
+pub show-keeps : (b : List ℕ) (d : ℕ) (out : List ℕ) → b ≡ blockAfter b (show d out)
+unfolding blockAfter changed
+show-keeps b d out = either (refusalOn b (show d out))
+  where
+    either : (r : ℕ) → b ≡ pick r b b
+    either zero = refl
+    either (suc r) = refl
+
+module _ (b : List ℕ) (d : ℕ) (out : List ℕ) (e : refusalOn b (show d out) ≡ 0) where
+  shown-frame : shownFrame (tablesOf b) d ≡ frameIn b d
+  unfolding tablesOf
+  shown-frame =
+      shownFrame-tablesOf b d
+      (client-test (sizesIn b) d (accepted-show capacities
+      (tablesOf b) d out .0 (accepted-tables b (show d out) e) .client))
+
+  written-frame : (after : List ℕ) → after ≡ frameIn b d ++ drop (length (frameIn b d)) out
+      → after ≡ written (tablesOf b) (show d out)
+  unfolding written
+  written-frame after a = a ∙ ap (λ (l : List ℕ). l ++ drop (length l) out) (sym shown-frame)
+
+  pub show-ready : (1 ≤ d) × (d ≤ 8) × (length (frameIn b d) ≤ length out)
+  show-ready =
+      let a = accepted-show capacities (tablesOf b) d out .0 (accepted-tables b (show d out) e) in
+      let sizes = a .valid .inRange .sizes .clients in (
+        a .client .0,
+        omega (arith, a .client .1, sizes),
+        omega
+            (arith, a .room, ap length shown-frame),
+      )
+
+  pub show-given : (after : List ℕ) (n : ℕ) → after ≡ frameIn b d ++ drop (length (frameIn b d)) out
+      → n ≡ length (frameIn b d)
+      → (Shown n ≡ answerOn b (show d out)) × (after ≡ outputOn b (show d out))
+  unfolding reply
+  show-given after n a m = (
+    ap Shown (m ∙ ap length (sym shown-frame))
+        ∙ sym (answer-accepted b (show d out) e),
+    written-frame after a
+        ∙ sym (output-accepted b (show d out) e),
+  )

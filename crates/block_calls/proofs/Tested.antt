@@ -1,0 +1,105 @@
+-- The refusal table from the words of a valid block.
+use mathlib.Core.Bool.{Bool, true, false, cond, not, _||_, and-true}
+use mathlib.Core.List.{List}
+use mathlib.Core.Path.{_≡_, refl, sym, _∙_}
+use Prim.Native.Nat.{ℕ, _+_, _*_}
+use lib.Dec.{eqb, ltb, leb}
+use lib.ListN.{length}
+use Rattle.basics.proofs.Cases.{by-test, between}
+use Rattle.itemset.specs.Set.{allBelow, count}
+use Rattle.protocol.specs.Range.{capacities, valid, isClient, isIdle, load, occupied}
+use Rattle.protocol.specs.Calls.{startRead, startWrite, show, refusal, first, isNothing}
+use Rattle.layout.specs.Layout.{mostVersions, mostMessages, header, scalars, at, itemsAt, modeAt}
+use Rattle.layout.specs.Layout.{awaitedAt, countAt, lastKindAt}
+use Rattle.layout.specs.Decode.{sizesIn, clientIn, tablesOf, validBlock}
+use Rattle.encoding.proofs.WellFormed.{tells-valid-block}
+use Rattle.show.specs.Show.{frameIn}
+use Rattle.show.proofs.Frames.{isNothing-last, shownFrame-tablesOf}
+use Rattle.block_calls.proofs.Accepted.{valid-tables}
+
+-- ---- fields of the tables, as words
+
+pub sizes-read : (b : List ℕ) → tablesOf b .sizes ≡ sizesIn b
+unfolding tablesOf
+sizes-read b = refl
+
+-- a client is idle exactly if its words await no item
+idle-words : (b : List ℕ) (d : ℕ) → isIdle (clientIn b d) ≡ eqb (at b scalars (awaitedAt d)) 0
+unfolding clientIn
+idle-words b d =
+    by-test (leb 2 (at b scalars (modeAt d))) (λ e. rw e refl)
+    (λ e. rw e (and-true (eqb (at b scalars (awaitedAt d)) 0)))
+
+module _ (b : List ℕ) (d : ℕ) (c : isClient (sizesIn b) d ≡ true) where
+  client-read : tablesOf b .client d ≡ clientIn b d
+  unfolding tablesOf
+  client-read = rw c
+
+  idle-read : validBlock b ≡ true
+      → isIdle (tablesOf b .client d) ≡ eqb (at b scalars (modeAt d)) 0
+  idle-read v = rw client-read (idle-words b d
+      ∙ sym (tells-valid-block b .0 v .wellFormed .idle d (between 1 (sizesIn b .clients) d c)))
+
+  count-read : tablesOf b .client d .count ≡ at b scalars (countAt d)
+  unfolding clientIn
+  count-read = rw client-read
+
+  nothing-read : isNothing (tablesOf b .client d .last) ≡ eqb (at b scalars (lastKindAt d)) 0
+  nothing-read = rw client-read (isNothing-last b d)
+
+-- ---- 3, 4 and what follows them
+
+module _ (b : List ℕ) (d : ℕ) (v : validBlock b ≡ true) where
+  pub read-nobody : (s : ℕ) → isClient (sizesIn b) d ≡ false
+      → refusal capacities (tablesOf b) (startRead d s) ≡ 3
+  unfolding refusal first
+  read-nobody s c = rw (valid-tables b v, sizes-read b, c) refl
+
+  pub write-nobody : (s : ℕ) (bytes : List ℕ) → isClient (sizesIn b) d ≡ false
+      → refusal capacities (tablesOf b) (startWrite d s bytes) ≡ 3
+  unfolding refusal first
+  write-nobody s bytes c = rw (valid-tables b v, sizes-read b, c) refl
+
+  pub show-nobody : (output : List ℕ) → isClient (sizesIn b) d ≡ false
+      → refusal capacities (tablesOf b) (show d output) ≡ 3
+  unfolding refusal first
+  show-nobody output c = rw (valid-tables b v, sizes-read b, c) refl
+
+  abbrev busy : Bool
+  busy = not (eqb (at b scalars (modeAt d)) 0)
+
+  abbrev bad : ℕ → Bool
+  bad s = eqb s 0 || not (allBelow s (at b header itemsAt))
+
+  pub read-tests : (s : ℕ) → isClient (sizesIn b) d ≡ true
+      → refusal capacities (tablesOf b) (startRead d s) ≡ cond busy 4
+      (cond (bad s) 5 (cond (ltb mostMessages (load (tablesOf b) + count s)) 8 0))
+  unfolding refusal first
+  read-tests s c = rw (valid-tables b v, idle-read b d c v, sizes-read b, c) refl
+
+  pub write-tests : (s : ℕ) (bytes : List ℕ) → isClient (sizesIn b) d ≡ true
+      → refusal capacities (tablesOf b) (startWrite d s bytes)
+      ≡ cond busy 4
+      (cond (bad s) 5
+      (cond (not (eqb (length bytes) (4 * count s))) 6
+      (cond (eqb (at b scalars (countAt d)) 4294967295) 7
+      (cond (ltb mostMessages (load (tablesOf b) + count s)) 8
+      (cond (ltb mostVersions (occupied (tablesOf b) + count s)) 9 0)))))
+  unfolding refusal first
+  write-tests s bytes c = rw (valid-tables b v, idle-read b d c v, count-read b d c, sizes-read b, c)
+      refl
+
+  pub show-tests : (output : List ℕ) → isClient (sizesIn b) d ≡ true
+      → refusal capacities (tablesOf b) (show d output)
+      ≡ cond busy 4 (cond (eqb (at b scalars (lastKindAt d)) 0) 13
+      (cond (ltb (length output) (length (frameIn b d))) 14 0))
+  unfolding refusal first
+  show-tests output c =
+      rw (
+        valid-tables b v,
+        idle-read b d c v,
+        nothing-read b d c,
+        shownFrame-tablesOf b d c,
+        sizes-read b,
+        c,
+      ) refl

@@ -1,0 +1,172 @@
+// The refusal of each call, in the refusal table's order; 0 where the call is accepted.
+ghost use mathlib.Core.Bool.{true, cond, _||_, not};
+ghost use mathlib.Core.Path.{_≡_};
+ghost use Prim.Native.Nat.{_≤_, _<_};
+ghost use lib.Dec.{eqb};
+ghost use lib.ListN.{length};
+ghost use Rattle.itemset.specs.Set.{allBelow};
+ghost use Rattle.protocol.specs.Range.{capacities, isClient};
+ghost use Rattle.protocol.specs.Calls.{startRead, startWrite, show, refusal};
+ghost use Rattle.layout.specs.Layout.{header, scalars, at, itemsAt, modeAt};
+ghost use Rattle.layout.specs.Decode.{sizesIn, tablesOf, validBlock};
+ghost use Rattle.range.specs.Sized.{sizes};
+ghost use Rattle.block_calls.specs.Calls.{freshRefusalOn, refusalOn};
+use itemset::all_below;
+use itemset::count;
+use layout::MOST_MESSAGES;
+use layout::MOST_VERSIONS;
+use layout::NEEDED;
+use layout::client::last_kind;
+use layout::client::mode;
+use range::load;
+use range::occupied;
+use range::valid_block;
+use show::frame_length;
+
+// One test: `number` where it applies, else what the tests behind it give.
+fn refuse(number: u64, applies: bool, behind: u64) -> u64
+    ensures { λ r. ⌜ r ≡ cond applies number behind ⌝ }
+{
+    if applies { number } else { behind }
+}
+
+// 2 for sizes out of range, 1 for a block that is too short.
+pub fn of_fresh(b: &[u64], clients: u64, partitions: u64, items: u64) -> u64
+    ensures { λ r. ⌜ r ≡ freshRefusalOn (now (b .entry)) (sizes clients partitions items) ⌝ }
+{
+    let in_range = (1 <= clients)
+        & (clients <= 8)
+        & (1 <= partitions)
+        & (partitions <= 8)
+        & (1 <= items)
+        & (items <= 64);
+    refuse(2, !in_range, refuse(1, b.len() < NEEDED, 0))
+}
+
+fn is_client(b: &[u64], d: u64) -> bool
+    ensures { λ r. ⌜ r ≡ isClient (sizesIn (now (b .entry))) d ⌝ }
+{
+    (1 <= d) & (d <= layout::clients(b))
+}
+
+// 4: the client isn't idle.
+fn busy(b: &[u64], d: u64) -> bool
+    requires { ⌜ (1 ≤ d) × (d ≤ 8) ⌝ }
+    ensures { λ r. ⌜ r ≡ not (eqb (at (now (b .entry)) scalars (modeAt d)) 0) ⌝ }
+{
+    mode(b, d) != 0
+}
+
+// 5: the set is empty, or holds an item that doesn't exist.
+fn bad_set(b: &[u64], s: u64) -> bool
+    ensures { λ r. ⌜ r ≡ (eqb s 0 || not (allBelow s (at (now (b .entry)) header itemsAt))) ⌝ }
+{
+    (s == 0) | !all_below(s, layout::items(b))
+}
+
+// A read by a client that exists, on a valid block.
+fn of_client_read(b: &[u64], d: u64, s: u64) -> u64
+    requires { ⌜ (validBlock (now b) ≡ true) × (isClient (sizesIn (now b)) d ≡ true) ⌝ }
+    ensures { λ r. ⌜ r ≡ refusal capacities (tablesOf (now (b .entry))) (startRead d s) ⌝ }
+{
+    let full = MOST_MESSAGES < load(b) + count(s);
+    refuse(4, busy(b, d), refuse(5, bad_set(b, s), refuse(8, full, 0)))
+}
+
+fn of_valid_read(b: &[u64], d: u64, s: u64) -> u64
+    requires { ⌜ validBlock (now b) ≡ true ⌝ }
+    ensures { λ r. ⌜ r ≡ refusal capacities (tablesOf (now (b .entry))) (startRead d s) ⌝ }
+{
+    if is_client(b, d) {
+        of_client_read(b, d, s)
+    } else {
+        3
+    }
+}
+
+pub fn of_read(b: &[u64], d: u64, s: u64) -> u64
+    ensures { λ r. ⌜ r ≡ refusalOn (now (b .entry)) (startRead d s) ⌝ }
+{
+    if valid_block(b) {
+        of_valid_read(b, d, s)
+    } else {
+        1
+    }
+}
+
+// A write by a client that exists, on a valid block.
+fn of_client_write(b: &[u64], d: u64, s: u64, bytes: &[u8]) -> u64
+    requires { ⌜ (validBlock (now b) ≡ true) × (isClient (sizesIn (now b)) d ≡ true) ⌝ }
+    ensures { λ r. ⌜ r ≡ refusal capacities (tablesOf (now (b .entry))) (startWrite d s (now (bytes .entry))) ⌝ }
+{
+    let items = count(s);
+    let values = bytes.len() as u64 == 4 * items;
+    let counted = layout::client::count(b, d) == 4294967295;
+    let full = MOST_MESSAGES < load(b) + items;
+    let stored = MOST_VERSIONS < occupied(b) + items;
+    refuse(
+        4,
+        busy(b, d),
+        refuse(
+            5,
+            bad_set(b, s),
+            refuse(
+                6,
+                !values,
+                refuse(7, counted, refuse(8, full, refuse(9, stored, 0))),
+            ),
+        ),
+    )
+}
+
+fn of_valid_write(b: &[u64], d: u64, s: u64, bytes: &[u8]) -> u64
+    requires { ⌜ validBlock (now b) ≡ true ⌝ }
+    ensures { λ r. ⌜ r ≡ refusal capacities (tablesOf (now (b .entry))) (startWrite d s (now (bytes .entry))) ⌝ }
+{
+    if is_client(b, d) {
+        of_client_write(b, d, s, bytes)
+    } else {
+        3
+    }
+}
+
+pub fn of_write(b: &[u64], d: u64, s: u64, bytes: &[u8]) -> u64
+    ensures { λ r. ⌜ r ≡ refusalOn (now (b .entry)) (startWrite d s (now (bytes .entry))) ⌝ }
+{
+    if valid_block(b) {
+        of_valid_write(b, d, s, bytes)
+    } else {
+        1
+    }
+}
+
+// A showing of a client that exists, from a valid block.
+fn of_client_show(b: &[u64], d: u64, out: &[u8]) -> u64
+    requires { ⌜ (validBlock (now b) ≡ true) × (isClient (sizesIn (now b)) d ≡ true) ⌝ }
+    ensures { λ r. ⌜ r ≡ refusal capacities (tablesOf (now (b .entry))) (show d (now (out .entry))) ⌝ }
+{
+    let none = last_kind(b, d) == 0;
+    let short = (out.len() as u64) < frame_length(b, d);
+    refuse(4, busy(b, d), refuse(13, none, refuse(14, short, 0)))
+}
+
+fn of_valid_show(b: &[u64], d: u64, out: &[u8]) -> u64
+    requires { ⌜ validBlock (now b) ≡ true ⌝ }
+    ensures { λ r. ⌜ r ≡ refusal capacities (tablesOf (now (b .entry))) (show d (now (out .entry))) ⌝ }
+{
+    if is_client(b, d) {
+        of_client_show(b, d, out)
+    } else {
+        3
+    }
+}
+
+pub fn of_show(b: &[u64], d: u64, out: &[u8]) -> u64
+    ensures { λ r. ⌜ r ≡ refusalOn (now (b .entry)) (show d (now (out .entry))) ⌝ }
+{
+    if valid_block(b) {
+        of_valid_show(b, d, out)
+    } else {
+        1
+    }
+}
