@@ -21,30 +21,44 @@ use Rattle.findings.specs.Findings.{wrote, isUnwritten, behind, fracture
 use Rattle.findings.specs.Findings.{lowest, judged, checked, verdict, bytesOf, numberOf}
 use Rattle.findings.specs.declared.Verdict.the-variants.{TooLong, Malformed, Judged}
 
-record Row : Type 0 where
-  log : List ℕ
+pub record Row : Type 0 where
+  pub log : List ℕ
   -- the verdict's bytes
-  answer : List ℕ
+  pub answer : List ℕ
 
-rows : List Row
-rows =
-    -- ★ the empty log
-    record { log = []; answer = 0x00 ∷ 0x00 ∷ 0x00 ∷ 0x00 ∷ [] }
-    -- ★ a write of {0, 1}, number 1, by desk 1; a read by desk 2 with line 0 from it and line 1
-    -- initial
-    ∷ record {
+-- ---- ★ Document 01's examples
+
+-- the empty log
+abbrev pub emptyLog : Row
+emptyLog = record { log = []; answer = 0x00 ∷ 0x00 ∷ 0x00 ∷ 0x00 ∷ [] }
+
+-- a write of {0, 1}, number 1, by desk 1; a read by desk 2 with line 0 from it and line 1 initial
+abbrev pub halfShown : Row
+halfShown =
+    record {
       log =
           line 22 0x2001_0000000000000003_00000001_00000007_00000008
           ++ line 28 0x2102_0000000000000003_00000001_01_00000007_00000000_00_00000000;
       answer = 0x00 ∷ 0x02 ∷ 0x00 ∷ 0x02 ∷ [];
     }
-    -- ★ the same, both from the write
-    ∷ record {
+
+-- the same, both from the write
+abbrev pub allShown : Row
+allShown =
+    record {
       log =
           line 22 0x2001_0000000000000003_00000001_00000007_00000008
           ++ line 28 0x2102_0000000000000003_00000001_01_00000007_00000001_01_00000008;
       answer = 0x00 ∷ 0x00 ∷ 0x00 ∷ 0x00 ∷ [];
     }
+
+-- ---- The table
+
+rows : List Row
+rows =
+    emptyLog
+    ∷ halfShown
+    ∷ allShown
     -- the same, both initial, read by another desk
     ∷ record {
       log =
@@ -366,18 +380,14 @@ rows =
     }
     ∷ []
 
-same : List ℕ → List ℕ → Bool
+abbrev same : List ℕ → List ℕ → Bool
 same [] [] = true
 same [] (y ∷ ys) = false
 same (x ∷ xs) [] = false
 same (x ∷ xs) (y ∷ ys) = eqb x y && same xs ys
 
-right : Row → Bool
-right r = same (bytesOf (verdict (r .log))) (r .answer)
-
--- every row of the table
-examples : all right rows ≡ true
-unfolding all rows right same line times hexText bigEndian hexDigit
+unfoldable pub right : Row → Bool
+unfolding hexText bigEndian hexDigit
     digit pair lineLength numberAt isHex Rattle.hex.specs.Text.bytesOf has some someFrom counted
     every onesIn
     linesOf frameOf written Rattle.log.specs.Log.numberOf writtenStamp writtenValue shown shownStamp
@@ -385,6 +395,11 @@ unfolding all rows right same line times hexText bigEndian hexDigit
     writeAt endOf shaped writeShaped readShaped entriesWhole reaches malformed
     wrote isUnwritten behind fractures outdates holdsAt lowest firstFrom tooLong judged checked
     verdict
+right r = same (bytesOf (verdict (r .log))) (r .answer)
+
+-- every row of the table
+examples : all right rows ≡ true
+unfolding all rows right line times hexText bigEndian hexDigit
 examples = refl
 
 -- ---- the verdict as a number and as bytes

@@ -33,7 +33,7 @@ room n = replicate n 0xee
 
 -- ---- ★ Fresh
 
-abbrev freshLargest : Row
+abbrev pub freshLargest : Row
 freshLargest =
     record {
       start = freshly (sizes 8 8 64) "00";
@@ -41,14 +41,14 @@ freshLargest =
       after = anything;
     }
 
-abbrev freshTooLarge : Row
+abbrev pub freshTooLarge : Row
 freshTooLarge = record { start = freshly (sizes 9 8 64) "02"; lines = []; after = anything }
 
 -- ---- ★ Load. Of 126, 21 are prepared replies that have come.
 
 -- Two lines bring it to 128, and there it stays when the last reply of a write turns its three
 -- others into commits.
-abbrev loadTwoFit : Row
+abbrev pub loadTwoFit : Row
 loadTwoFit =
     record {
       start = on (loaded 98);
@@ -57,7 +57,7 @@ loadTwoFit =
       after = anything;
     }
 
-abbrev loadTwoTooMany : Row
+abbrev pub loadTwoTooMany : Row
 loadTwoTooMany =
     record {
       start = on (loaded 99);
@@ -69,7 +69,7 @@ loadTwoTooMany =
 -- ---- ★ Versions
 
 -- the two prepares count, so a third line has no place; a read needs none
-abbrev versionsTwoFit : Row
+abbrev pub versionsTwoFit : Row
 versionsTwoFit =
     record {
       start = on (holding 510);
@@ -78,7 +78,7 @@ versionsTwoFit =
       after = anything;
     }
 
-abbrev versionsTwoTooMany : Row
+abbrev pub versionsTwoTooMany : Row
 versionsTwoTooMany =
     record {
       start = on (holding 511);
@@ -88,7 +88,7 @@ versionsTwoTooMany =
 
 -- ---- ★ Choice of stamps: the gets' desk, line, number and writing desk
 
-abbrev asksSibling : Row
+abbrev pub asksSibling : Row
 asksSibling =
     record {
       start = on (seeing (entry 2 1 3) (entry 1 2 2));
@@ -97,7 +97,7 @@ asksSibling =
           ∷ []);
     }
 
-abbrev asksGreaterClient : Row
+abbrev pub asksGreaterClient : Row
 asksGreaterClient =
     record {
       start = on (seeing (entry 1 2 1) (entry 1 1 3));
@@ -108,7 +108,7 @@ asksGreaterClient =
 
 -- ---- Document 01's whole session
 
-abbrev wholeSession : Row
+abbrev pub wholeSession : Row
 wholeSession =
     record {
       start = freshly (sizes 2 2 2) "00";
