@@ -53,8 +53,7 @@ accepted-mild : (r : ℕ) → r ≡ 0 → Mild r
 accepted-mild r e = record {
   one = λ f. omega arith;
   eleven = λ f. omega arith;
-  twelve =
-      λ f. omega arith;
+  twelve = λ f. omega arith;
 }
 
 module _ (caps : Capacities) (w : World) (inv : Inv caps w) where

@@ -4,17 +4,16 @@ use mathlib.Core.Bool.{true}
 use mathlib.Core.Path.{_≡_, refl}
 use Prim.Native.Nat.{ℕ, zero, suc}
 use native.Mathlib.Omega.{arith}
-use lib.Pow.{pow-pos}
 use Rattle.basics.specs.Lists.{counted}
-use Rattle.protocol.specs.Tables.{Sizes, Tables, nothing, initial, resting, fresh}
+use Rattle.protocol.specs.Tables.{Sizes, Tables, nothing, resting, fresh}
 use Rattle.protocol.specs.Range.{Capacities, sizesInRange, arrived, load, occupied, valid}
 use Rattle.protocol.specs.Calls.{Call, effect, refusal, pick, step}
-use Rattle.protocol.proofs.Ranges.Values.{SizesInRange, EntryInRange, tells-sizes}
+use Rattle.protocol.proofs.Ranges.Values.{SizesInRange, entry-initial, tells-sizes}
 use Rattle.protocol.proofs.Ranges.Tables.{InRange, Valid, facts-valid}
 use Rattle.protocol.proofs.Keeps.{keeps}
 use Rattle.protocol.proofs.Put.{total-none}
 use Rattle.protocol.proofs.Load.{arrived-none}
-use Rattle.protocol.proofs.Kept.Values.{range-initial, range-resting}
+use Rattle.protocol.proofs.Kept.Values.{range-resting}
 
 pub valid-kept : (caps : Capacities) (t : Tables) (c : Call) → refusal caps t c ≡ 0
     → Valid caps (effect t c)
@@ -39,12 +38,10 @@ valid-next caps t c v = at (refusal caps t c) refl
 
 pub range-fresh : (z : Sizes) → SizesInRange z → InRange (fresh z)
 range-fresh z h =
-    let entry : EntryInRange z initial =
-    record { stamp = range-initial z; set = pow-pos (z .items) } in
     record {
       sizes = h;
-      latest = λ k l. entry;
-      view = λ d i k l. entry;
+      latest = λ k l. entry-initial z;
+      view = λ d i k l. entry-initial z;
       client = λ d i. range-resting z 0 nothing (omega arith) tt;
       versions = λ v i. absurd i;
       messages = λ m i. absurd i;

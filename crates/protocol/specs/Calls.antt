@@ -12,13 +12,13 @@ use Rattle.protocol.specs.declared.Message.the-variants.{Prepare, Prepar
 use Rattle.protocol.specs.declared.Answer.{Answer}
 use Rattle.protocol.specs.declared.Answer.the-variants.{Refused, Made, Started, Delivered}
 use Rattle.protocol.specs.declared.Answer.the-variants.{Shown}
-use Rattle.protocol.specs.Tables.{Sizes, Tables, Ended, nothing, read, write, ofRead, ofWrite}
+use Rattle.protocol.specs.Tables.{Sizes, Tables, Ended, nothing, read, write}
 use Rattle.protocol.specs.Tables.{WritePart, writerOf}
 use Rattle.protocol.specs.Message.{partsOf, kindOf, isPrepare, isGet, itemOf}
 use Rattle.protocol.specs.Range.{Capacities, valid, sizesInRange, isClient, isIdle, load}
 use Rattle.protocol.specs.Range.{occupied}
 use Rattle.protocol.specs.Steps.{startedRead, startedWrite, deliveredAt, messageAt, stored}
-use Rattle.protocol.specs.Steps.{isLast, gets, prepares, writer, joined}
+use Rattle.protocol.specs.Steps.{deliveryOf, gets, prepares, writer, joined}
 use Rattle.protocol.specs.Frame.{frame}
 
 -- The calls that follow a fresh start. A write brings its value bytes, a showing the lent output.
@@ -116,14 +116,8 @@ freshRefusal z = first (test 2 (not (sizesInRange z)) ∷ [])
 
 -- ---- Answers
 
--- 0 none ended, 1 a read ended, 2 a transaction with a write part ended
 unfoldable pub outcomeOf : Tables → Message → ℕ
-outcomeOf t (Prepare v) = 0
-outcomeOf t (Prepared k stamp) = cond (isLast ofWrite (t .client (writerOf stamp)) k) 2 0
-outcomeOf t (Commit p stamp) = 0
-outcomeOf t (Get d k stamp) = 0
-outcomeOf t (Got d v latest) = cond (isLast ofRead (t .client d) (v .item))
-    (cond (eqb (t .client d .write .set) 0) 1 2) 0
+outcomeOf t m = deliveryOf t m .outcome
 
 -- ---- What an accepted call does, said once; a refused call does nothing
 

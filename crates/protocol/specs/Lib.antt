@@ -1,5 +1,5 @@
--- Document 01 as definitions, in its order: the tables, what is in range, the steps, showing, the
--- refusals, the calls.
+-- Document 01 as definitions, in its order: the tables, what a message is, what is in range, the
+-- steps, showing, the refusals, the calls; then runs of calls and condition 3.
 pub mod Tables
 pub mod Message
 pub mod Range

@@ -37,8 +37,7 @@ reader t d s =
         set = s;
         awaited = s;
         asked = λ k. cond (has s k) (asks t d k) 0;
-        values =
-            λ k. 0;
+        values = λ k. 0;
       };
       write = noWrite;
       last = c .last;
@@ -101,9 +100,6 @@ found (v ∷ vs) k stamp = cond (alike k stamp v) v (found vs k stamp)
 
 -- ---- The five deliveries
 
--- Each message changes the tables beside the messages in flight (`delivered`), and makes messages
--- join (`joined`).
-
 -- item k is struck from those that the read part awaits, and its answer is kept
 abbrev pub answered : Client → ℕ → ℕ → Client
 answered c k value =
@@ -112,8 +108,7 @@ answered c k value =
       read = record {
         set = c .read .set;
         awaited = remove (c .read .awaited) k;
-        asked =
-            c .read .asked;
+        asked = c .read .asked;
         values = put (c .read .values) k value;
       };
       write = c .write;
@@ -129,8 +124,7 @@ struck c k =
       write = record {
         set = c .write .set;
         awaited = remove (c .write .awaited) k;
-        stamp =
-            c .write .stamp;
+        stamp = c .write .stamp;
         values = c .write .values;
       };
       last = c .last;
@@ -170,22 +164,6 @@ committed t p stamp k =
     (laterOf (t .latest k) (record { stamp = stamp; set = found (t .versions) k stamp .set }))
     (t .latest k)
 
-unfoldable pub delivered : Tables → Message → Tables
-delivered t (Prepare v) = withVersions t (t .versions ++ v ∷ [])
-delivered t (Prepared k stamp) =
-    let d = writerOf stamp in
-    let c = t .client d in
-    let view = cond (isLast ofWrite c k) (seen (t .view d) (c .write .set) stamp) (t .view d) in
-    withView (withClient t d (prepared c k)) d view
-delivered t (Commit p stamp) = withLatest t (committed t p stamp)
-delivered t (Get d k stamp) = t
-delivered t (Got d v latest) =
-    let c = t .client d in
-    let k = v .item in
-    let view = put (t .view d) k (laterOf (t .view d k) latest) in
-    withView (withClient t d (got c k (v .value))) d
-    (cond (isLast ofRead c k) (seen view (c .write .set) (c .write .stamp)) view)
-
 -- some item of s lies in partition p, of the first n items
 unfoldable pub touches : Tables → ℕ → ℕ → ℕ → Bool
 touches t s p zero = false
@@ -196,17 +174,48 @@ abbrev pub commits : Tables → ℕ → ℕ → List Message
 commits t s stamp = map (λ p. Commit p stamp)
     (upto (t .sizes .partitions) (λ p. touches t s p (t .sizes .items)))
 
-unfoldable pub joined : Tables → Message → List Message
-joined t (Prepare v) = Prepared (v .item) (v .stamp) ∷ []
-joined t (Prepared k stamp) =
-    let c = t .client (writerOf stamp) in
-    cond (isLast ofWrite c k) (commits t (c .write .set) stamp) []
-joined t (Commit p stamp) = []
-joined t (Get d k stamp) = Got d (version k (found (t .versions) k stamp .value) stamp 0)
-    (t .latest k) ∷ []
-joined t (Got d v latest) =
+-- What the delivery of a message does, said once for each kind
+pub record Delivery : Type 0 where
+  -- the tables after it, beside the messages in flight
+  pub tables : Tables
+  -- the messages that join
+  pub joins : List Message
+  -- 0 none ended, 1 a read ended, 2 a transaction with a write part ended
+  pub outcome : ℕ
+
+abbrev pub delivering : Tables → List Message → ℕ → Delivery
+delivering after joins outcome = record { tables = after; joins = joins; outcome = outcome }
+
+abbrev pub deliveryOf : Tables → Message → Delivery
+deliveryOf t (Prepare v) =
+    delivering (withVersions t (t .versions ++ v ∷ [])) (Prepared (v .item) (v .stamp) ∷ []) 0
+deliveryOf t (Prepared k stamp) =
+    let d = writerOf stamp in
     let c = t .client d in
-    cond (isLast ofRead c (v .item)) (commits t (c .write .set) (c .write .stamp)) []
+    let last = isLast ofWrite c k in
+    let view = cond last (seen (t .view d) (c .write .set) stamp) (t .view d) in
+    delivering (withView (withClient t d (prepared c k)) d view)
+    (cond last (commits t (c .write .set) stamp) [])
+    (cond last 2 0)
+deliveryOf t (Commit p stamp) = delivering (withLatest t (committed t p stamp)) [] 0
+deliveryOf t (Get d k stamp) =
+    delivering t
+    (Got d (version k (found (t .versions) k stamp .value) stamp 0) (t .latest k) ∷ []) 0
+deliveryOf t (Got d v latest) =
+    let c = t .client d in
+    let k = v .item in
+    let last = isLast ofRead c k in
+    let offered = put (t .view d) k (laterOf (t .view d k) latest) in
+    let view = cond last (seen offered (c .write .set) (c .write .stamp)) offered in
+    delivering (withView (withClient t d (got c k (v .value))) d view)
+    (cond last (commits t (c .write .set) (c .write .stamp)) [])
+    (cond last (cond (eqb (c .write .set) 0) 1 2) 0)
+
+unfoldable pub delivered : Tables → Message → Tables
+delivered t m = deliveryOf t m .tables
+
+unfoldable pub joined : Tables → Message → List Message
+joined t m = deliveryOf t m .joins
 
 -- the message at a place
 abbrev pub messageAt : Tables → ℕ → Message

@@ -111,8 +111,7 @@ fresh sizes =
       sizes = sizes;
       latest = λ k. initial;
       view = λ d k. initial;
-      client =
-          λ d. resting 0 nothing;
+      client = λ d. resting 0 nothing;
       versions = [];
       messages = [];
     }
@@ -129,8 +128,7 @@ withClient t d c =
       sizes = t .sizes;
       latest = t .latest;
       view = t .view;
-      client =
-          put (t .client) d c;
+      client = put (t .client) d c;
       versions = t .versions;
       messages = t .messages;
     }
@@ -142,8 +140,7 @@ withView t d entries =
       sizes = t .sizes;
       latest = t .latest;
       view = put (t .view) d entries;
-      client =
-          t .client;
+      client = t .client;
       versions = t .versions;
       messages = t .messages;
     }
@@ -155,8 +152,7 @@ withLatest t entries =
       latest = entries;
       view = t .view;
       client = t .client;
-      versions =
-          t .versions;
+      versions = t .versions;
       messages = t .messages;
     }
 
@@ -167,8 +163,7 @@ withVersions t versions =
       latest = t .latest;
       view = t .view;
       client = t .client;
-      versions =
-          versions;
+      versions = versions;
       messages = t .messages;
     }
 
@@ -179,7 +174,6 @@ withMessages t messages =
       latest = t .latest;
       view = t .view;
       client = t .client;
-      versions =
-          t .versions;
+      versions = t .versions;
       messages = messages;
     }

@@ -1,7 +1,7 @@
 //! Log lines, and the verdict on a log.
 
 use super::words::valued;
-use crate::frames::log::{Entry, LogFrame};
+use crate::frames::log::{Entry, LogFrame, WritePart};
 use crate::judge::findings::{source, FINDINGS};
 use crate::judge::well_formed::lines;
 use crate::judge::{reasoned, Verdict};
@@ -51,15 +51,16 @@ fn verdict_words(verdict: Verdict, why: &str) -> String {
 
 /// What the frame says.
 pub fn sentence(frame: &LogFrame) -> String {
-    match frame {
-        LogFrame::Write { client, set, number, values } => {
-            format!("write {number} of client {client}: {}", valued(*set, values))
-        }
-        LogFrame::Read { client, .. } => {
-            let entries: Vec<String> = frame.shown().iter().map(entry_words).collect();
-            format!("client {client} shows {}", entries.join("; "))
-        }
-    }
+    let client = frame.client;
+    let shown = frame.read.as_ref().map(|_| {
+        let entries: Vec<String> = frame.shown().iter().map(entry_words).collect();
+        format!("client {client} shows {}", entries.join("; "))
+    });
+    let wrote = frame.write.as_ref().map(|WritePart { set, number, values }| {
+        format!("write {number} of client {client}: {}", valued(*set, values))
+    });
+    let parts: Vec<String> = shown.into_iter().chain(wrote).collect();
+    parts.join("; ")
 }
 
 fn entry_words(entry: &Entry) -> String {

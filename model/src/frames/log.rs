@@ -4,12 +4,9 @@ use super::hex::{number, to_hex};
 use crate::set::items;
 use crate::stamp::Stamp;
 
-/// Kind byte of a write's frame.
-const WRITE: u8 = 0x20;
-/// Kind byte of a read's frame.
-const READ: u8 = 0x21;
-/// Bytes of kind, client and set, with which both frames begin.
-const HEAD: usize = 10;
+/// Kind bytes of frames, in words, and whether each has a read part and a write part.
+const KINDS: [(u8, &str, bool, bool); 2] =
+    [(0x20, "write", false, true), (0x21, "read", true, false)];
 
 /// What a read shows of one item: the number and client (the writing desk) of its stamp, and its
 /// value.
@@ -20,14 +17,34 @@ pub struct Shown {
     pub value: u32,
 }
 
-/// A log frame. A client is document 01's desk, an item its line of a sheet; `set` holds item k
-/// as the bit worth 2 to the power k, and there is one value or entry for each item, ascending.
+impl Shown {
+    /// What nobody wrote.
+    pub const INITIAL: Shown = Shown { number: 0, client: 0, value: 0 };
+}
+
+/// A log frame: what a client was shown and what it wrote, of which its kind has one. A client is
+/// document 01's desk.
 #[derive(Clone, Debug, PartialEq, Eq)]
-pub enum LogFrame {
-    /// `20`: desk, set, number, values.
-    Write { client: u8, set: u64, number: u32, values: Vec<u32> },
-    /// `21`: desk, set, then per line number, writing desk, value.
-    Read { client: u8, set: u64, shown: Vec<Shown> },
+pub struct LogFrame {
+    pub client: u8,
+    pub read: Option<ReadPart>,
+    pub write: Option<WritePart>,
+}
+
+/// In `21`: set, then per line number, writing desk, value. A set holds item k (document 01's line
+/// of a sheet) as the bit worth 2 to the power k, and there is an entry for each item, ascending.
+#[derive(Clone, Debug, PartialEq, Eq)]
+pub struct ReadPart {
+    pub set: u64,
+    pub shown: Vec<Shown>,
+}
+
+/// In `20`: set, number, and a value for each item, ascending.
+#[derive(Clone, Debug, PartialEq, Eq)]
+pub struct WritePart {
+    pub set: u64,
+    pub number: u32,
+    pub values: Vec<u32>,
 }
 
 /// An item as a frame wrote or shows it.
@@ -39,27 +56,33 @@ pub struct Entry {
 }
 
 impl LogFrame {
+    /// A frame `20`.
+    pub fn of_write(client: u8, set: u64, number: u32, values: Vec<u32>) -> LogFrame {
+        LogFrame { client, read: None, write: Some(WritePart { set, number, values }) }
+    }
+
+    /// A frame `21`.
+    pub fn of_read(client: u8, set: u64, shown: Vec<Shown>) -> LogFrame {
+        LogFrame { client, read: Some(ReadPart { set, shown }), write: None }
+    }
+
     /// The frame's bytes, most significant byte first.
     pub fn bytes(&self) -> Vec<u8> {
-        let mut bytes = Vec::new();
-        match self {
-            LogFrame::Write { client, set, number, values } => {
-                bytes.extend([WRITE, *client]);
-                bytes.extend(set.to_be_bytes());
-                bytes.extend(number.to_be_bytes());
-                for value in values {
-                    bytes.extend(value.to_be_bytes());
-                }
+        let parts = (self.read.is_some(), self.write.is_some());
+        let kind = KINDS.iter().find(|(_, _, read, write)| (*read, *write) == parts);
+        let mut bytes = vec![kind.expect("a frame with a part").0, self.client];
+        if let Some(read) = &self.read {
+            bytes.extend(read.set.to_be_bytes());
+            for entry in &read.shown {
+                bytes.extend(entry.number.to_be_bytes());
+                bytes.push(entry.client);
+                bytes.extend(entry.value.to_be_bytes());
             }
-            LogFrame::Read { client, set, shown } => {
-                bytes.extend([READ, *client]);
-                bytes.extend(set.to_be_bytes());
-                for entry in shown {
-                    bytes.extend(entry.number.to_be_bytes());
-                    bytes.push(entry.client);
-                    bytes.extend(entry.value.to_be_bytes());
-                }
-            }
+        }
+        if let Some(write) = &self.write {
+            bytes.extend(write.set.to_be_bytes());
+            bytes.extend(write.number.to_be_bytes());
+            bytes.extend(write.values.iter().flat_map(|value| value.to_be_bytes()));
         }
         bytes
     }
@@ -67,44 +90,13 @@ impl LogFrame {
     /// The frame of these bytes, if the kind is known and the length is that of the set's items; or
     /// what is wrong. Whether its client, set and numbers will do is for the judge.
     pub fn parse(bytes: &[u8]) -> Result<LogFrame, String> {
-        let length = bytes.len();
-        let what = match bytes.first() {
-            Some(&WRITE) => "write",
-            Some(&READ) => "read",
-            Some(kind) => return Err(format!("unknown kind {kind:02x}")),
-            None => return Err("it is empty".to_owned()),
+        let first = bytes.first().copied().unwrap_or_default();
+        let Some((_, name, read, write)) = KINDS.iter().find(|(kind, ..)| *kind == first) else {
+            return Err(format!("unknown kind {first:02x}"));
         };
-        let Some((head, rest)) = bytes.split_at_checked(HEAD) else {
-            return Err(format!("wrong length: {length}, too short for a client and a set"));
-        };
-        let (kind, client, set) = (head[0], head[1], number(&head[2..]));
-        let items = set.count_ones() as usize;
-        let right = match kind {
-            WRITE => HEAD + 4 + 4 * items,
-            _ => HEAD + 9 * items,
-        };
-        if length != right {
-            let items = if items == 1 { "1 item" } else { &format!("{items} items") };
-            return Err(format!(
-                "wrong length: a {what} of {items} has {right} bytes, this {length}"
-            ));
-        }
-        Ok(match kind {
-            WRITE => LogFrame::Write {
-                client,
-                set,
-                number: word(&rest[..4]),
-                values: rest[4..].chunks(4).map(word).collect(),
-            },
-            _ => LogFrame::Read { client, set, shown: rest.chunks(9).map(shown).collect() },
-        })
-    }
-
-    /// The client whose write or read it is.
-    pub fn client(&self) -> u8 {
-        match self {
-            LogFrame::Write { client, .. } | LogFrame::Read { client, .. } => *client,
-        }
+        let mut rest = Rest(&bytes[1..]);
+        let frame = rest.frame(*read, *write).filter(|_| rest.0.is_empty());
+        frame.ok_or_else(|| wrong_length(name, bytes))
     }
 
     /// The frame as a line of a log, with its line end.
@@ -112,19 +104,19 @@ impl LogFrame {
         to_hex(&self.bytes()) + "\n"
     }
 
-    /// What a write wrote; nothing if the frame is a read.
+    /// What its write part wrote, if it has one.
     pub fn written(&self) -> Vec<Entry> {
-        let LogFrame::Write { client, set, number, values } = self else {
+        let Some(WritePart { set, number, values }) = &self.write else {
             return Vec::new();
         };
-        let stamp = Stamp::new((*number).into(), (*client).into());
+        let stamp = Stamp::new((*number).into(), self.client.into());
         let entry = |(item, value): (u64, &u32)| Entry { item, stamp, value: *value };
         items(*set).zip(values).map(entry).collect()
     }
 
-    /// What a read shows; nothing if the frame is a write.
+    /// What its read part shows, if it has one.
     pub fn shown(&self) -> Vec<Entry> {
-        let LogFrame::Read { set, shown, .. } = self else {
+        let Some(ReadPart { set, shown }) = &self.read else {
             return Vec::new();
         };
         let entry = |(item, shown): (u64, &Shown)| Entry {
@@ -136,9 +128,53 @@ impl LogFrame {
     }
 }
 
-/// A read's nine bytes for one item.
-fn shown(bytes: &[u8]) -> Shown {
-    Shown { number: word(&bytes[..4]), client: bytes[4], value: word(&bytes[5..]) }
+/// Bytes that are still to be taken apart.
+struct Rest<'a>(&'a [u8]);
+
+impl<'a> Rest<'a> {
+    fn take(&mut self, count: usize) -> Option<&'a [u8]> {
+        let (taken, rest) = self.0.split_at_checked(count)?;
+        self.0 = rest;
+        Some(taken)
+    }
+
+    fn frame(&mut self, read: bool, write: bool) -> Option<LogFrame> {
+        let client = self.take(1)?[0];
+        let read = if read { Some(self.read_part()?) } else { None };
+        let write = if write { Some(self.write_part()?) } else { None };
+        Some(LogFrame { client, read, write })
+    }
+
+    fn read_part(&mut self) -> Option<ReadPart> {
+        let set = number(self.take(8)?);
+        let shown = self.take(9 * set.count_ones() as usize)?.chunks(9).map(|entry| Shown {
+            number: word(&entry[..4]),
+            client: entry[4],
+            value: word(&entry[5..]),
+        });
+        Some(ReadPart { set, shown: shown.collect() })
+    }
+
+    fn write_part(&mut self) -> Option<WritePart> {
+        let set = number(self.take(8)?);
+        let number = word(self.take(4)?);
+        let values = self.take(4 * set.count_ones() as usize)?.chunks(4).map(word);
+        Some(WritePart { set, number, values: values.collect() })
+    }
+}
+
+fn wrong_length(name: &str, bytes: &[u8]) -> String {
+    let length = bytes.len();
+    let Some(set) = bytes.get(2..10) else {
+        return format!("wrong length: {length}, too short for a client and a set");
+    };
+    let items = number(set).count_ones();
+    let right = match name {
+        "write" => 14 + 4 * items,
+        _ => 10 + 9 * items,
+    };
+    let items = if items == 1 { "1 item".to_owned() } else { format!("{items} items") };
+    format!("wrong length: a {name} of {items} has {right} bytes, this {length}")
 }
 
 /// A number of four bytes.

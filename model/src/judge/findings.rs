@@ -60,10 +60,10 @@ pub fn fractured(log: &[LogFrame], place: usize) -> Option<String> {
 
 /// Finding 3: a write above, by the same client, wrote a shown item with a later stamp.
 pub fn own_write_missed(log: &[LogFrame], place: usize) -> Option<String> {
-    let client = log[place].client();
+    let client = log[place].client;
     for entry in log[place].shown() {
         for (line, write) in (1..).zip(&log[..place]) {
-            if write.client() != client {
+            if write.client != client {
                 continue;
             }
             for own in write.written() {

@@ -23,23 +23,25 @@ fn frame(line: &[u8], above: &[Result<LogFrame, String>]) -> Result<LogFrame, St
 }
 
 fn wrong_field(frame: &LogFrame, above: &[Result<LogFrame, String>]) -> Option<String> {
-    let client = frame.client();
+    let client = frame.client;
     if !is_client(client.into()) {
         return Some(format!("client {client}, and clients are 1 to 8"));
     }
-    match frame {
-        LogFrame::Write { set: 0, .. } | LogFrame::Read { set: 0, .. } => {
-            Some("its set is empty".to_owned())
-        }
-        LogFrame::Write { number: 0, .. } => Some("write 0, and numbers begin with 1".to_owned()),
-        LogFrame::Write { number, .. } => not_risen(client, *number, above),
-        LogFrame::Read { .. } => {
-            let shown = frame.shown();
-            let wrong = shown.iter().find(|entry| !is_stamp(entry.stamp))?;
-            let (item, Stamp { number, client }) = (wrong.item, wrong.stamp);
-            Some(format!("item {item} from write {number} of client {client}"))
-        }
+    let read_set = frame.read.as_ref().map(|read| read.set);
+    let write_set = frame.write.as_ref().map(|write| write.set);
+    if [read_set, write_set].contains(&Some(0)) {
+        return Some("its set is empty".to_owned());
     }
+    let number = frame.write.as_ref().map(|write| write.number);
+    if number == Some(0) {
+        return Some("write 0, and numbers begin with 1".to_owned());
+    }
+    number.and_then(|number| not_risen(client, number, above)).or_else(|| {
+        let shown = frame.shown();
+        let wrong = shown.iter().find(|entry| !is_stamp(entry.stamp))?;
+        let (item, Stamp { number, client }) = (wrong.item, wrong.stamp);
+        Some(format!("item {item} from write {number} of client {client}"))
+    })
 }
 
 /// Desks are 1..8.
@@ -54,14 +56,11 @@ fn is_stamp(stamp: Stamp) -> bool {
 
 /// The first write above by the same client with a number that isn't lower.
 fn not_risen(client: u8, number: u32, above: &[Result<LogFrame, String>]) -> Option<String> {
-    (1..).zip(above).find_map(|(line, frame)| match frame {
-        Ok(LogFrame::Write { client: writer, number: earlier, .. })
-            if *writer == client && *earlier >= number =>
-        {
-            Some(format!(
-                "write {number} of client {client} below its write {earlier}, log line {line}"
-            ))
-        }
-        _ => None,
+    (1..).zip(above).find_map(|(line, frame)| {
+        let frame = frame.as_ref().ok().filter(|frame| frame.client == client)?;
+        let earlier = frame.write.as_ref()?.number;
+        (earlier >= number).then(|| {
+            format!("write {number} of client {client} below its write {earlier}, log line {line}")
+        })
     })
 }

@@ -74,12 +74,9 @@ fn frame_is_that_of_the_write(
     write: &Write,
     frame: &LogFrame,
 ) -> Result<(), Clause> {
-    let stated = LogFrame::Write {
-        client: last.client as u8,
-        set: last.set,
-        number: write.stamp.number as u32,
-        values: write.values.iter().map(|(_, value)| *value).collect(),
-    };
+    let values = write.values.iter().map(|(_, value)| *value).collect();
+    let number = write.stamp.number as u32;
+    let stated = LogFrame::of_write(last.client as u8, last.set, number, values);
     if *frame == stated {
         Ok(())
     } else {
@@ -89,13 +86,12 @@ fn frame_is_that_of_the_write(
 
 /// A read is shown with its client and set, and an entry for each item.
 fn entries_of_the_read(last: &Transaction, frame: &LogFrame) -> Result<Vec<Entry>, Clause> {
-    let LogFrame::Read { client, set, .. } = frame else {
-        return Err(Clause::Frame);
-    };
-    if u64::from(*client) != last.client || *set != last.set {
-        return Err(Clause::Frame);
+    match &frame.read {
+        Some(read) if u64::from(frame.client) == last.client && read.set == last.set => {
+            Ok(frame.shown())
+        }
+        _ => Err(Clause::Frame),
     }
-    Ok(frame.shown())
 }
 
 /// An entry is initial, or its write is an accepted write of the list with that stamp, item and

@@ -7,7 +7,7 @@ use super::tables::{Sizes, Tables};
 use super::Store;
 use crate::answer::Answer;
 use crate::call::{Call, Event};
-use crate::frames::log::{LogFrame, Shown};
+use crate::frames::log::Shown;
 
 impl Store {
     /// Makes the call, with this output for a showing.
@@ -78,8 +78,8 @@ impl Store {
             return Answer::Refused(refusal);
         }
         let mut frame = shown_frame(&self.tables, client).expect("a transaction has ended");
-        if self.has(Fault::InitialReads) {
-            frame = with_initial_entries(frame);
+        if let (true, Some(read)) = (self.has(Fault::InitialReads), &mut frame.read) {
+            read.shown.fill(Shown::INITIAL);
         }
         let bytes = frame.bytes();
         output[..bytes.len()].copy_from_slice(&bytes);
@@ -105,15 +105,5 @@ impl Store {
             return refusal.or(Some(full));
         }
         refusal
-    }
-}
-
-fn with_initial_entries(frame: LogFrame) -> LogFrame {
-    let initial = Shown { number: 0, client: 0, value: 0 };
-    match frame {
-        LogFrame::Read { client, set, shown } => {
-            LogFrame::Read { client, set, shown: vec![initial; shown.len()] }
-        }
-        write => write,
     }
 }

@@ -10,24 +10,18 @@ pub(super) fn shown_frame(tables: &Tables, client: u64) -> Option<LogFrame> {
     let last = &tables.client(client).last;
     let item_values = items(last.set).map(|item| narrow(last.values[item as usize]));
     match last.kind {
-        READ => Some(LogFrame::Read {
-            client: narrow(client) as u8,
-            set: last.set,
-            shown: items(last.set)
-                .zip(item_values)
-                .map(|(item, value)| Shown {
-                    number: narrow(last.stamps[item as usize].number),
-                    client: narrow(last.stamps[item as usize].client) as u8,
-                    value,
-                })
-                .collect(),
-        }),
-        WRITE => Some(LogFrame::Write {
-            client: narrow(client) as u8,
-            set: last.set,
-            number: narrow(last.stamp.number),
-            values: item_values.collect(),
-        }),
+        READ => {
+            let shown = items(last.set).zip(item_values).map(|(item, value)| Shown {
+                number: narrow(last.stamps[item as usize].number),
+                client: narrow(last.stamps[item as usize].client) as u8,
+                value,
+            });
+            Some(LogFrame::of_read(client as u8, last.set, shown.collect()))
+        }
+        WRITE => {
+            let number = narrow(last.stamp.number);
+            Some(LogFrame::of_write(client as u8, last.set, number, item_values.collect()))
+        }
         _ => None,
     }
 }

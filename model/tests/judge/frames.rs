@@ -14,18 +14,12 @@ const READ: &[u8] = &[
 ];
 
 fn write() -> LogFrame {
-    LogFrame::Write {
-        client: 3,
-        set: 1 << 63 | 1 << 1,
-        number: 66_051,
-        values: vec![7, 4_294_901_244],
-    }
+    LogFrame::of_write(3, 1 << 63 | 1 << 1, 66_051, vec![7, 4_294_901_244])
 }
 
 fn read() -> LogFrame {
-    let initial = Shown { number: 0, client: 0, value: 0 };
     let written = Shown { number: 0x0a0b_0c0d, client: 2, value: 0x0102_0304 };
-    LogFrame::Read { client: 8, set: 0b101, shown: vec![initial, written] }
+    LogFrame::of_read(8, 0b101, vec![Shown::INITIAL, written])
 }
 
 /// The bytes of a line without its 0a.
@@ -91,14 +85,9 @@ fn other_kinds_are_refused() {
 #[test]
 fn parsing_leaves_clients_sets_and_numbers_to_the_judge() {
     let frames = [
-        LogFrame::Write { client: 0, set: 0, number: 0, values: vec![] },
-        LogFrame::Write {
-            client: 255,
-            set: u64::MAX,
-            number: u32::MAX,
-            values: vec![u32::MAX; 64],
-        },
-        LogFrame::Read { client: 9, set: 0, shown: vec![] },
+        LogFrame::of_write(0, 0, 0, vec![]),
+        LogFrame::of_write(255, u64::MAX, u32::MAX, vec![u32::MAX; 64]),
+        LogFrame::of_read(9, 0, vec![]),
     ];
     let lengths = [14, 270, 10];
     for (frame, length) in frames.into_iter().zip(lengths) {

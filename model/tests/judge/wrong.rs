@@ -58,7 +58,7 @@ fn made_up_line_is_caught() {
 #[test]
 fn own_writes_counted_below_the_read_are_caught() {
     fn anywhere(log: &[LogFrame], place: usize) -> Option<String> {
-        let own = log.iter().filter(|frame| frame.client() == log[place].client());
+        let own = log.iter().filter(|frame| frame.client == log[place].client);
         let own: Vec<_> = own.flat_map(LogFrame::written).collect();
         let fault = log[place]
             .shown()

@@ -28,8 +28,7 @@ reader set awaited asked value =
       count = 5;
       read = record
           { set = set; awaited = awaited; asked = λ k. asked; values = λ k. value };
-      write =
-          noWrite;
+      write = noWrite;
       last = nothing;
     }
 
@@ -38,10 +37,8 @@ writer set awaited stamp value =
     record {
       count = 5;
       read = noRead;
-      write =
-          record { set = set; awaited = awaited; stamp = stamp; values = λ k. value };
-      last =
-          nothing;
+      write = record { set = set; awaited = awaited; stamp = stamp; values = λ k. value };
+      last = nothing;
     }
 
 -- the read part of one client and the write part of another

@@ -71,8 +71,7 @@ module _ (caps : Capacities) (t : Tables) (d s : ℕ) (a : AcceptedStart caps t 
           set = a .set;
           awaited = a .set;
           within = λ k e. e;
-          asked =
-              λ k e. rw e (range-asks k e);
+          asked = λ k e. rw e (range-asks k e);
           values = λ k e. omega arith;
         };
         write = range-no-write (t .sizes);
@@ -112,8 +111,7 @@ module _ (caps : Capacities) (t : Tables) (d s : ℕ) (bytes : List ℕ)
           set = a .start .set;
           awaited = a .start .set;
           within = λ k e. e;
-          stamp =
-              λ n. range-next;
+          stamp = λ n. range-next;
           values = λ k e. value-fits s bytes k;
         };
         alone = λ n. (refl, n);
@@ -132,7 +130,6 @@ module _ (caps : Capacities) (t : Tables) (d s : ℕ) (bytes : List ℕ)
         item = l;
         value = value-fits s bytes k;
         stamp = range-next;
-        set =
-            a .start .set;
+        set = a .start .set;
         own = e;
       }))

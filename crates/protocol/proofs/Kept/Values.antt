@@ -75,8 +75,7 @@ range-committed t p stamp r g k l =
     (λ e. range-later (t .sizes) (t .latest k) _ (r .latest k l)
     (record {
       stamp = λ n. g;
-      set =
-          range-found (t .sizes) (t .versions) k stamp (r .versions) .set;
+      set = range-found (t .sizes) (t .versions) k stamp (r .versions) .set;
     }))
     (λ e. r .latest k l)
 
@@ -88,8 +87,7 @@ range-no-read z =
       set = pow-pos (z .items);
       awaited = pow-pos (z .items);
       within = λ k i. i;
-      asked =
-          λ k i. range-initial z;
+      asked = λ k i. range-initial z;
       values = λ k i. omega arith;
     }
 
@@ -99,8 +97,7 @@ range-no-write z =
       set = pow-pos (z .items);
       awaited = pow-pos (z .items);
       within = λ k i. i;
-      stamp =
-          range-initial z;
+      stamp = range-initial z;
       values = λ k i. omega arith;
     }
 

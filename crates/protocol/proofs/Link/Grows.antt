@@ -52,8 +52,7 @@ grow-comes w w′ g l (Prepare v) x =
       write = x .write;
       isIn = g .writes (x .write) (x .isIn);
       same = x .same;
-      started =
-          x .started;
+      started = x .started;
     }
 grow-comes w w′ g l (Prepared k s) x = tt
 grow-comes w w′ g l (Commit p s) x = tt
@@ -70,8 +69,7 @@ pub moved-grows : (w : World) (c : Call) → Grows w (moved w c)
 moved-grows w c =
     record {
       writes = λ a i. in-left a (w .writes) (begun w c) i;
-      stores =
-          λ σ i. in-left σ (w .stores) (storing w c) i;
+      stores = λ σ i. in-left σ (w .stores) (storing w c) i;
       time = le-suc (w .time);
     }
 

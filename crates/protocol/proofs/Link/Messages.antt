@@ -50,8 +50,7 @@ module _ (caps : Capacities) (w : World) (inv : Inv caps w) where
   placed-here i h =
       in-getD (w .inFlight) i (record {
         label = record { client = 0; start = 0; since = 0 };
-        message =
-            Commit 0 0;
+        message = Commit 0 0;
       })
       (subst (λ (n : ℕ). i < n) (sym length-in-flight) h)
 

@@ -93,6 +93,5 @@ module _ (caps : Capacities) (w : World) (inv : Inv caps w) where
       record {
         set = x .set;
         values = x .values;
-        number =
-            le-trans (x .number) (rises (writerOf (a .stamp)));
+        number = le-trans (x .number) (rises (writerOf (a .stamp)));
       }

@@ -174,8 +174,7 @@ module _ (caps : Capacities) (w : World) (inv : Inv caps w) where
               (w .tables .sizes .items) (has s)
               (λ k l e. record {
                 write = new;
-                isIn =
-                    in-right new (w .writes) (new ∷ []) (inl refl);
+                isIn = in-right new (w .writes) (new ∷ []) (inl refl);
                 same = refl;
                 started = refl;
               })

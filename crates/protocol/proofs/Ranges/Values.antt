@@ -1,12 +1,13 @@
 -- What the tests of sizes, stamps, entries, versions and messages tell, as records of plain facts,
 -- both ways: a law `tells-x` reads the facts off the test (`.0`) and proves the test from the facts
 -- (`.1`).
-use mathlib.Core.Bool.{true}
+use mathlib.Core.Bool.{Bool, true, _&&_}
 use mathlib.Core.Logic.{_↔_, _≢_}
 use mathlib.Core.Path.{_≡_, refl}
 use Prim.Native.Nat.{ℕ, _^_, _≤_, _<_}
 use native.Mathlib.Omega.{arith}
 use lib.Pow.{pow-pos}
+use Rattle.basics.proofs.Cases.{test-ext}
 use Rattle.itemset.specs.Set.{has}
 use Rattle.protocol.specs.declared.Version.{Version}
 use Rattle.protocol.specs.declared.Entry.{Entry}
@@ -14,7 +15,8 @@ use Rattle.protocol.specs.declared.Message.{Message}
 use Rattle.protocol.specs.declared.Message.the-variants.{Prepare, Prepared, Commit, Get, Got}
 use Rattle.protocol.specs.Tables.{Sizes, initial, numberOf, writerOf}
 use Rattle.protocol.specs.Range.{sizesInRange, stampInRange, entryInRange, versionInRange}
-use Rattle.protocol.specs.Range.{messageInRange}
+use Rattle.protocol.specs.Range.{messageInRange, isClient, isItem, isPartition, fits}
+use Rattle.protocol.specs.Range.{notInitial}
 use Rattle.protocol.proofs.Tells.{tells}
 
 -- ---- Sizes and clients
@@ -128,30 +130,30 @@ MessageInRange z (Got d v latest) = GotInRange z d v latest
 pub entry-initial : (z : Sizes) → EntryInRange z initial
 entry-initial z = record { stamp = λ n. absurd (n refl); set = pow-pos (z .items) }
 
-pub tells-message : (z : Sizes) (m : Message) → SizesInRange z → (messageInRange z m ≡ true)
-    ↔ MessageInRange z m
+pub tells-message : (z : Sizes) (m : Message) → 1 ≤ z .partitions → 1 ≤ z .items
+    → (messageInRange z m ≡ true) ↔ MessageInRange z m
 unfolding messageInRange
-tells-message z (Prepare v) s = (
+tells-message z (Prepare v) p₀ i₀ = (
   λ h. let f = simp parts at h in
       let later : v .stamp ≢ 0 = f .0 .1 (omega arith) in
       let own : has (v .set) (v .item) ≡ true = f .1 refl in
       search stamped,
   λ r. simp parts (
     (
-      (((((s .somePartition, r .item), r .value), λ n. r .stamp), r .set), entry-initial z),
+      (((((p₀, r .item), r .value), λ n. r .stamp), r .set), entry-initial z),
       λ l. initial-not z (v .stamp) (r .stamp),
     ),
     λ e. r .own,
   ),
 )
-tells-message z (Prepared k stamp) s = (
+tells-message z (Prepared k stamp) p₀ i₀ = (
   λ h. let f = simp parts at h in
       let later : stamp ≢ 0 = f .0 .1 (omega arith) in
       search stamped,
   λ r. simp parts (
     (
       (
-        ((((s .somePartition, r .item), omega arith), λ n. r .stamp), pow-pos (z .items)),
+        ((((p₀, r .item), omega arith), λ n. r .stamp), pow-pos (z .items)),
         entry-initial z,
       ),
       λ l. initial-not z stamp (r .stamp),
@@ -159,14 +161,14 @@ tells-message z (Prepared k stamp) s = (
     λ e. absurd (omega arith),
   ),
 )
-tells-message z (Commit p stamp) s = (
+tells-message z (Commit p stamp) p₀ i₀ = (
   λ h. let f = simp parts at h in
       let later : stamp ≢ 0 = f .0 .1 (omega arith) in
       search stamped,
   λ r. simp parts (
     (
       (
-        ((((r .partition, s .someItem), omega arith), λ n. r .stamp), pow-pos (z .items)),
+        ((((r .partition, i₀), omega arith), λ n. r .stamp), pow-pos (z .items)),
         entry-initial z,
       ),
       λ l. initial-not z stamp (r .stamp),
@@ -174,7 +176,7 @@ tells-message z (Commit p stamp) s = (
     λ e. absurd (omega arith),
   ),
 )
-tells-message z (Get d k stamp) s = (
+tells-message z (Get d k stamp) p₀ i₀ = (
   λ h. let f = simp parts at h in search,
   λ r. simp parts (
     (
@@ -184,7 +186,7 @@ tells-message z (Get d k stamp) s = (
     λ e. absurd (omega arith),
   ),
 )
-tells-message z (Got d v e) s = (
+tells-message z (Got d v e) p₀ i₀ = (
   λ h. let f = simp parts at h in search,
   λ r. simp parts (
     (
@@ -194,3 +196,31 @@ tells-message z (Got d v e) s = (
     λ e. absurd (omega arith),
   ),
 )
+
+-- ---- The test of a message kind by kind, as code makes it
+
+unfoldable pub testByKind : Sizes → Message → Bool
+testByKind z (Prepare v) = versionInRange z v
+testByKind z (Prepared k stamp) = isItem z k && stampInRange z stamp && notInitial stamp
+testByKind z (Commit p stamp) = isPartition z p && stampInRange z stamp && notInitial stamp
+testByKind z (Get d k stamp) = isClient z d && isItem z k && stampInRange z stamp
+testByKind z (Got d v e) =
+    isClient z d && isItem z (v .item) && fits (v .value) && stampInRange z (v .stamp)
+    && entryInRange z e
+
+tells-by-kind : (z : Sizes) (m : Message) → (testByKind z m ≡ true) ↔ MessageInRange z m
+unfolding testByKind
+tells-by-kind z (Prepare v) = tells-version z v
+tells-by-kind z (Prepared k stamp) =
+    (λ h. let f = simp parts at h in search stamped, λ r. simp parts (search initial-not))
+tells-by-kind z (Commit p stamp) =
+    (λ h. let f = simp parts at h in search stamped, λ r. simp parts (search initial-not))
+tells-by-kind z (Get d k stamp) = (λ h. let f = simp parts at h in search, λ r. simp parts search)
+tells-by-kind z (Got d v e) = (λ h. let f = simp parts at h in search, λ r. simp parts search)
+
+pub message-by-kind : (z : Sizes) (m : Message) → 1 ≤ z .partitions → 1 ≤ z .items
+    → messageInRange z m ≡ testByKind z m
+message-by-kind z m p i =
+    test-ext (messageInRange z m) (testByKind z m)
+    (λ e. tells-by-kind z m .1 (tells-message z m p i .0 e))
+    (λ e. tells-message z m p i .1 (tells-by-kind z m .0 e))

@@ -78,12 +78,9 @@ module _ (caps : Capacities) (v : World) (inv : Inv caps v) (d s stamp : ℕ)
   same-record v′ e =
       record {
         mode = λ z. r .mode (sym (ap (λ (x : Client). x .write .set) e) ∙ z);
-        alone =
-            ap (λ (x : Client). x .read) e ∙ r .alone;
-        isSet =
-            ap (λ (x : Client). x .write .set) e ∙ r .isSet;
-        isStamp =
-            ap (λ (x : Client). x .write .stamp) e ∙ r .isStamp;
+        alone = ap (λ (x : Client). x .read) e ∙ r .alone;
+        isSet = ap (λ (x : Client). x .write .set) e ∙ r .isSet;
+        isStamp = ap (λ (x : Client). x .write .stamp) e ∙ r .isStamp;
       }
 
   by-prepared : (i k n : ℕ) → refusal caps (v .tables) (deliver i) ≡ 0

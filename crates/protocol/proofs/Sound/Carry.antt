@@ -64,8 +64,7 @@ module _ (L L′ : Ledger) (vs vs′ : List Version) where
       → GoodEntry L′ vs′ k e
   carry-entry k e c x = record {
     good = carry-good k (e .stamp) c (x .good);
-    agrees =
-        x .agrees ∙ sym (c .set);
+    agrees = x .agrees ∙ sym (c .set);
   }
 
   pub carry-writes : (d : ℕ) (c : Client) → Carries L L′ vs vs′ (c .write .stamp) → Writes L vs d c
@@ -105,23 +104,20 @@ module _ (L L′ : Ledger) (vs vs′ : List Version) where
       record {
         mode = λ z. x .mode (sym (s .writes) ∙ z);
         stamp = s .stamp ∙ x .stamp;
-        isStored =
-            carries s₀ (mentions-own (Prepared k s₀)) .keeps k (x .isStored);
+        isStored = carries s₀ (mentions-own (Prepared k s₀)) .keeps k (x .isStored);
       }
   carry-fits c c′ (Commit p s₀) like own keep carries x =
       record {
         item = x .item;
         some = carries s₀ (mentions-own (Commit p s₀)) .keeps (x .item) (x .some);
-        whole =
-            carry-whole s₀ (carries s₀ (mentions-own (Commit p s₀))) (x .whole);
+        whole = carry-whole s₀ (carries s₀ (mentions-own (Commit p s₀))) (x .whole);
       }
   carry-fits c c′ (Get d k s₀) like own keep carries x =
       let s : Like c c′ = like refl in
       record {
         mode = λ z. x .mode (sym (s .reads) ∙ z);
         asked = s .asked k ∙ x .asked;
-        good =
-            carry-good k s₀ (carries s₀ (mentions-own (Get d k s₀))) (x .good);
+        good = carry-good k s₀ (carries s₀ (mentions-own (Get d k s₀))) (x .good);
       }
   carry-fits c c′ (Got d v e) like own keep carries x =
       let s : Like c c′ = like refl in
@@ -155,8 +151,7 @@ all-covered t = record {
   view = λ d k i l. tt;
   latest = λ k l. tt;
   message = λ m i s e. tt;
-  write =
-      λ d i m. tt;
+  write = λ d i m. tt;
 }
 
 -- ---- what changes neither place nor message is carried
@@ -210,8 +205,7 @@ recounted L client client′ rises v x =
     record {
       agrees = x .agrees;
       value = x .value;
-      number =
-          le-trans (x .number) (rises (writerOf (v .stamp)));
+      number = le-trans (x .number) (rises (writerOf (v .stamp)));
     }
 
 pub last-recounted : (L : Ledger) (client client′ : ℕ → Client)

@@ -52,8 +52,7 @@ module _ (caps : Capacities) (L : Ledger) (t : Tables) (sound : SoundBy caps L t
     carries s e = record {
       set = refl;
       value = λ k f. refl;
-      keeps =
-          λ k f. stored-more (t .versions) (v ∷ []) k s f;
+      keeps = λ k f. stored-more (t .versions) (v ∷ []) k s f;
     }
 
     new : Kept L (t .client) v
@@ -106,8 +105,7 @@ module _ (caps : Capacities) (L : Ledger) (t : Tables) (sound : SoundBy caps L t
     joins = record {
       mode = fit .mode;
       stamp = fit .stamp;
-      isStored =
-          in-stored v vs′ (in-right v (t .versions) (v ∷ []) (inl refl));
+      isStored = in-stored v vs′ (in-right v (t .versions) (v ∷ []) (inl refl));
     }
 
     pub sound-prepare : SoundBy caps L (afterDelivery t i (Prepare v))

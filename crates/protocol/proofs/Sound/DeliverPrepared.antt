@@ -114,8 +114,7 @@ module _ (caps : Capacities) (L : Ledger) (t : Tables) (sound : SoundBy caps L t
       (λ f. rw f (λ m. record {
         newest = writes .newest;
         agrees = writes .agrees;
-        values =
-            writes .values;
+        values = writes .values;
         arrived = left-arrived;
       }))
 

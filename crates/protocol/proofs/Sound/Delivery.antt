@@ -37,8 +37,7 @@ pub taken : (t : Tables) (i : ℕ) → i < length (t .messages) → Taken t i (m
 taken t i l =
     record {
       isIn = in-getD (t .messages) i (Commit 0 0) l;
-      split =
-          λ p. counted-without p i (t .messages) (Commit 0 0) l;
+      split = λ p. counted-without p i (t .messages) (Commit 0 0) l;
     }
 
 module _ (caps : Capacities) (L : Ledger) (t : Tables) (sound : SoundBy caps L t) where

@@ -116,6 +116,5 @@ module _ (caps : Capacities) (L : Ledger) (t : Tables) (sound : SoundBy caps L t
           record {
             item = q .0;
             some = arrived (q .0) (q .1);
-            whole =
-                whole (has-some (c .write .set) (q .0) (q .1));
+            whole = whole (has-some (c .write .set) (q .0) (q .1));
           })

@@ -122,8 +122,7 @@ module _ (caps : Capacities) (L : Ledger) (t : Tables) (sound : SoundBy caps L t
   last-kept (write r stamp values) x =
       record {
         agrees = x .agrees ∙ sym (carries stamp (x .number) .set);
-        number =
-            le-trans (x .number) (counts _);
+        number = le-trans (x .number) (counts _);
       }
 
   pub begin-sound : Valid caps t′ → (L′ .set 0 ≡ 0) → ((k : ℕ) → L′ .value 0 k ≡ 0)

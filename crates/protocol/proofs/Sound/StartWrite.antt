@@ -32,8 +32,7 @@ use Rattle.protocol.proofs.Common.{isFor, by-side}
 abbrev pub entered : Ledger → ℕ → ℕ → (ℕ → ℕ) → Ledger
 entered L stamp s values = record {
   set = put (L .set) stamp s;
-  value =
-      put (L .value) stamp values;
+  value = put (L .value) stamp values;
 }
 
 module _ (caps : Capacities) (L : Ledger) (t : Tables) (sound : SoundBy caps L t) (d s : ℕ)

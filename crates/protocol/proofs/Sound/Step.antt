@@ -52,8 +52,7 @@ sound-fresh caps z ok =
     λ k. record {
       good = record {
         mine = refl;
-        whole =
-            λ j e. not-both e (has-empty j);
+        whole = λ j e. not-both e (has-empty j);
       };
       agrees = refl;
     } in
@@ -168,6 +167,5 @@ module _ (caps : Capacities) (L : Ledger) (t : Tables) (sound : SoundBy caps L t
       (record {
         valid = sound .valid;
         place = h;
-        expected =
-            expected (messageAt t i) (taken t i h .isIn);
+        expected = expected (messageAt t i) (taken t i h .isIn);
       })

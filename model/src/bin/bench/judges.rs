@@ -46,25 +46,16 @@ fn log_of(shape: Shape, most_bytes: usize) -> Vec<u8> {
                 *number_of_item = number as u32;
             }
         }
-        let write = LogFrame::Write {
-            client: 1,
-            set,
-            number: number as u32,
-            values: vec![number as u32; shape.width],
-        };
-        log.extend(write.line().bytes());
+        let values = vec![number as u32; shape.width];
+        log.extend(LogFrame::of_write(1, set, number as u32, values).line().bytes());
     }
     let entry = |item: usize| Shown {
         number: last[item],
         client: u8::from(last[item] > 0),
         value: last[item],
     };
-    let read = LogFrame::Read {
-        client: 1,
-        set: items_from(0, shape.shown),
-        shown: (0..shape.shown).map(entry).collect(),
-    }
-    .line();
+    let shown = (0..shape.shown).map(entry).collect();
+    let read = LogFrame::of_read(1, items_from(0, shape.shown), shown).line();
     let mut lines = shape.writes;
     while lines < MOST_LINES && log.len() + read.len() <= most_bytes {
         log.extend(read.bytes());

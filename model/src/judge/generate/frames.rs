@@ -1,7 +1,7 @@
 //! Random log frames: a few clients write a few items, and read them.
 
 use super::shown;
-use crate::frames::log::{LogFrame, Shown};
+use crate::frames::log::{LogFrame, ReadPart, Shown, WritePart};
 use crate::random::Random;
 
 /// The frames of a log. Most are as the judge wants them; now and then one field is not.
@@ -17,14 +17,15 @@ pub fn random_frames(random: &mut Random) -> Vec<LogFrame> {
 pub(super) fn frames_of(lines: u64, doubtful: u64, random: &mut Random) -> Vec<LogFrame> {
     let mut frames = writes_and_empty_reads(lines, random);
     for place in 0..frames.len() {
-        let entries = if random.once_in(doubtful) {
-            shown::random_entries(&frames, place, random)
-        } else {
-            shown::faultless_entries(&frames, place, random)
+        let doubtful = random.once_in(doubtful);
+        let Some(ReadPart { set, .. }) = frames[place].read else {
+            continue;
         };
-        if let LogFrame::Read { shown, .. } = &mut frames[place] {
-            *shown = entries;
-        }
+        let shown = match doubtful {
+            true => shown::random_entries(&frames, place, set, random),
+            false => shown::faultless_entries(&frames, place, set, random),
+        };
+        frames[place].read = Some(ReadPart { set, shown });
     }
     if random.once_in(6) {
         spoil_field(&mut frames, random);
@@ -46,22 +47,14 @@ fn writes_and_empty_reads(lines: u64, random: &mut Random) -> Vec<LogFrame> {
             let client = 1 + random.place(clients);
             let set = subset(items, random);
             if random.once_in(2) {
-                return empty_read(client as u8, set);
+                return LogFrame::of_read(client as u8, set, Vec::new());
             }
             let number = next_number[client] + random.pick(&[0, 0, 0, 1, 2]);
             next_number[client] = number + 1;
-            LogFrame::Write {
-                client: client as u8,
-                set,
-                number,
-                values: (0..set.count_ones()).map(|_| value(random)).collect(),
-            }
+            let values = (0..set.count_ones()).map(|_| value(random)).collect();
+            LogFrame::of_write(client as u8, set, number, values)
         })
         .collect()
-}
-
-fn empty_read(client: u8, set: u64) -> LogFrame {
-    LogFrame::Read { client, set, shown: Vec::new() }
 }
 
 /// A nonempty part of a nonempty set.
@@ -89,23 +82,26 @@ fn spoil_field(frames: &mut [LogFrame], random: &mut Random) {
     }
     let place = random.place(frames.len());
     let bad_client = random.pick(&[0, 9, 255]);
-    match &mut frames[place] {
-        LogFrame::Write { client, set, number, values } => match random.below(6) {
+    let LogFrame { client, read, write } = &mut frames[place];
+    if let Some(WritePart { set, number, values }) = write {
+        match random.below(6) {
             0 => *client = bad_client,
             1 => *client = 1 + random.below(8) as u8,
             2 => *number = random.pick(&[0, 1, 2, number.saturating_sub(1)]),
             3 => values.push(0),
             4 => drop(values.pop()),
             _ => (*set, *values) = (0, Vec::new()),
-        },
-        LogFrame::Read { client, set, shown } => match random.below(6) {
+        }
+    }
+    if let Some(ReadPart { set, shown }) = read {
+        match random.below(6) {
             0 => *client = bad_client,
             1 => shown.push(shown[0]),
             2 => drop(shown.pop()),
             3 => *set ^= 1 << random.below(64),
             4 => (*set, *shown) = (0, Vec::new()),
             _ => spoil_stamp(shown, random),
-        },
+        }
     }
 }
 

@@ -2,15 +2,13 @@
 
 use crate::frames::log::{LogFrame, Shown};
 use crate::random::Random;
+use crate::set::items;
+use crate::stamp::Stamp;
 
-const INITIAL: Shown = Shown { number: 0, client: 0, value: 0 };
-
-/// Entries for the read at this place; none if there is a write.
-pub fn random_entries(log: &[LogFrame], place: usize, random: &mut Random) -> Vec<Shown> {
-    let LogFrame::Read { client, set, .. } = log[place] else {
-        return Vec::new();
-    };
-    let items = (0..64).filter(|item| set >> item & 1 == 1);
+/// Entries of a set's items for the read at this place.
+pub fn random_entries(log: &[LogFrame], place: usize, set: u64, random: &mut Random) -> Vec<Shown> {
+    let client = log[place].client;
+    let items = items(set);
     let mut entries: Vec<Shown> = if random.once_in(2) {
         items.map(|item| any_entry(log, item, random)).collect()
     } else {
@@ -27,15 +25,16 @@ pub fn random_entries(log: &[LogFrame], place: usize, random: &mut Random) -> Ve
     entries
 }
 
-/// Entries without fault for the read at this place; none if there is a write.
-pub fn faultless_entries(log: &[LogFrame], place: usize, random: &mut Random) -> Vec<Shown> {
-    let LogFrame::Read { client, set, .. } = log[place] else {
-        return Vec::new();
-    };
+/// Entries without fault of a set's items for the read at this place.
+pub fn faultless_entries(
+    log: &[LogFrame],
+    place: usize,
+    set: u64,
+    random: &mut Random,
+) -> Vec<Shown> {
     let mut seen = some_frames(log, random);
-    seen.extend(own_frames(log, place, client));
-    let items = (0..64).filter(|item| set >> item & 1 == 1);
-    items.map(|item| latest_entry(&seen, item)).collect()
+    seen.extend(own_frames(log, place, log[place].client));
+    items(set).map(|item| latest_entry(&seen, item)).collect()
 }
 
 /// Half of the log's frames. The latest entries of whole writes are never fractured.
@@ -45,38 +44,30 @@ fn some_frames<'a>(log: &'a [LogFrame], random: &mut Random) -> Vec<&'a LogFrame
 
 /// All that the client itself wrote above this place.
 fn own_frames(log: &[LogFrame], place: usize, client: u8) -> impl Iterator<Item = &LogFrame> {
-    log[..place].iter().filter(move |frame| frame.client() == client)
+    log[..place].iter().filter(move |frame| frame.client == client)
 }
 
 /// The latest of the frames' entries for the item.
-fn latest_entry(frames: &[&LogFrame], item: u32) -> Shown {
+fn latest_entry(frames: &[&LogFrame], item: u64) -> Shown {
     frames
         .iter()
         .filter_map(|frame| entry(frame, item))
         .max_by_key(|entry| (entry.number, entry.client))
-        .unwrap_or(INITIAL)
+        .unwrap_or(Shown::INITIAL)
 }
 
 /// Any of the log's entries for the item, or the initial one.
-fn any_entry(log: &[LogFrame], item: u32, random: &mut Random) -> Shown {
-    let mut entries = vec![INITIAL];
+fn any_entry(log: &[LogFrame], item: u64, random: &mut Random) -> Shown {
+    let mut entries = vec![Shown::INITIAL];
     entries.extend(log.iter().filter_map(|frame| entry(frame, item)));
     random.pick(&entries)
 }
 
 /// What a write leaves to be shown of the item.
-fn entry(frame: &LogFrame, item: u32) -> Option<Shown> {
-    match frame {
-        LogFrame::Write { client, set, number, values } if set >> item & 1 == 1 => {
-            let smaller_items = set & ((1 << item) - 1);
-            Some(Shown {
-                number: *number,
-                client: *client,
-                value: values[smaller_items.count_ones() as usize],
-            })
-        }
-        _ => None,
-    }
+fn entry(frame: &LogFrame, item: u64) -> Option<Shown> {
+    let wrote = frame.written().into_iter().find(|wrote| wrote.item == item)?;
+    let Stamp { number, client } = wrote.stamp;
+    Some(Shown { number: number as u32, client: client as u8, value: wrote.value })
 }
 
 /// The entry with another value, number or client, or initial but for its value.

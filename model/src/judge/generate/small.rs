@@ -29,14 +29,9 @@ fn every_write() -> Vec<String> {
     let mut writes = Vec::new();
     for (number, client) in STAMPS {
         for set in SETS {
-            let values = (0..2).filter(|item| set >> item & 1 == 1);
-            let write = LogFrame::Write {
-                client,
-                set,
-                number,
-                values: values.map(|item| value(number, client, item)).collect(),
-            };
-            writes.push(write.line());
+            let items = (0..2).filter(|item| set >> item & 1 == 1);
+            let values = items.map(|item| value(number, client, item)).collect();
+            writes.push(LogFrame::of_write(client, set, number, values).line());
         }
     }
     writes
@@ -45,7 +40,7 @@ fn every_write() -> Vec<String> {
 fn every_read() -> Vec<String> {
     let mut reads = Vec::new();
     for client in 1..=3 {
-        let mut read = |set, shown| reads.push(LogFrame::Read { client, set, shown }.line());
+        let mut read = |set, shown| reads.push(LogFrame::of_read(client, set, shown).line());
         for first in every_entry(0) {
             read(0b01, vec![first]);
             for second in every_entry(1) {
@@ -61,7 +56,7 @@ fn every_read() -> Vec<String> {
 
 /// The initial entry of an item, and one for each stamp.
 fn every_entry(item: u32) -> Vec<Shown> {
-    let mut entries = vec![Shown { number: 0, client: 0, value: 0 }];
+    let mut entries = vec![Shown::INITIAL];
     for (number, client) in STAMPS {
         entries.push(Shown { number, client, value: value(number, client, item) });
     }
