@@ -18,7 +18,7 @@ use Rattle.protocol.proofs.Ranges.Values.{MessageInRange}
 use Rattle.protocol.proofs.Ranges.Tables.{InRange}
 use Rattle.protocol.proofs.Ranges.Clients.{ClientInRange}
 use Rattle.protocol.proofs.Refusals.{Expected}
-use Rattle.protocol.proofs.Common.{no-commits}
+use Rattle.protocol.proofs.Commits.{no-commits}
 use Rattle.layout.specs.Decode.{latestIn}
 use Rattle.layout.specs.Encodes.{Encodes}
 use Rattle.layout.proofs.Room.{HasRoom}

@@ -19,7 +19,6 @@ pub mod Table
 pub mod Begin
 pub mod Faults
 pub mod Pinned
-pub mod Spans
 
 -- a value's four bytes, for values below 256
 abbrev value : ℕ → List ℕ

@@ -17,7 +17,7 @@ use Rattle.protocol.specs.Range.{Capacities, load, occupied}
 use Rattle.protocol.specs.Steps.{delivered, seen, isLast, messageAt, reader, writer, prepared}
 use Rattle.protocol.specs.Steps.{got}
 use Rattle.protocol.specs.Calls.{Call, refusal, Effects, effects, effect}
-use Rattle.protocol.specs.World.{isStart}
+use Rattle.protocol.specs.Calls.{isStart}
 use Rattle.protocol.proofs.Behaviour.{later-one}
 use Rattle.protocol.proofs.Delivered.{delivered-sizes}
 use Rattle.protocol.proofs.Put.{put-every}

@@ -14,13 +14,8 @@ pub mod Delivered
 pub mod Touched
 pub mod Load
 pub mod Occupied
+pub mod Commits
 pub mod Kept
 pub mod Sorts
 pub mod Keeps
 pub mod Valid
-pub mod Common
-pub mod Runs
-pub mod Never
-pub mod Sound
-pub mod Link
-pub mod Condition3

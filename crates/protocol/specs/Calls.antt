@@ -128,6 +128,12 @@ pub data Origin : Type 0 where
   starts : (client : ℕ) → Origin
   follows : (place : ℕ) → Origin
 
+-- a start of client d
+abbrev pub isStart : ℕ → Origin → Bool
+isStart d nobody = false
+isStart d (starts e) = eqb e d
+isStart d (follows i) = false
+
 pub record Effects : Type 0 where
   -- the tables after it
   pub tables : Tables

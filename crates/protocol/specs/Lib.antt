@@ -1,10 +1,8 @@
 -- Document 01 as definitions, in its order: the tables, what a message is, what is in range, the
--- steps, showing, the refusals, the calls; then runs of calls and condition 3.
+-- steps, showing, the refusals, the calls.
 pub mod Tables
 pub mod Message
 pub mod Range
 pub mod Steps
 pub mod Frame
 pub mod Calls
-pub mod World
-pub mod Condition3

@@ -7,8 +7,8 @@ use Prim.Native.Nat.{ℕ}
 use Rattle.protocol.specs.Tables.{Sizes, Tables, fresh}
 use Rattle.protocol.specs.Range.{capacities, sizesInRange}
 use Rattle.protocol.specs.Calls.{Call, step}
-use Rattle.protocol.specs.World.{World, begin, after}
-use Rattle.protocol.proofs.Condition3.{condition-3}
+use Rattle.condition3.specs.World.{World, begin, after}
+use Rattle.condition3.proofs.Condition3.{condition-3}
 use Rattle.store.specs.Calls.{freshRefusalOn, freshAfter, blockAfter}
 use Rattle.store.specs.Condition3.{blocksAfter, ran, BlockCondition3}
 use Rattle.store.proofs.Fresh.{fresh-accepted, fresh-holds}

@@ -6,8 +6,8 @@ use mathlib.Core.Path.{_≡_}
 use Prim.Native.Nat.{ℕ}
 use Rattle.protocol.specs.Tables.{Sizes, Tables}
 use Rattle.protocol.specs.Calls.{Call, step}
-use Rattle.protocol.specs.World.{begin, after}
-use Rattle.protocol.specs.Condition3.{Condition3}
+use Rattle.condition3.specs.World.{begin, after}
+use Rattle.condition3.specs.Condition3.{Condition3}
 use Rattle.protocol.specs.Range.{capacities}
 use Rattle.layout.specs.Decode.{tablesOf}
 use Rattle.layout.specs.Encodes.{Encodes}

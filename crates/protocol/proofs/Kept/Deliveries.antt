@@ -21,7 +21,7 @@ use Rattle.protocol.proofs.Ranges.Values.{IsClient, EntryInRange, Entri
 use Rattle.protocol.proofs.Ranges.Values.{VersionInRange, MessageInRange}
 use Rattle.protocol.proofs.Ranges.Tables.{InRange}
 use Rattle.protocol.proofs.Refusals.{Expected, AcceptedDeliver, accepted-message}
-use Rattle.protocol.proofs.Common.{no-commits}
+use Rattle.protocol.proofs.Commits.{no-commits}
 use Rattle.protocol.proofs.Delivered.{delivered-sizes}
 use Rattle.protocol.proofs.Put.{by-cond, put-all}
 use Rattle.protocol.proofs.Kept.Changes.{range-both, range-latest, range-versions}

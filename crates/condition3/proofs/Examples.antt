@@ -1,0 +1,2 @@
+-- The words of condition 3, computed on document 01's session and on runs around it.
+pub mod Spans

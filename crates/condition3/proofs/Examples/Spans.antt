@@ -1,0 +1,224 @@
+-- The words of condition 3, computed: both reads of document 01's whole session, each with its
+-- requests, replies, times and end, refused calls and other clients' calls among them; a client
+-- that reads while its own write's commits are in flight; a tie of numbers that the client decides.
+-- So the premises of the condition are met.
+use mathlib.Core.Bool.{Bool, true, not, _&&_}
+use mathlib.Core.List.{List, [], _∷_, _++_, map}
+use mathlib.Core.Logic.{inr, ⊎-elim}
+use mathlib.Core.Path.{_≡_, refl}
+use Prim.Native.Nat.{ℕ, _<_}
+use native.Mathlib.Omega.{arith}
+use lib.Count.{ones, onesIn}
+use lib.Dec.{eqb}
+use lib.ListN.{replicate}
+use Rattle.basics.specs.Lists.{every, all, counted, without}
+use Rattle.hex.specs.Number.{bigEndian, numberAt}
+use Rattle.itemset.specs.Set.{has, upto, remove}
+use Rattle.protocol.specs.Tables.{stampOf}
+use Rattle.protocol.specs.Range.{capacities, valid, inRange, stampInRange, sizesInRange}
+use Rattle.protocol.specs.Range.{entryInRange, versionInRange, messageInRange, endedInRange}
+use Rattle.protocol.specs.Range.{clientInRange, readPartInRange, writePartInRange, arrived}
+use Rattle.protocol.specs.Range.{total, load, occupied}
+use Rattle.protocol.specs.Steps.{choice, stored, found, delivered, joined, touches}
+use Rattle.protocol.specs.Frame.{listed, frame}
+use Rattle.protocol.specs.Calls.{Call, startRead, startWrite, deliver, show, first, refusal}
+use Rattle.protocol.specs.Calls.{unexpected, missing, isNothing, outcomeOf, effect, reply}
+use Rattle.protocol.specs.Calls.{written, lent, step}
+use Rattle.condition3.specs.World.{World, Labelled, begin, accepts, next, after, joining}
+use Rattle.condition3.specs.World.{leaving, staying, begun, withoutAll, storing, joiningOver}
+use Rattle.condition3.specs.World.{leavingOver, isRequest, isReply, isReplyFor, isReadMessage}
+use Rattle.condition3.specs.World.{outcomeIn, delivers, endsFor, stays, startsFor, rests}
+use Rattle.protocol.proofs.Examples.Table.{same}
+use Rattle.condition3.specs.Condition3.{now, sent, came, shownAt, output, answeredAt}
+use Rattle.condition3.specs.Condition3.{shownNumber, shownWriter, shownValue, ShownOlder}
+
+abbrev w : World
+w = begin (record { clients = 2; partitions = 2; items = 2 })
+
+abbrev room : List ℕ
+room = replicate 28 0
+
+-- ---- The whole session
+
+-- up to its first read, from there to its second, and what each read is under way for
+abbrev written-first : List Call
+written-first =
+    startWrite 1 3 (0 ∷ 0 ∷ 0 ∷ 7 ∷ 0 ∷ 0 ∷ 0 ∷ 8 ∷ []) ∷ deliver 0 ∷ deliver 0 ∷ deliver 0
+    ∷ deliver 0 ∷ deliver 0 ∷ []
+
+abbrev during : List Call
+during = deliver 1 ∷ deliver 1 ∷ deliver 1 ∷ []
+
+abbrev between : List Call
+between = written-first ++ startRead 2 3 ∷ during ++ deliver 1 ∷ show 2 room ∷ []
+
+-- the same with two refused calls
+abbrev refusedAmong : List Call
+refusedAmong = deliver 1 ∷ startRead 2 1 ∷ deliver 9 ∷ deliver 1 ∷ deliver 1 ∷ []
+
+module _ (before meanwhile : List Call) where
+  -- what joins, what is delivered, and the world after the read's end
+  abbrev joins : List Labelled
+  joins = sent capacities w 2 3 before (meanwhile ++ deliver 1 ∷ [])
+
+  abbrev leaves : List Labelled
+  leaves = came capacities w 2 3 before (meanwhile ++ deliver 1 ∷ [])
+
+  abbrev ended : World
+  ended = shownAt capacities w 2 3 before meanwhile (deliver 1) []
+
+  -- A read of both items by client 2 after these calls: accepted, under way, ended by the fourth
+  -- delivery alone; two requests, two replies, one to an item.
+  abbrev whole : Bool
+  whole =
+      accepts capacities (after capacities w before) (startRead 2 3)
+      && stays capacities (now capacities w 2 3 before []) 2 meanwhile
+      && endsFor capacities (now capacities w 2 3 before meanwhile) 2 (deliver 1)
+      && not (endsFor capacities (now capacities w 2 3 before meanwhile) 2 (deliver 0))
+      && eqb (counted (isRequest 2) joins) 2
+      && eqb (counted (isReply 2) (came capacities w 2 3 before meanwhile)) 1
+      && eqb (counted (isReply 2) leaves) 2
+      && every 2 (λ k. eqb (counted (isReplyFor 2 k) leaves) 1)
+
+  -- It rests while another client starts and a start of its own is refused, and no longer.
+  abbrev resting : Bool
+  resting =
+      accepts capacities ended (startRead 1 1)
+      && rests capacities ended 2 (startRead 1 1 ∷ deliver 0 ∷ startRead 2 0 ∷ [])
+      && accepts capacities ended (startWrite 1 1 (0 ∷ 0 ∷ 0 ∷ 7 ∷ []))
+      && rests capacities ended 2 (startWrite 1 1 (0 ∷ 0 ∷ 0 ∷ 7 ∷ []) ∷ [])
+      && not (rests capacities ended 2 (startRead 2 1 ∷ []))
+      && not (rests capacities ended 2 (startRead 1 1 ∷ startWrite 2 1 (0 ∷ 0 ∷ 0 ∷ 7 ∷ []) ∷ []))
+
+-- After its first two deliveries each item has one message.
+abbrev oneEach : Bool
+oneEach = every 2 (λ k. eqb (counted (isReadMessage 2 k)
+    (now capacities w 2 3 between (deliver 1 ∷ deliver 1 ∷ []) .inFlight)) 1)
+
+-- The second read's showing, after another client's start: item 0 and item 1 as they were written.
+abbrev shown : List ℕ
+shown = output capacities w 2 3 between during (deliver 1) (startRead 1 1 ∷ []) room
+
+abbrev showing : Bool
+showing =
+    same (shownNumber 3 shown 0 ∷ shownWriter 3 shown 0 ∷ shownValue 3 shown 0 ∷ [])
+    (1 ∷ 1 ∷ 7 ∷ [])
+    && same (shownNumber 3 shown 1 ∷ shownWriter 3 shown 1 ∷ shownValue 3 shown 1 ∷ [])
+    (1 ∷ 1 ∷ 8 ∷ [])
+
+-- Calls count from 0. The write starts with call 0, and its prepares are delivered by 1 and 2. The
+-- second read starts with call 12; its gets are delivered by 13 and 14, which are the times of the
+-- answers. A refused call takes its time.
+abbrev times : Bool
+times =
+    let v = after capacities w between in
+    same (map (λ a. a .start) (v .writes)) (0 ∷ [])
+    && same (map (λ a. a .stamp) (v .writes)) (17 ∷ [])
+    && same (map (λ a. a .set) (v .writes)) (3 ∷ [])
+    && same (map (λ a. a .values 1) (v .writes)) (8 ∷ [])
+    && same (map (λ σ. σ .start) (v .stores)) (0 ∷ 0 ∷ [])
+    && same (map (λ σ. σ .item) (v .stores)) (0 ∷ 1 ∷ [])
+    && same (map (λ σ. σ .time) (v .stores)) (1 ∷ 2 ∷ [])
+    && same (map (λ l. l .label .client) (leaves between during)) (2 ∷ 2 ∷ 2 ∷ 2 ∷ [])
+    && same (map (λ l. l .label .start) (leaves between during)) (12 ∷ 12 ∷ 12 ∷ 12 ∷ [])
+    && same (map answeredAt (leaves between during)) (12 ∷ 12 ∷ 13 ∷ 14 ∷ [])
+    && same (map answeredAt (leaves between refusedAmong)) (12 ∷ 12 ∷ 13 ∷ 16 ∷ [])
+
+-- ---- A client that reads while its own write's commits are in flight, at places 0 and 1
+
+abbrev committing : List Call
+committing =
+    startWrite 1 3 (0 ∷ 0 ∷ 0 ∷ 7 ∷ 0 ∷ 0 ∷ 0 ∷ 8 ∷ []) ∷ deliver 0 ∷ deliver 0 ∷ deliver 0
+    ∷ deliver 0 ∷ []
+
+-- A commit of its own is delivered while the read is under way, the other while the client rests:
+-- neither ends a transaction or starts one.
+abbrev ownCommits : Bool
+ownCommits =
+    let v = shownAt capacities w 1 1 committing (deliver 0 ∷ deliver 1 ∷ []) (deliver 1) [] in
+    delivers (now capacities w 1 1 committing []) 1 (deliver 0)
+    && stays capacities (now capacities w 1 1 committing []) 1 (deliver 0 ∷ deliver 1 ∷ [])
+    && endsFor capacities (now capacities w 1 1 committing (deliver 0 ∷ deliver 1 ∷ [])) 1
+    (deliver 1)
+    && delivers v 1 (deliver 0) && accepts capacities v (deliver 0)
+    && not (endsFor capacities v 1 (deliver 0)) && rests capacities v 1 (deliver 0 ∷ [])
+
+-- ---- Two writes of number 1
+
+-- of client 1 by call 0 and of client 2 by call 3, with prepares delivered by calls 1 and 4
+abbrev u : World
+u = begin (record { clients = 2; partitions = 1; items = 1 })
+
+abbrev bothWritten : List Call
+bothWritten =
+    startWrite 1 1 (0 ∷ 0 ∷ 0 ∷ 7 ∷ []) ∷ deliver 0 ∷ deliver 0
+    ∷ startWrite 2 1 (0 ∷ 0 ∷ 0 ∷ 8 ∷ []) ∷ deliver 1 ∷ deliver 1 ∷ deliver 0 ∷ deliver 0 ∷ []
+
+abbrev writesAndStores : Bool
+writesAndStores =
+    let v = after capacities u bothWritten in
+    same (map (λ a. a .start) (v .writes)) (0 ∷ 3 ∷ [])
+    && same (map (λ a. a .stamp) (v .writes)) (17 ∷ 18 ∷ [])
+    && same (map (λ a. a .values 0) (v .writes)) (7 ∷ 8 ∷ [])
+    && same (map (λ σ. σ .start) (v .stores)) (0 ∷ 3 ∷ [])
+    && same (map (λ σ. σ .time) (v .stores)) (1 ∷ 4 ∷ [])
+
+-- ---- The rows
+
+abbrev rows : List Bool
+rows =
+    whole written-first during
+    ∷ whole between during
+    ∷ whole between refusedAmong
+    ∷ resting written-first during
+    ∷ resting between refusedAmong
+    ∷ oneEach
+    ∷ showing
+    ∷ times
+    ∷ ownCommits
+    ∷ writesAndStores
+    ∷ []
+
+pub spans : all (λ b. b) rows ≡ true
+unfolding next after joining leaving staying begun withoutAll storing joiningOver leavingOver
+    outcomeIn delivers stays startsFor rests step refusal first unexpected missing isNothing effect
+    reply written lent outcomeOf valid inRange sizesInRange stampInRange entryInRange versionInRange
+    messageInRange endedInRange clientInRange readPartInRange writePartInRange load arrived total
+    occupied choice stored found delivered joined touches listed frame every all counted without has
+    upto remove ones onesIn bigEndian numberAt
+spans = refl
+
+-- ---- A tie: both writes have number 1
+
+-- client 1's first read shows its own write, its second one client 2's
+abbrev own : List ℕ
+own = output capacities u 1 1 bothWritten (deliver 0 ∷ []) (deliver 0) [] room
+
+abbrev other : List ℕ
+other = output capacities u 1 1 (bothWritten ++ startRead 1 1 ∷ deliver 0 ∷ deliver 0 ∷ [])
+    (deliver 0 ∷ []) (deliver 0) [] room
+
+below : 1 < 2
+below = omega arith
+
+never : (n : ℕ) → n < n → ⊥
+never n h = omega arith
+
+above : 2 < 1 → ⊥
+above h = omega arith
+
+-- the first is older than client 2's write, and not than its own; the second is older than neither
+pub ties : ShownOlder 1 own 0 (stampOf 1 2) × (ShownOlder 1 own 0 (stampOf 1 1) → ⊥)
+    × (ShownOlder 1 other 0 (stampOf 1 1) → ⊥) × (ShownOlder 1 other 0 (stampOf 1 2) → ⊥)
+unfolding next after joining leaving staying begun withoutAll storing joiningOver leavingOver
+    outcomeIn delivers stays startsFor rests step refusal first unexpected missing isNothing effect
+    reply written lent outcomeOf valid inRange sizesInRange stampInRange entryInRange versionInRange
+    messageInRange endedInRange clientInRange readPartInRange writePartInRange load arrived total
+    occupied choice stored found delivered joined touches listed frame every all counted without has
+    upto remove ones onesIn bigEndian numberAt
+ties = (
+  inr (refl, below),
+  ⊎-elim (never 1) (λ p. never 1 (p .1)),
+  ⊎-elim (never 1) (λ p. above (p .1)),
+  ⊎-elim (never 1) (λ p. never 2 (p .1)),
+)

@@ -1,0 +1,182 @@
+-- What a start owes the link, and that a call apart owes nothing: a new write has a stamp that no
+-- other write has.
+use mathlib.Core.Bool.{true}
+use mathlib.Core.List.{List, [], _∷_, _++_, map, append-nil}
+use mathlib.Core.Logic.{_⊎_, inl, inr, ⊎-elim}
+use mathlib.Core.Path.{_≡_, refl, sym, ap, _∙_, subst}
+use Prim.Native.Nat.{ℕ, _+_, _<_}
+use native.Mathlib.Nat.{le-refl, le-trans, le-suc}
+use native.Mathlib.Omega.{arith}
+use lib.Dec.{eqb}
+use Rattle.basics.proofs.Cases.{or-right}
+use Rattle.basics.specs.Lists.{In}
+use Rattle.basics.proofs.Lists.{in-right, in-append, in-map}
+use Rattle.itemset.specs.Set.{has}
+use Rattle.protocol.specs.declared.Message.{Message}
+use Rattle.protocol.specs.declared.Message.the-variants.{Prepare, Get}
+use Rattle.protocol.specs.Tables.{Client, writerOf, put}
+use Rattle.protocol.specs.Message.{ownerOf}
+use Rattle.protocol.specs.Range.{Capacities}
+use Rattle.protocol.specs.Steps.{stored, gets, prepares, nextStamp, valueOf, writer, reader}
+use Rattle.protocol.specs.Steps.{asks, version}
+use Rattle.protocol.specs.Calls.{Call, startRead, startWrite, effect}
+use Rattle.condition3.specs.World.{World, Labelled, Write, labelled, withoutAll, joining}
+use Rattle.condition3.specs.World.{staying, begun, storing}
+use Rattle.protocol.proofs.Each.{each-upto}
+use Rattle.protocol.proofs.Put.{put-same}
+use Rattle.protocol.proofs.Ranges.Values.{IsClient}
+use Rattle.protocol.proofs.Sorts.{Apart}
+use Rattle.protocol.proofs.Keeps.{put-rises}
+use Rattle.condition3.proofs.Sound.{Ledger}
+use Rattle.condition3.proofs.Sound.StartWrite.{entered, stamp-new, carries}
+use Rattle.condition3.proofs.Link.{Entered, Comes, Inv}
+use Rattle.condition3.proofs.Link.Apart.{apart-tables, apart-begins, apart-joining}
+use Rattle.condition3.proofs.Link.Apart.{apart-staying, apart-begun}
+use Rattle.condition3.proofs.Link.Owes.{Owes, same-unique, same-entered, joining-owners}
+use Rattle.condition3.proofs.Link.Owes.{joining-messages}
+use Rattle.condition3.proofs.Common.{known}
+
+module _ (caps : Capacities) (w : World) (inv : Inv caps w) where
+  abbrev L : Ledger
+  L = inv .ledger
+
+  pub read-owes : (d s : ℕ) → Owes caps w inv (startRead d s)
+  unfolding effect joining staying withoutAll begun storing Comes
+  read-owes d s =
+      record {
+        inFlight = joining-messages d (w .time) (w .time) (w .inFlight) (gets (w .tables) d s)
+            (w .tables .messages) (inv .inFlight);
+        stays = λ l i. i;
+        owners = joining-owners d (w .time) (gets (w .tables) d s)
+            (each-upto (λ m. ownerOf m ≡ d) (λ k. Get d k (asks (w .tables) d k))
+            (w .tables .sizes .items) (has s) (λ k l e. refl));
+        unique = same-unique caps w inv;
+        entered = same-entered caps w inv (effect (w .tables) (startRead d s) .client)
+            (put-rises (w .tables .client) d (reader (w .tables) d s)
+            (le-refl (w .tables .client d .count)));
+        stored = λ v i. inl i;
+        comes = λ l i.
+            let y = in-map (labelled d (w .time) (w .time)) l (gets (w .tables) d s) i in
+            subst (λ (x : Labelled). Comes (w .writes ++ []) (w .stores ++ []) (x .label)
+            (x .message)) (sym (y .2))
+            (each-upto (λ m. Comes (w .writes ++ []) (w .stores ++ [])
+            (record { client = d; start = w .time; since = w .time }) m)
+            (λ k. Get d k (asks (w .tables) d k)) (w .tables .sizes .items) (has s) (λ k l e. tt)
+            (y .0) (y .1));
+      }
+
+  -- a call apart owes nothing
+  pub apart-owes : (c : Call) → Apart (w .tables) c → Owes caps w inv c
+  apart-owes c a =
+      record {
+        inFlight = rw (apart-staying w c a, apart-joining w c a, apart-tables w c a)
+            (ap (map (λ (l : Labelled). l .message)) (append-nil (w .inFlight)) ∙ inv .inFlight);
+        stays = λ l i. rw (apart-staying w c a) at i;
+        owners = λ l i. absurd (rw (apart-joining w c a) at i);
+        unique = rw (apart-begun w c a) (same-unique caps w inv);
+        entered = rw (apart-begun w c a, apart-begins w c a, apart-tables w c a)
+            (same-entered caps w inv (w .tables .client)
+            (λ d. le-refl (w .tables .client d .count)));
+        stored = λ v i. inl (rw (apart-tables w c a) at i);
+        comes = λ l i. absurd (rw (apart-joining w c a) at i);
+      }
+
+  -- ---- the start of a write
+
+  module _ (d s : ℕ) (bytes : List ℕ) (is-client : IsClient (w .tables .sizes) d) where
+    abbrev stamp : ℕ
+    stamp = nextStamp (w .tables) d
+
+    abbrev new : Write
+    new = record { start = w .time; stamp = stamp; set = s; values = valueOf s bytes }
+
+    abbrev L′ : Ledger
+    L′ = entered L stamp s (valueOf s bytes)
+
+    writer-is : writerOf stamp ≡ d
+    writer-is = let small : d < 16 = omega (arith, inv .sound .valid .inRange .sizes .clients) in
+        omega arith
+
+    old-or-new : (a : Write) → In a (known (w .writes ++ new ∷ [])) → In a (known (w .writes))
+        ⊎ (a ≡ new)
+    old-or-new a p = ⊎-elim (λ q. inl q) (⊎-elim (λ e. inr e) (λ z. absurd z))
+        (in-append a (known (w .writes)) (new ∷ []) p)
+
+    fresh-stamp : (a : Write) → In a (known (w .writes)) → a .stamp ≡ stamp → ⊥
+    fresh-stamp a p e = stamp-new caps L (w .tables) (inv .sound) d s bytes is-client (a .stamp)
+        (inv .entered a p .number) e
+
+    write-unique : (a b : Write) → In a (known (w .writes ++ new ∷ []))
+        → In b (known (w .writes ++ new ∷ [])) → a .stamp ≡ b .stamp → a ≡ b
+    write-unique a b p q e =
+        ⊎-elim
+        (λ x. ⊎-elim (λ y. inv .unique a b x y e)
+        (λ y. absurd (fresh-stamp a x (e ∙ ap (λ (z : Write). z .stamp) y))) (old-or-new b q))
+        (λ x. ⊎-elim (λ y. absurd (fresh-stamp b y (sym e ∙ ap (λ (z : Write). z .stamp) x)))
+        (λ y. x ∙ sym y) (old-or-new b q))
+        (old-or-new a p)
+
+    abbrev client′ : ℕ → Client
+    client′ = put (w .tables .client) d (writer (w .tables) d s bytes)
+
+    new-entered : Entered L′ client′ new
+    new-entered =
+        record {
+          set = sym (put-same (L .set) stamp s);
+          values = λ k e.
+              sym (ap (λ (f : ℕ → ℕ). f k) (put-same (L .value) stamp (valueOf s bytes)));
+          number = rw (writer-is, put-same (w .tables .client) d (writer (w .tables) d s bytes))
+              (omega arith);
+        }
+
+    write-entered : (a : Write) → In a (known (w .writes ++ new ∷ [])) → Entered L′ client′ a
+    write-entered a p =
+        ⊎-elim
+        (λ q. let x = inv .entered a q in
+        let c = carries caps L (w .tables) (inv .sound) d s bytes is-client (a .stamp)
+        (x .number) in
+        record {
+          set = x .set ∙ sym (c .set);
+          values = λ k e. x .values k e
+              ∙ sym (c .value k (or-right (eqb (a .stamp) 0) (has (L .set (a .stamp)) k)
+              (subst (λ (r : ℕ). has r k ≡ true) (x .set) e)));
+          number = le-trans (x .number)
+              (put-rises (w .tables .client) d (writer (w .tables) d s bytes)
+              (le-suc (w .tables .client d .count)) (writerOf (a .stamp)));
+        })
+        (λ q. subst (λ (z : Write). Entered L′ client′ z) (sym q) new-entered)
+        (old-or-new a p)
+
+    abbrev prepare : ℕ → Message
+    prepare k = Prepare (version k (valueOf s bytes k) stamp s)
+
+    pub write-owes : Owes caps w inv (startWrite d s bytes)
+    unfolding effect joining staying withoutAll begun storing Comes
+    write-owes =
+        record {
+          inFlight = joining-messages d (w .time) (w .time) (w .inFlight)
+              (prepares (w .tables) d s bytes)
+              (w .tables .messages) (inv .inFlight);
+          stays = λ l i. i;
+          owners = joining-owners d (w .time) (prepares (w .tables) d s bytes)
+              (each-upto (λ m. ownerOf m ≡ d) prepare (w .tables .sizes .items) (has s)
+              (λ k l e. writer-is));
+          unique = write-unique;
+          entered = write-entered;
+          stored = λ v i. inl i;
+          comes = λ l i.
+              let y = in-map (labelled d (w .time) (w .time)) l
+              (prepares (w .tables) d s bytes) i in
+              subst (λ (x : Labelled). Comes (w .writes ++ new ∷ []) (w .stores ++ []) (x .label)
+              (x .message)) (sym (y .2))
+              (each-upto (λ m. Comes (w .writes ++ new ∷ []) (w .stores ++ [])
+              (record { client = d; start = w .time; since = w .time }) m) prepare
+              (w .tables .sizes .items) (has s)
+              (λ k l e. record {
+                write = new;
+                isIn = in-right new (w .writes) (new ∷ []) (inl refl);
+                same = refl;
+                started = refl;
+              })
+              (y .0) (y .1));
+        }

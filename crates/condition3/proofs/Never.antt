@@ -1,0 +1,101 @@
+-- From freshly made tables no call of a list is refused by 1, 11 or 12, the load is never above its
+-- bound, and versions + prepares are never above theirs: the invariant keeps the tables valid, and
+-- every message in flight is expected.
+use mathlib.Core.Bool.{Bool, true, false, not}
+use mathlib.Core.List.{List, [], _∷_}
+use mathlib.Core.Path.{_≡_, refl}
+use Prim.Native.Nat.{ℕ, _≤_}
+use native.Mathlib.Omega.{arith}
+use lib.Dec.{leb}
+use lib.ListN.{length}
+use borrow.Author.Tests.{leb-false}
+use Rattle.basics.proofs.Cases.{by-test}
+use Rattle.protocol.specs.Tables.{Sizes}
+use Rattle.protocol.specs.Range.{Capacities, sizesInRange, valid, load, occupied}
+use Rattle.protocol.specs.Calls.{Call, startRead, startWrite, deliver, show, Test, test}
+use Rattle.protocol.specs.Calls.{first, refusal}
+use Rattle.condition3.specs.World.{World, begin, after}
+use Rattle.protocol.proofs.Ranges.Tables.{facts-valid}
+use Rattle.condition3.proofs.Link.{Inv}
+use Rattle.condition3.proofs.Link.Step.{begin-inv}
+use Rattle.condition3.proofs.Runs.Run.{after-inv}
+use Rattle.condition3.proofs.Runs.Deliverable.{deliverable}
+
+-- none of the three
+pub record Mild (r : ℕ) : Type 0 where
+  pub one : r ≡ 1 → ⊥
+  pub eleven : r ≡ 11 → ⊥
+  pub twelve : r ≡ 12 → ⊥
+
+-- a list of tests gives 0 or the number of one of them
+mild-test : (n : ℕ) (b : Bool) (xs : List Test) → Mild n → Mild (first xs)
+    → Mild (first (test n b ∷ xs))
+unfolding first
+mild-test n true xs here rest = here
+mild-test n false xs here rest = rest
+
+mild-none : Mild (first [])
+unfolding first
+mild-none = record { one = λ e. omega arith; eleven = λ e. omega arith; twelve = λ e. omega arith }
+
+-- a test that doesn't apply
+passes : (n : ℕ) (b : Bool) (xs : List Test) → b ≡ false → Mild (first xs)
+    → Mild (first (test n b ∷ xs))
+unfolding first
+passes n b xs e rest = rw e rest
+
+-- and one that does
+applies : (n : ℕ) (b : Bool) (xs : List Test) → b ≡ true → Mild n → Mild (first (test n b ∷ xs))
+unfolding first
+applies n b xs e here = rw e here
+
+accepted-mild : (r : ℕ) → r ≡ 0 → Mild r
+accepted-mild r e = record {
+  one = λ f. omega arith;
+  eleven = λ f. omega arith;
+  twelve = λ f. omega arith;
+}
+
+module _ (caps : Capacities) (w : World) (inv : Inv caps w) where
+  is-valid : not (valid caps (w .tables)) ≡ false
+  is-valid = rw (facts-valid caps (w .tables) (inv .sound .valid)) refl
+
+  pub mild : (c : Call) → Mild (refusal caps (w .tables) c)
+  unfolding refusal
+  mild (startRead d s) =
+      passes 1 _ _ is-valid
+      (mild-test 3 _ _ (omega arith)
+      (mild-test 4 _ _ (omega arith)
+      (mild-test 5 _ _ (omega arith) (mild-test 8 _ _ (omega arith) mild-none))))
+  mild (startWrite d s bytes) =
+      passes 1 _ _ is-valid
+      (mild-test 3 _ _ (omega arith)
+      (mild-test 4 _ _ (omega arith)
+      (mild-test 5 _ _ (omega arith) (mild-test 6 _ _ (omega arith)
+      (mild-test 7 _ _ (omega arith)
+      (mild-test 8 _ _ (omega arith) (mild-test 9 _ _ (omega arith) mild-none)))))))
+  mild (deliver i) =
+      by-test (leb (length (w .tables .messages)) i)
+      (λ e. passes 1 _ _ is-valid (applies 10 _ _ e (omega arith)))
+      (λ e. accepted-mild (refusal caps (w .tables) (deliver i))
+      (deliverable caps w inv i (leb-false (length (w .tables .messages)) i e)))
+  mild (show d output) =
+      passes 1 _ _ is-valid
+      (mild-test 3 _ _ (omega arith)
+      (mild-test 4 _ _ (omega arith)
+      (mild-test 13 _ _ (omega arith) (mild-test 14 _ _ (omega arith) mild-none))))
+
+-- ---- on a list from freshly made tables, before each of its calls
+
+module _ (caps : Capacities) (z : Sizes) (ok : sizesInRange z ≡ true) (before : List Call) where
+  inv-here : Inv caps (after caps (begin z) before)
+  inv-here = after-inv caps (begin z) (begin-inv caps z ok) before
+
+  pub never-refused : (c : Call) → Mild (refusal caps (after caps (begin z) before .tables) c)
+  never-refused = mild caps (after caps (begin z) before) inv-here
+
+  pub load-bounded : load (after caps (begin z) before .tables) ≤ caps .load
+  load-bounded = inv-here .sound .valid .load
+
+  pub occupied-bounded : occupied (after caps (begin z) before .tables) ≤ caps .versions
+  occupied-bounded = inv-here .sound .valid .occupied

@@ -1,0 +1,276 @@
+-- Which calls touch a client's record: its own starts, and the deliveries of its prepared replies
+-- and gots; any other leaves it as it was, sends it no request and brings it no reply.
+use mathlib.Core.Bool.{Bool, true, false, and-false, _&&_, _||_}
+use mathlib.Core.List.{List, [], map}
+use mathlib.Core.Logic.{inl, ⊎-elim}
+use mathlib.Core.Path.{_≡_, refl, sym, ap, _∙_, subst}
+use Prim.Native.Nat.{ℕ, zero, suc}
+use lib.Dec.{eqb}
+use borrow.Author.Tests.{eqb-true, eqb-false, eq-eqb}
+use Rattle.basics.proofs.Cases.{by-test, not-both, and-left, and-right, and-both, or-right}
+use Rattle.basics.proofs.Cases.{or-cases, eqb-same}
+use Rattle.basics.specs.Lists.{In, counted}
+use Rattle.basics.proofs.Lists.{none-counted, in-map}
+use Rattle.itemset.specs.Set.{upto}
+use Rattle.protocol.specs.declared.Version.{Version}
+use Rattle.protocol.specs.declared.Entry.{Entry}
+use Rattle.protocol.specs.declared.Message.{Message}
+use Rattle.protocol.specs.declared.Message.the-variants.{Prepare, Prepared, Commit, Get, Got}
+use Rattle.protocol.specs.declared.Answer.the-variants.{Refused}
+use Rattle.protocol.specs.Tables.{Tables, Client, ofRead, ofWrite, writerOf}
+use Rattle.protocol.specs.Message.{kindOf, isPrepared, isGet, isGot, ownerOf}
+use Rattle.protocol.specs.Range.{Capacities}
+use Rattle.protocol.specs.Steps.{delivered, joined, isLast, touches, gets, prepares, reader}
+use Rattle.protocol.specs.Steps.{writer, messageAt}
+use Rattle.protocol.specs.Calls.{Call, startRead, startWrite, deliver, refusal, effect, step}
+use Rattle.protocol.specs.Calls.{reply, outcomeOf, pick}
+use Rattle.condition3.specs.World.{World, Labelled, labelled, placed, joining, leaving}
+use Rattle.condition3.specs.World.{isRequest, isReply, startsFor, accepts, outcomeIn}
+use Rattle.condition3.specs.World.{isDelivery, delivers, endsFor}
+use Rattle.protocol.proofs.Refusals.{Idle}
+use Rattle.protocol.proofs.Sorts.{Apart, Sort, reads, writes, delivers as delivered-at}
+use Rattle.protocol.proofs.Sorts.{apart, sort}
+use Rattle.protocol.proofs.Put.{put-other}
+use Rattle.condition3.proofs.Sound.{Ledger, Fits, SoundBy}
+use Rattle.condition3.proofs.Sound.Delivery.{no-message}
+use Rattle.condition3.proofs.Common.{hasItem}
+use Rattle.condition3.proofs.Link.{Inv}
+use Rattle.condition3.proofs.Link.Messages.{placed-message, placed-here}
+use Rattle.condition3.proofs.Link.Apart.{apart-tables, apart-origin, apart-joining}
+use Rattle.condition3.proofs.Link.Apart.{apart-leaving}
+
+-- a prepared reply or a got of client d
+abbrev pub answersTo : ℕ → Message → Bool
+answersTo d m = (isPrepared m || isGot m) && eqb (ownerOf m) d
+
+pub delivered-client : (t : Tables) (m : Message) (d : ℕ) → answersTo d m ≡ false
+    → delivered t m .client d ≡ t .client d
+unfolding delivered
+delivered-client t (Prepare v) d e = refl
+delivered-client t (Prepared k s) d e =
+    put-other (t .client) (writerOf s) _ d (λ q. eqb-false (writerOf s) d e (sym q))
+delivered-client t (Commit p s) d e = refl
+delivered-client t (Get e′ k s) d e = refl
+delivered-client t (Got e′ v latest) d e =
+    put-other (t .client) e′ _ d (λ q. eqb-false e′ d e (sym q))
+
+-- a delivery makes no get join
+joined-no-get : (t : Tables) (m j : Message) → In j (joined t m) → isGet j ≡ false
+unfolding joined
+joined-no-get t (Prepare v) j (inl e) = ap isGet e
+joined-no-get t (Prepared k s) j i =
+    by-test (isLast ofWrite (t .client (writerOf s)) k)
+    (λ e. let q = in-map (λ p. Commit p s) j
+    (upto (t .sizes .partitions)
+    (λ p. touches t (t .client (writerOf s) .write .set) p (t .sizes .items)))
+    (rw e at i) in ap isGet (q .2))
+    (λ e. absurd (rw e at i))
+joined-no-get t (Commit p s) j i = absurd i
+joined-no-get t (Get d k s) j (inl e) = ap isGet e
+joined-no-get t (Got d v latest) j i =
+    let c = t .client d in
+    by-test (isLast ofRead c (v .item))
+    (λ e. let q = in-map (λ p. Commit p (c .write .stamp)) j
+    (upto (t .sizes .partitions) (λ p. touches t (c .write .set) p (t .sizes .items)))
+    (rw e at i) in ap isGet (q .2))
+    (λ e. absurd (rw e at i))
+
+-- a got of client d is an answer to it
+got-answers : (m : Message) (d : ℕ) → isGot m ≡ true → ownerOf m ≡ d → answersTo d m ≡ true
+got-answers m d e o = and-both (isPrepared m || isGot m) (eqb (ownerOf m) d)
+    (or-right (isPrepared m) (isGot m) e) (eq-eqb (ownerOf m) d o)
+
+-- ---- which deliveries report an end
+
+-- a refused call reports none
+pub refused-outcome : (caps : Capacities) (v : World) (c : Call) → accepts caps v c ≡ false
+    → outcomeIn (step caps (v .tables) c .answer) ≡ 0
+unfolding step outcomeIn
+refused-outcome caps v c f = go (refusal caps (v .tables) c) f
+  where
+    go : (r : ℕ) → eqb r 0 ≡ false → outcomeIn (pick r (reply (v .tables) c) (Refused r)) ≡ 0
+    go zero e = not-both (eqb-same 0) e
+    go (suc r) e = refl
+
+-- an accepted delivery reports its message's outcome
+pub delivered-outcome : (caps : Capacities) (v : World) (i : ℕ)
+    → refusal caps (v .tables) (deliver i) ≡ 0
+    → outcomeIn (step caps (v .tables) (deliver i) .answer) ≡ outcomeOf (v .tables)
+    (messageAt (v .tables) i)
+unfolding step outcomeIn reply
+delivered-outcome caps v i e = rw e refl
+
+-- a message of client d that is no answer to it has the outcome none
+no-outcome : (t : Tables) (m : Message) (d : ℕ) → ownerOf m ≡ d → answersTo d m ≡ false
+    → outcomeOf t m ≡ 0
+unfolding outcomeOf
+no-outcome t (Prepare v) d o f = refl
+no-outcome t (Prepared k s) d o f = not-both (eq-eqb (writerOf s) d o) f
+no-outcome t (Commit p s) d o f = refl
+no-outcome t (Get e k s) d o f = refl
+no-outcome t (Got e v latest) d o f = not-both (eq-eqb e d o) f
+
+answers-item : (m : Message) (d : ℕ) → answersTo d m ≡ true → hasItem m ≡ true
+answers-item m d e =
+    ⊎-elim (λ f. rw (eqb-true (kindOf m) 2 f) refl) (λ f. rw (eqb-true (kindOf m) 5 f) refl)
+    (or-cases (isPrepared m) (isGot m)
+    (and-left (isPrepared m || isGot m) (eqb (ownerOf m) d) e))
+
+pub answers-owner : (m : Message) (d : ℕ) → answersTo d m ≡ true → ownerOf m ≡ d
+answers-owner m d e =
+    eqb-true (ownerOf m) d (and-right (isPrepared m || isGot m) (eqb (ownerOf m) d) e)
+
+pub record Quiet (caps : Capacities) (v : World) (c : Call) (d : ℕ) : Type 0 where
+  pub ends : endsFor caps v d c ≡ false
+  pub client : effect (v .tables) c .client d ≡ v .tables .client d
+  pub requests : counted (isRequest d) (joining v c) ≡ 0
+  pub replies : (l : Labelled) → In l (leaving v c) → isReply d l ≡ false
+
+-- labels of another client make no request of d
+others-labelled : (d e n : ℕ) → eqb e d ≡ false → (ms : List Message)
+    → counted (isRequest d) (map (labelled e n n) ms) ≡ 0
+others-labelled d e n f ms =
+    none-counted (isRequest d) (map (labelled e n n) ms)
+    (λ x i. let q = in-map (labelled e n n) x ms i in ap (isRequest d) (q .2) ∙ rw f refl)
+
+module _ (caps : Capacities) (v : World) (inv : Inv caps v) (d : ℕ) where
+  -- a delivery makes no request
+  pub no-requests : (i : ℕ) → counted (isRequest d) (joining v (deliver i)) ≡ 0
+  unfolding joining
+  no-requests i =
+      none-counted (isRequest d) (joining v (deliver i))
+      (λ x p. let q = in-map (labelled (placed v i .label .client) (placed v i .label .start)
+      (v .time)) x (joined (v .tables) (messageAt (v .tables) i)) p in
+      ap (isRequest d) (q .2)
+      ∙ by-test (eqb (placed v i .label .client) d)
+      (λ t. rw t (joined-no-get (v .tables) (messageAt (v .tables) i) (q .0) (q .1)))
+      (λ t. rw t refl))
+
+  no-end : (i : ℕ) → In (placed v i) (v .inFlight) → answersTo d (placed v i .message) ≡ false
+      → endsFor caps v d (deliver i) ≡ false
+  unfolding delivers
+  no-end i here f =
+      by-test (eqb (placed v i .label .client) d)
+      (λ t.
+      let owner : ownerOf (messageAt (v .tables) i) ≡ d =
+      ap ownerOf (sym (placed-message caps v inv i)) ∙ sym (inv .owners (placed v i) here)
+      ∙ eqb-true (placed v i .label .client) d t in
+      let none : outcomeIn (step caps (v .tables) (deliver i) .answer) ≡ 0 =
+      by-test (accepts caps v (deliver i))
+      (λ a. delivered-outcome caps v i (eqb-true (refusal caps (v .tables) (deliver i)) 0 a)
+      ∙ no-outcome (v .tables) (messageAt (v .tables) i) d owner
+      (subst (λ (m : Message). answersTo d m ≡ false) (placed-message caps v inv i) f))
+      (λ a. refused-outcome caps v (deliver i) a) in
+      rw none (and-false (eqb (placed v i .label .client) d)))
+      (λ t. rw t refl)
+
+  quiet-delivery : (i : ℕ) → In (placed v i) (v .inFlight)
+      → answersTo d (placed v i .message) ≡ false
+      → Quiet caps v (deliver i) d
+  unfolding effect leaving
+  quiet-delivery i here f =
+      record {
+        ends = no-end i here f;
+        client = delivered-client (v .tables) (messageAt (v .tables) i) d
+            (subst (λ (m : Message). answersTo d m ≡ false) (placed-message caps v inv i) f);
+        requests = no-requests i;
+        replies = λ l p. ⊎-elim
+            (λ e. ap (isReply d) e
+            ∙ by-test (isReply d (placed v i))
+            (λ t. not-both
+            (got-answers (placed v i .message) d
+            (and-right (eqb (placed v i .label .client) d) (isGot (placed v i .message)) t)
+            (sym (inv .owners (placed v i) here)
+            ∙ eqb-true (placed v i .label .client) d
+            (and-left (eqb (placed v i .label .client) d) (isGot (placed v i .message)) t)))
+            f)
+            (λ t. t))
+            (λ z. absurd z) p;
+      }
+
+  not-delivered : (c : Call) → Apart (v .tables) c → delivers v d c ≡ false
+  unfolding delivers
+  not-delivered c a = ap (isDelivery v d) (apart-origin v c a)
+
+  quiet-apart : (c : Call) → Apart (v .tables) c → Quiet caps v c d
+  quiet-apart c a =
+      record {
+        ends = rw (not-delivered c a) refl;
+        client = ap (λ (t : Tables). t .client d) (apart-tables v c a);
+        requests = ap (counted (isRequest d)) (apart-joining v c a)
+            ∙ none-counted (isRequest d) [] (λ x p. absurd p);
+        replies = λ l p. absurd (rw (apart-leaving v c a) at p);
+      }
+
+  -- the three ways of an accepted call
+  pub data Way : Call → Type 0 where
+    quiet : (c : Call) → Quiet caps v c d → Way c
+    starts : (c : Call) → startsFor v d c ≡ true → Way c
+    answers : (i : ℕ) → In (placed v i) (v .inFlight) → answersTo d (placed v i .message) ≡ true
+        → Way (deliver i)
+
+  sort-way : {c : Call} → Sort caps (v .tables) c → Way c
+  unfolding effect joining leaving startsFor delivers
+  sort-way (reads e s a) =
+      by-test (eqb e d)
+      (λ t. starts (startRead e s) t)
+      (λ f. quiet (startRead e s)
+      (record {
+        ends = refl;
+        client = put-other (v .tables .client) e (reader (v .tables) e s) d
+            (λ q. eqb-false e d f (sym q));
+        requests = others-labelled d e (v .time) f (gets (v .tables) e s);
+        replies = λ l p. absurd p;
+      }))
+  sort-way (writes e s bytes a) =
+      by-test (eqb e d)
+      (λ t. starts (startWrite e s bytes) t)
+      (λ f. quiet (startWrite e s bytes)
+      (record {
+        ends = refl;
+        client = put-other (v .tables .client) e (writer (v .tables) e s bytes) d
+            (λ q. eqb-false e d f (sym q));
+        requests = others-labelled d e (v .time) f (prepares (v .tables) e s bytes);
+        replies = λ l p. absurd p;
+      }))
+  sort-way (delivered-at i a) =
+      let here = placed-here caps v inv i (a .place) in
+      by-test (answersTo d (placed v i .message))
+      (λ t. answers i here t)
+      (λ f. quiet (deliver i) (quiet-delivery i here f))
+  sort-way (apart c ok a) = quiet c (quiet-apart c a)
+
+  pub way : (c : Call) → refusal caps (v .tables) c ≡ 0 → Way c
+  way c e = sort-way (sort caps (v .tables) c e)
+
+-- ---- answers go to a client with the right part
+
+-- an answer to a client with no write part is a got
+pub got-of : (L : Ledger) (vs : List Version) (c : Client) (m : Message) (d : ℕ)
+    → answersTo d m ≡ true → Fits L vs c m → c .write .set ≡ 0
+    → (u : Version) × ((e : Entry) × (m ≡ Got d u e))
+unfolding Fits
+got-of L vs c (Prepare v) d t f r = not-both t refl
+got-of L vs c (Prepared k s) d t f r = absurd (f .mode r)
+got-of L vs c (Commit p s) d t f r = not-both t refl
+got-of L vs c (Get e k s) d t f r = not-both t refl
+got-of L vs c (Got e v latest) d t f r =
+    (v, (latest, ap (λ (x : ℕ). Got x v latest) (eqb-true e d t)))
+
+-- an answer to a client with no read part is a prepared reply, of its stamp
+pub prepared-of : (L : Ledger) (vs : List Version) (c : Client) (m : Message) (d : ℕ)
+    → answersTo d m ≡ true → Fits L vs c m → c .read .set ≡ 0
+    → (k : ℕ) × ((s : ℕ) × (m ≡ Prepared k s) × (writerOf s ≡ d) × (c .write .stamp ≡ s))
+unfolding Fits
+prepared-of L vs c (Prepare v) d t f r = not-both t refl
+prepared-of L vs c (Prepared k s) d t f r = (k, (s, refl, eqb-true (writerOf s) d t, f .stamp))
+prepared-of L vs c (Commit p s) d t f r = not-both t refl
+prepared-of L vs c (Get e k s) d t f r = not-both t refl
+prepared-of L vs c (Got e v latest) d t f r = absurd (f .mode r)
+
+-- and an idle client has none
+pub no-answer : (caps : Capacities) (L : Ledger) (t : Tables) → SoundBy caps L t → (m : Message)
+    → In m (t .messages) → (d : ℕ) → answersTo d m ≡ true → Idle (t .client d) → ⊥
+no-answer caps L t sound m i d e idle =
+    no-message caps L t sound m i (answers-item m d e)
+    (subst (λ (x : ℕ). Idle (t .client x)) (sym (answers-owner m d e)) idle)

@@ -1,0 +1,179 @@
+-- The delivery of a got keeps the tables sound.
+use mathlib.Core.Bool.{true, false, Bool, cond}
+use mathlib.Core.List.{List, []}
+use mathlib.Core.Logic.{_≢_, _⊎_, inl, inr}
+use mathlib.Core.Path.{_≡_, refl, sym, _∙_, subst}
+use Prim.Native.Nat.{ℕ, _≤_, _<_}
+use native.Mathlib.Nat.{le-refl}
+use Rattle.basics.proofs.Cases.{by-test}
+use Rattle.basics.specs.Lists.{counted, without}
+use Rattle.itemset.specs.Set.{has, remove}
+use Rattle.itemset.proofs.Laws.{has-empty}
+use Rattle.protocol.specs.declared.Version.{Version}
+use Rattle.protocol.specs.declared.Entry.{Entry}
+use Rattle.protocol.specs.declared.Message.{Message}
+use Rattle.protocol.specs.declared.Message.the-variants.{Got}
+use Rattle.protocol.specs.Tables.{Tables, Client, Side, ofRead, ofWrite, awaitedOf, resting}
+use Rattle.protocol.specs.Tables.{laterOf, put}
+use Rattle.protocol.specs.Message.{ownerOf}
+use Rattle.protocol.specs.Range.{Capacities}
+use Rattle.protocol.specs.Steps.{delivered, joined, stored, seen, commits, got, answered}
+use Rattle.protocol.specs.Steps.{ended, isLast}
+use Rattle.protocol.proofs.Each.{Each, each-none, each-append}
+use Rattle.protocol.proofs.Put.{by-cond, put-every}
+use Rattle.protocol.proofs.Ranges.Values.{IsClient}
+use Rattle.protocol.proofs.Ranges.Tables.{Valid}
+use Rattle.condition3.proofs.Sound.{Ledger, GoodEntry, Writes, Last, FitsGot, Fits, SoundBy}
+use Rattle.condition3.proofs.Sound.Carry.{later-good, owner-client, recounted, last-recounted}
+use Rattle.condition3.proofs.Sound.End.{has-some, commits-for, ended-last, seen-good}
+use Rattle.condition3.proofs.Sound.End.{commits-fit}
+use Rattle.condition3.proofs.Sound.Delivery.{Taken, one-after, likes}
+use Rattle.condition3.proofs.Sound.Staying.{afterDelivery, staying}
+use Rattle.condition3.proofs.Common.{isFor, ofSide, by-side, leftOf, Like, struck-last}
+
+module _ (caps : Capacities) (L : Ledger) (t : Tables) (sound : SoundBy caps L t) (i : ℕ) (d : ℕ)
+    (v : Version) (latest : Entry)
+    (taken : Taken t i (Got d v latest))
+    (ok : Valid caps (afterDelivery t i (Got d v latest))) where
+  abbrev c : Client
+  c = t .client d
+
+  abbrev k : ℕ
+  k = v .item
+
+  fit : FitsGot L (t .versions) c v latest
+  unfolding Fits
+  fit = sound .fits (Got d v latest) (taken .isIn)
+
+  is-client : IsClient (t .sizes) d
+  is-client = owner-client caps L t sound (Got d v latest) (taken .isIn)
+
+  abbrev last : Bool
+  last = isLast ofRead c k
+
+  -- a write part that ends with this got has arrived
+  arrived : last ≡ true → (j : ℕ) → has (c .write .set) j ≡ true
+      → stored (t .versions) j (c .write .stamp) ≡ true
+  arrived l j e = sound .writes d is-client (has-some (c .write .set) j e) .arrived j e
+      (struck-last ofRead c k l ofWrite j)
+
+  abbrev offered : ℕ → Entry
+  offered = put (t .view d) k (laterOf (t .view d k) latest)
+
+  abbrev entries : ℕ → Entry
+  entries = cond last (seen offered (c .write .set) (c .write .stamp)) offered
+
+  offered-good : (j : ℕ) → j < t .sizes .items → GoodEntry L (t .versions) j (offered j)
+  offered-good =
+      put-every (λ (j : ℕ) (x : Entry). j < t .sizes .items → GoodEntry L (t .versions) j x)
+      (t .view d) k (laterOf (t .view d k) latest)
+      (λ l. later-good L (t .versions) k (t .view d k) latest (sound .view d k is-client l)
+      (fit .latest)) (λ j n l. sound .view d j is-client l)
+
+  entries-good : (j : ℕ) → j < t .sizes .items → GoodEntry L (t .versions) j (entries j)
+  entries-good j l =
+      by-test last
+      (λ e. rw e (seen-good caps L t sound d is-client (arrived e) offered j (offered-good j l)))
+      (λ e. rw e (offered-good j l))
+
+  view : (e j : ℕ) → IsClient (t .sizes) e → j < t .sizes .items
+      → GoodEntry L (t .versions) j (put (t .view) d entries e j)
+  view e j h l =
+      put-every (λ (e : ℕ) (f : ℕ → Entry). IsClient (t .sizes) e
+      → GoodEntry L (t .versions) j (f j)) (t .view) d entries
+      (λ h. entries-good j l) (λ e n h. sound .view e j h l) e h
+
+  -- the client's record after it
+  abbrev c′ : Client
+  c′ = got c k (v .value)
+
+  struck-awaited : (τ : Side) (j : ℕ) → has (awaitedOf τ c′) j ≡ has (leftOf ofRead c k τ) j
+  struck-awaited =
+      by-side (λ τ. (j : ℕ) → has (awaitedOf τ c′) j ≡ has (leftOf ofRead c k τ) j)
+      (λ j. by-test last (λ l. rw l (has-empty j ∙ sym (struck-last ofRead c k l ofRead j)))
+      (λ f. rw f refl))
+      (λ j. by-test last (λ l. rw l (has-empty j ∙ sym (struck-last ofRead c k l ofWrite j)))
+      (λ f. rw f refl))
+
+  like : last ≡ false → Like c c′
+  like f = rw f (record { reads = refl; writes = refl; stamp = refl; asked = λ j. refl })
+
+  count : (e : ℕ) → t .client e .count ≤ put (t .client) d c′ e .count
+  count =
+      put-every (λ (e : ℕ) (x : Client). t .client e .count ≤ x .count) (t .client) d c′
+      (by-test last (λ l. rw l (le-refl (c .count))) (λ f. rw f (le-refl (c .count))))
+      (λ e n. le-refl (t .client e .count))
+
+  writes-here : c′ .write .set ≢ 0 → Writes L (t .versions) d c′
+  writes-here =
+      by-test last
+      (λ l. rw l (λ m. absurd (m refl)))
+      (λ f. rw f (λ m. let w = sound .writes d is-client m in
+      record { newest = w .newest; agrees = w .agrees; values = w .values; arrived = w .arrived }))
+
+  ended-here : Last L (put (t .client) d c′) (c′ .last)
+  ended-here =
+      by-test last
+      (λ l. subst (λ (x : Client). Last L (put (t .client) d c′) (x .last)) (sym (by-cond-true l))
+      (ended-last caps L t sound d is-client (put (t .client) d c′) count (c .read .set)
+      (c .read .asked) (put (c .read .values) k (v .value))))
+      (λ f. subst (λ (x : Client). Last L (put (t .client) d c′) (x .last)) (sym (by-cond-false f))
+      (last-recounted L (t .client) (put (t .client) d c′) count (c .last)
+      (sound .last d is-client)))
+    where
+      by-cond-true : last ≡ true → c′ ≡ resting (c .count) (ended (answered c k (v .value)))
+      by-cond-true e = rw e refl
+
+      by-cond-false : last ≡ false → c′ ≡ answered c k (v .value)
+      by-cond-false e = rw e refl
+
+  -- what joins: the commits of a write part that ends
+  abbrev js : List Message
+  js = cond last (commits t (c .write .set) (c .write .stamp)) []
+
+  none-for : (σ : Side) (e j : ℕ) → counted (isFor σ e j) js ≡ 0
+  unfolding counted
+  none-for σ e j = by-test last (λ l. rw l (commits-for t (c .write .set) (c .write .stamp) σ e j))
+      (λ f. rw f refl)
+
+  joins : Each (λ x. Fits L (t .versions) (put (t .client) d c′ (ownerOf x)) x) js
+  joins =
+      by-cond (Each (λ x. Fits L (t .versions) (put (t .client) d c′ (ownerOf x)) x)) last _ _
+      (λ l. commits-fit caps L t sound d is-client (arrived l)
+      (λ x. put (t .client) d c′ (ownerOf x)))
+      (λ f. each-none (λ x. Fits L (t .versions) (put (t .client) d c′ (ownerOf x)) x))
+
+  mine : (τ : Side) → ((ofSide τ (Got d v latest) ≡ true)
+      × (leftOf ofRead c k τ ≡ remove (awaitedOf τ c) k))
+      ⊎ ((ofSide τ (Got d v latest) ≡ false) × (leftOf ofRead c k τ ≡ awaitedOf τ c))
+  mine ofRead = inl (refl, refl)
+  mine ofWrite = inr (refl, refl)
+
+  pub sound-got : SoundBy caps L (afterDelivery t i (Got d v latest))
+  unfolding delivered joined
+  sound-got =
+      record {
+        valid = ok;
+        noSet = sound .noSet;
+        noValue = sound .noValue;
+        view = view;
+        latest = sound .latest;
+        versions =
+            λ u q. recounted L (t .client) (put (t .client) d c′) count u (sound .versions u q);
+        distinct = sound .distinct;
+        writes = put-every (λ (e : ℕ) (x : Client). IsClient (t .sizes) e → x .write .set ≢ 0
+            → Writes L (t .versions) e x) (t .client) d c′
+            (λ h. writes-here) (λ e n h m. sound .writes e h m);
+        last = put-every (λ (e : ℕ) (x : Client). IsClient (t .sizes) e
+            → Last L (put (t .client) d c′) (x .last)) (t .client) d c′
+            (λ h. ended-here) (λ e n h. last-recounted L (t .client) (put (t .client) d c′) count
+            (t .client e .last) (sound .last e h));
+        one = one-after caps L t sound i
+            (Got d v latest) taken ofRead d k refl refl mine c′ struck-awaited js none-for;
+        fits = each-append (λ x. Fits L (t .versions) (put (t .client) d c′ (ownerOf x)) x)
+            (without i (t .messages)) js
+            (staying caps L t sound i (put (t .client) d c′)
+            (likes caps L t sound i
+            (Got d v latest) taken ofRead d k refl refl mine c′ struck-awaited like))
+            joins;
+      }

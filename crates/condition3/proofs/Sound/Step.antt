@@ -1,0 +1,171 @@
+-- Freshly made tables are sound, every call keeps them so, and no delivery from sound tables is
+-- refused.
+use mathlib.Core.Bool.{true, cond}
+use mathlib.Core.List.{List, [], _∷_}
+use mathlib.Core.Logic.{⊎-elim}
+use mathlib.Core.Path.{_≡_, refl, sym, subst}
+use Prim.Native.Nat.{ℕ, zero, suc, _<_}
+use lib.Dec.{eqb}
+use lib.ListN.{length}
+use borrow.Author.Tests.{eqb-true}
+use Rattle.basics.proofs.Cases.{not-both, or-cases, eqb-same}
+use Rattle.basics.specs.Lists.{In, counted}
+use Rattle.itemset.specs.Set.{has}
+use Rattle.itemset.proofs.Laws.{has-empty}
+use Rattle.protocol.specs.declared.Message.{Message}
+use Rattle.protocol.specs.declared.Message.the-variants.{Prepare, Prepared, Commit, Get, Got}
+use Rattle.protocol.specs.Tables.{Sizes, Tables, ofRead, ofWrite, initial, fresh, writerOf}
+use Rattle.protocol.specs.Tables.{WritePart, awaitedOf, resting, nothing}
+use Rattle.protocol.specs.Range.{Capacities, sizesInRange}
+use Rattle.protocol.specs.Steps.{messageAt}
+use Rattle.protocol.specs.Calls.{Call, deliver, refusal, Effects, effects, effect, pick, step}
+use Rattle.protocol.proofs.Refusals.{Expected, accepted-deliver}
+use Rattle.protocol.proofs.Sorts.{withViews, Apart, Sort, reads, writes, delivers, apart}
+use Rattle.protocol.proofs.Sorts.{sort}
+use Rattle.protocol.proofs.Keeps.{valid-views, keeps}
+use Rattle.protocol.proofs.Valid.{valid-fresh}
+use Rattle.protocol.proofs.Ranges.Values.{IsClient}
+use Rattle.protocol.proofs.Ranges.Tables.{Valid, valid-facts}
+use Rattle.condition3.proofs.Sound.{Ledger, GoodEntry, Fits, Sound, SoundBy, distinct}
+use Rattle.condition3.proofs.Sound.Carry.{owner-client}
+use Rattle.condition3.proofs.Sound.Delivery.{Taken, taken, awaited-in}
+use Rattle.condition3.proofs.Sound.Staying.{afterDelivery}
+use Rattle.condition3.proofs.Sound.DeliverPrepare.{sound-prepare}
+use Rattle.condition3.proofs.Sound.DeliverPrepared.{sound-prepared}
+use Rattle.condition3.proofs.Sound.DeliverCommit.{sound-commit}
+use Rattle.condition3.proofs.Sound.DeliverGet.{sound-get}
+use Rattle.condition3.proofs.Sound.DeliverGot.{sound-got}
+use Rattle.condition3.proofs.Sound.StartRead.{sound-read}
+use Rattle.condition3.proofs.Sound.StartWrite.{entered, sound-write}
+use Rattle.condition3.proofs.Common.{isFor, by-side}
+
+-- ---- fresh tables
+
+abbrev pub blank : Ledger
+blank = record { set = λ s. 0; value = λ s k. 0 }
+
+pub sound-fresh : (caps : Capacities) (z : Sizes) → sizesInRange z ≡ true
+    → SoundBy caps blank (fresh z)
+unfolding counted distinct
+sound-fresh caps z ok =
+    let entry : (k : ℕ) → GoodEntry blank [] k initial =
+    λ k. record {
+      good = record {
+        mine = refl;
+        whole = λ j e. not-both e (has-empty j);
+      };
+      agrees = refl;
+    } in
+    record {
+      valid = valid-facts caps (fresh z) (valid-fresh caps z ok);
+      noSet = refl;
+      noValue = λ k. refl;
+      view = λ d k i l. entry k;
+      latest = λ k l. entry k;
+      versions = λ v i. absurd i;
+      distinct = refl;
+      writes = λ d i m. absurd (m refl);
+      last = λ d i. tt;
+      one = by-side (λ σ. (d k : ℕ) → IsClient z d → counted (isFor σ d k) [] ≡ cond
+          (has (awaitedOf σ (resting 0 nothing)) k) 1 0)
+          (λ d k i. rw (has-empty k) refl) (λ d k i. rw (has-empty k) refl);
+      fits = λ m i. absurd i;
+    }
+
+-- ---- a call
+
+-- each write that begins enters the ledger
+abbrev pub ledgerAfter : Ledger → List WritePart → Ledger
+ledgerAfter L [] = L
+ledgerAfter L (p ∷ ps) = entered (ledgerAfter L ps) (p .stamp) (p .set) (p .values)
+
+module _ (caps : Capacities) (L : Ledger) (t : Tables) (sound : SoundBy caps L t) where
+  delivery : (i : ℕ) (m : Message) → Taken t i m → Valid caps (afterDelivery t i m)
+      → SoundBy caps L (afterDelivery t i m)
+  delivery i (Prepare v) taken ok = sound-prepare caps L t sound i v taken ok
+  delivery i (Prepared k s) taken ok = sound-prepared caps L t sound i k s taken ok
+  delivery i (Commit p s) taken ok = sound-commit caps L t sound i p s taken ok
+  delivery i (Get d k s) taken ok = sound-get caps L t sound i d k s taken ok
+  delivery i (Got d v latest) taken ok = sound-got caps L t sound i d v latest taken ok
+
+  -- a good entry of one client's view is one of another's
+  sound-views : (c : Call) (a : Apart t c) → SoundBy caps L (withViews t (a .view))
+  sound-views c a =
+      record {
+        valid = valid-views caps t c (sound .valid) a;
+        noSet = sound .noSet;
+        noValue = sound .noValue;
+        view = λ d k i l.
+            let from = a .taken d k i l in
+            subst (GoodEntry L (t .versions) k) (sym (from .2))
+            (sound .view (from .0) k (from .1) l);
+        latest = sound .latest;
+        versions = sound .versions;
+        distinct = sound .distinct;
+        writes = sound .writes;
+        last = sound .last;
+        one = sound .one;
+        fits = sound .fits;
+      }
+
+  sort-sound : {c : Call} → Sort caps t c → Valid caps (effects t c .tables)
+      → SoundBy caps (ledgerAfter L (effects t c .begins)) (effects t c .tables)
+  sort-sound (reads d s a) ok =
+      sound-read caps L t sound d s (a .client) (a .idle) (a .set) ok
+  sort-sound (writes d s bytes a) ok =
+      let start = a .start in
+      sound-write caps L t sound d s bytes (start .client) (start .idle) (start .set) ok
+  sort-sound (delivers i a) ok = delivery i (messageAt t i) (taken t i (a .place)) ok
+  sort-sound (apart c v a) ok =
+      subst (λ (x : Effects). SoundBy caps (ledgerAfter L (x .begins)) (x .tables)) (sym (a .does))
+      (sound-views c a)
+
+  pub sound-accepted : (c : Call) → refusal caps t c ≡ 0
+      → SoundBy caps (ledgerAfter L (effects t c .begins)) (effect t c)
+  unfolding effect
+  sound-accepted c e = sort-sound (sort caps t c e) (keeps caps t c e .valid)
+
+  -- accepted or refused
+  pub sound-step : (c : Call) → Sound caps (step caps t c .tables)
+  unfolding step
+  sound-step c = at (refusal caps t c) refl
+    where
+      at : (n : ℕ) → refusal caps t c ≡ n → Sound caps (pick n (effect t c) t)
+      at zero e = (ledgerAfter L (effects t c .begins), sound-accepted c e)
+      at (suc n) e = (L, sound)
+
+  -- ---- no delivery is refused by 11 or 12
+
+  expected : (m : Message) → In m (t .messages) → Expected t m
+  unfolding Fits
+  expected (Prepare v) here = sound .fits (Prepare v) here .unstored
+  expected (Prepared k s) here =
+      let fit = sound .fits (Prepared k s) here in
+      record {
+        awaited = awaited-in caps L t sound (Prepared k s) here ofWrite (writerOf s) k
+            (owner-client caps L t sound (Prepared k s) here)
+            (rw (eqb-same (writerOf s)) (eqb-same k));
+        stamp = fit .stamp;
+      }
+  expected (Commit p s) here = tt
+  expected (Get d k s) here =
+      let good = sound .fits (Get d k s) here .good in
+      λ n. ⊎-elim (λ e. absurd (n (eqb-true s 0 e))) (λ e. good .whole k e)
+      (or-cases (eqb s 0) (has (L .set s) k) (good .mine))
+  expected (Got d v latest) here =
+      let fit = sound .fits (Got d v latest) here in
+      record {
+        awaited = awaited-in caps L t sound (Got d v latest) here ofRead d (v .item)
+            (owner-client caps L t sound (Got d v latest) here)
+            (rw (eqb-same d) (eqb-same (v .item)));
+        stamp = fit .asked;
+      }
+
+  pub deliverable : (i : ℕ) → i < length (t .messages) → refusal caps t (deliver i) ≡ 0
+  deliverable i h =
+      accepted-deliver caps t i .1
+      (record {
+        valid = sound .valid;
+        place = h;
+        expected = expected (messageAt t i) (taken t i h .isIn);
+      })

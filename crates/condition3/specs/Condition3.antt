@@ -1,0 +1,200 @@
+-- Condition 3 of the tender: one claim about a list of calls, empty or as long as you like, made
+-- one after another from a world (freshly made tables are `begin`, specs/World.antt). Each clause
+-- of the condition is one field, with the clause's own words above it; document 01's line is an
+-- item here, its desk a client, its cabinet a partition. It is proved for all capacities, all sizes
+-- that refusal 2 allows and all lists: `condition-3`, proofs/Condition3.antt.
+use mathlib.Core.Bool.{true}
+use mathlib.Core.List.{List, [], _∷_, _++_, map}
+use mathlib.Core.Logic.{_⊎_, _↔_}
+use mathlib.Core.Path.{_≡_}
+use Prim.Native.Nat.{ℕ, _+_, _*_, _≤_, _<_}
+use lib.ListN.{length, take}
+use Rattle.basics.specs.Lists.{In, counted}
+use Rattle.hex.specs.Number.{numberAt, bigEndian}
+use Rattle.itemset.specs.Set.{has, count, rank}
+use Rattle.protocol.specs.declared.Answer.the-variants.{Shown}
+use Rattle.protocol.specs.Tables.{numberOf, writerOf}
+use Rattle.protocol.specs.Message.{ownerOf}
+use Rattle.protocol.specs.Range.{Capacities}
+use Rattle.protocol.specs.Steps.{nextStamp}
+use Rattle.protocol.specs.Calls.{Call, startRead, startWrite, deliver, show, refusal, step}
+use Rattle.condition3.specs.World.{World, Labelled, Write, Store, begun, storing, after}
+use Rattle.condition3.specs.World.{joiningOver, leavingOver, isRequest, isReply, isReplyFor}
+use Rattle.condition3.specs.World.{isReadMessage, outcomeIn, endsFor, stays, rests}
+
+-- ---- What a read of s shows of item k, in the output bytes of a showing
+
+-- number (4), writing client (1), value (4)
+
+abbrev pub shownNumber : ℕ → List ℕ → ℕ → ℕ
+shownNumber s output k = numberAt 4 output (10 + 9 * rank s k)
+
+abbrev pub shownWriter : ℕ → List ℕ → ℕ → ℕ
+shownWriter s output k = numberAt 1 output (14 + 9 * rank s k)
+
+abbrev pub shownValue : ℕ → List ℕ → ℕ → ℕ
+shownValue s output k = numberAt 4 output (15 + 9 * rank s k)
+
+-- 'An entry shown with number, desk and value 0 is initial'
+abbrev pub Initial : ℕ → List ℕ → ℕ → Type 0
+Initial s output k = (shownNumber s output k ≡ 0) × (shownWriter s output k ≡ 0)
+    × (shownValue s output k ≡ 0)
+
+-- item k is shown with this stamp
+abbrev pub ShownWith : ℕ → List ℕ → ℕ → ℕ → Type 0
+ShownWith s output k stamp = (shownNumber s output k ≡ numberOf stamp)
+    × (shownWriter s output k ≡ writerOf stamp)
+
+-- 'Older means an earlier stamp': the smaller number, or with equal numbers the smaller client
+abbrev pub ShownOlder : ℕ → List ℕ → ℕ → ℕ → Type 0
+ShownOlder s output k stamp =
+    (shownNumber s output k < numberOf stamp)
+    ⊎ ((shownNumber s output k ≡ numberOf stamp) × (shownWriter s output k < writerOf stamp))
+
+-- 'it is stored in all its cabinets once its own prepare of each of its lines has been delivered':
+-- before time t
+abbrev pub StoredBefore : List Store → Write → ℕ → Type 0
+StoredBefore stores a t = (j : ℕ) → has (a .set) j ≡ true → (σ : Store) × In σ stores
+    × (σ .start ≡ a .start) × (σ .item ≡ j) × (σ .time < t)
+
+-- 'The cabinet answers a line when the get behind its reply is delivered': a got joins at the
+-- delivery of its get
+abbrev pub answeredAt : Labelled → ℕ
+answeredAt reply = reply .label .since
+
+module _ (caps : Capacities) (w : World) where
+  -- ---- Transactions in a list of calls
+
+  -- accepted after the calls `before`, under way during the calls `during`, ended by the call `end`
+  pub record UnderWay (d : ℕ) (start : Call) (before during : List Call) : Type 0 where
+    pub accepted : refusal caps (after caps w before .tables) start ≡ 0
+    pub unended : stays caps (after caps w (before ++ start ∷ [])) d during ≡ true
+
+  pub record EndedBy (d : ℕ) (start : Call) (before during : List Call) (end : Call) : Type 0 where
+    pub underWay : UnderWay d start before during
+    pub ended : endsFor caps (after caps w (before ++ start ∷ during)) d end ≡ true
+
+  -- the world now, what joined and what was delivered, from the start of a read of s by client d
+  -- on, over the calls `during`
+  abbrev pub now : ℕ → ℕ → List Call → List Call → World
+  now d s before during = after caps w (before ++ startRead d s ∷ during)
+
+  abbrev pub sent : ℕ → ℕ → List Call → List Call → List Labelled
+  sent d s before during = joiningOver caps (after caps w before) (startRead d s ∷ during)
+
+  abbrev pub came : ℕ → ℕ → List Call → List Call → List Labelled
+  came d s before during = leavingOver caps (after caps w before) (startRead d s ∷ during)
+
+  -- an accepted call of the list adds x
+  abbrev pub AddedBy : {A : Type 0} → (World → Call → List A) → List Call → A → Type 0
+  AddedBy added calls x =
+      (before rest : List Call) × ((c : Call) × (calls ≡ before ++ c ∷ rest)
+      × (refusal caps (after caps w before .tables) c ≡ 0)
+      × In x (added (after caps w before) c))
+
+  -- ---- A read of s by client d that ended, shown into `room` after the calls `until`
+
+  abbrev pub shownAt : ℕ → ℕ → List Call → List Call → Call → List Call → World
+  shownAt d s before during end until =
+      after caps w (before ++ startRead d s ∷ during ++ end ∷ until)
+
+  abbrev pub output : ℕ → ℕ → List Call → List Call → Call → List Call → List ℕ → List ℕ
+  output d s before during end until room =
+      step caps (shownAt d s before during end until .tables) (show d room) .output
+
+  pub record Shows (calls : List Call) (d s : ℕ) (before during : List Call) (end : Call)
+      (until : List Call) (room : List ℕ) : Type 0 where
+    -- 'A read shows what a showing of its desk with room enough gives after its end and before the
+    -- desk's next start': it is accepted, and the frame's head is `21`, client, set
+    pub shown : step caps (shownAt d s before during end until .tables)
+        (show d room) .answer ≡ Shown (10 + 9 * count s)
+    pub head : take 10 (output d s before during end until room) ≡ 0x21 ∷ d ∷ bigEndian 8 s
+    -- 'wherever it shows an entry of a write that also wrote another line it shows, that other line
+    -- isn't shown older'
+    pub unfractured : (a : Write) → In a (after caps w calls .writes) → (j k : ℕ) → has s j ≡ true
+        → has s k ≡ true
+        → ShownWith s (output d s before during end until room) j (a .stamp) → has (a .set) j ≡ true
+        → has (a .set) k ≡ true
+        → ShownOlder s (output d s before during end until room) k (a .stamp) → ⊥
+    -- 'each entry that isn't initial is what a write in the list put on that line, and that write
+    -- was stored in all its cabinets before the cabinet answered the line'
+    pub written : (k : ℕ) → has s k ≡ true
+        → Initial s (output d s before during end until room) k
+        ⊎ ((a : Write) × In a (after caps w calls .writes)
+        × ShownWith s (output d s before during end until room) k (a .stamp)
+        × (has (a .set) k ≡ true) × (a .values k ≡ shownValue s
+        (output d s before during end until room) k)
+        × ((reply : Labelled) × In reply (came d s before (during ++ end ∷ []))
+        × (isReplyFor d k reply ≡ true)
+        × StoredBefore (after caps w calls .stores) a (answeredAt reply)))
+    -- 'no entry is older than a write of that line which the desk itself had ended before starting
+    -- the read'
+    pub own : (v : ℕ) (bytes : List ℕ) (earlier meanwhile : List Call) (finish : Call)
+        (later : List Call)
+        → before ≡ earlier ++ startWrite d v bytes ∷ meanwhile ++ finish ∷ later
+        → EndedBy d (startWrite d v bytes) earlier meanwhile finish
+        → (k : ℕ) → has s k ≡ true → has v k ≡ true
+        → ShownOlder s (output d s before during end until room) k
+        (nextStamp (after caps w earlier .tables) d) → ⊥
+
+  -- ---- The condition
+
+  pub record Condition3 (calls : List Call) : Type 0 where
+    -- 'each call gives the answer, output and tables that document 01's steps and refusal table
+    -- give': answers and outputs are `step`'s own, and the tables go on from call to call as `step`
+    -- leaves them
+    pub steps : (before rest : List Call) (c : Call) → calls ≡ before ++ c ∷ rest
+        → after caps w (before ++ c ∷ []) .tables ≡ step caps
+        (after caps w before .tables) c .tables
+    -- 'A message is of the desk whose start put it there, or of the same desk as the message whose
+    -- delivery did': the labelled messages are the tables' own, and a label's client is the one
+    -- that the message's own fields name
+    pub labels : (before rest : List Call) → calls ≡ before ++ rest
+        → (map (λ l. l .message) (after caps w before .inFlight) ≡ after caps w
+        before .tables .messages)
+        × ((l : Labelled) → In l (after caps w before .inFlight)
+        → l .label .client ≡ ownerOf (l .message))
+    -- the history's writes and stores are w's and those that accepted calls of the list add
+    pub history : (a : Write) → In a (after caps w calls .writes)
+        ↔ (In a (w .writes) ⊎ AddedBy begun calls a)
+    pub preparations : (σ : Store) → In σ (after caps w calls .stores)
+        ↔ (In σ (w .stores) ⊎ AddedBy storing calls σ)
+    -- 'after it every read of n lines has exactly one message in the pile for each line it awaits'
+    pub oneMessage : (before during rest : List Call) (d s : ℕ)
+        → calls ≡ before ++ startRead d s ∷ during ++ rest
+        → UnderWay d (startRead d s) before during
+        → (k : ℕ) → has s k ≡ true → counted (isReplyFor d k) (came d s before during) ≡ 0
+        → counted (isReadMessage d k) (now d s before during .inFlight) ≡ 1
+    -- 'the delivery of its n-th reply, and no other, reports it ended'
+    pub ends : (before during rest : List Call) (d s : ℕ) (c : Call)
+        → calls ≡ before ++ startRead d s ∷ during ++ c ∷ rest
+        → UnderWay d (startRead d s) before during
+        → (endsFor caps (now d s before during) d c ≡ true)
+        ↔ ((counted (isReply d) (came d s before during) < count s)
+        × (counted (isReply d) (came d s before (during ++ c ∷ [])) ≡ count s))
+    -- and none after it, up to the client's next accepted start
+    pub silent : (before during until rest : List Call) (d s : ℕ) (end : Call)
+        → calls ≡ before ++ startRead d s ∷ during ++ end ∷ until ++ rest
+        → EndedBy d (startRead d s) before during end
+        → rests caps (shownAt d s before during end []) d until ≡ true
+        → stays caps (shownAt d s before during end []) d until ≡ true
+    -- 'after exactly n requests and n replies', one for each line; its outcome is 01, a read ended
+    pub counts : (before during rest : List Call) (d s : ℕ) (end : Call)
+        → calls ≡ before ++ startRead d s ∷ during ++ end ∷ rest
+        → EndedBy d (startRead d s) before during end
+        → (counted (isRequest d) (sent d s before (during ++ end ∷ [])) ≡ count s)
+        × (counted (isReply d) (came d s before (during ++ end ∷ [])) ≡ count s)
+        × ((k : ℕ) → has s k ≡ true
+        → counted (isReplyFor d k) (came d s before (during ++ end ∷ [])) ≡ 1)
+        × (outcomeIn (step caps (now d s before during .tables) end .answer) ≡ 1)
+    -- what the read shows
+    pub shows : (before during until rest : List Call) (d s : ℕ) (end : Call) (room : List ℕ)
+        → calls ≡ before ++ startRead d s ∷ during ++ end ∷ until ++ show d room ∷ rest
+        → EndedBy d (startRead d s) before during end
+        → rests caps (shownAt d s before during end []) d until ≡ true
+        → 10 + 9 * count s ≤ length room
+        → Shows calls d s before during end until room
+    -- 'a delivery at any place within the pile is accepted'
+    pub deliverable : (before rest : List Call) → calls ≡ before ++ rest
+        → (i : ℕ) → i < length (after caps w before .tables .messages)
+        → refusal caps (after caps w before .tables) (deliver i) ≡ 0
