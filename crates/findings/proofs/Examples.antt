@@ -3,7 +3,7 @@
 use mathlib.Core.Bool.{Bool, true, false, _&&_}
 use mathlib.Core.List.{List, [], _∷_, _++_}
 use mathlib.Core.Path.{_≡_, refl}
-use Prim.Native.Nat.{ℕ, zero, suc}
+use Prim.Native.Nat.{ℕ}
 use lib.Count.{onesIn}
 use lib.Dec.{eqb}
 use Rattle.basics.specs.Lists.{all, counted, every}
@@ -16,23 +16,15 @@ use Rattle.log.specs.Some.{some, someFrom, firstFrom}
 use Rattle.log.specs.Log.{tooLong, linesOf, frameOf, written, writtenStamp, writeAt}
 use Rattle.log.specs.Log.{writtenValue, shown, shownStamp, shownValue, endOf, writeShaped, shaped}
 use Rattle.log.specs.Log.{readShaped, entriesWhole, reaches, malformed}
+use Rattle.log.proofs.Rows.{line, times}
 use Rattle.findings.specs.Findings.{wrote, isUnwritten, behind, fractures, outdates, holdsAt}
 use Rattle.findings.specs.Findings.{lowest, judged, checked, verdict, bytesOf, numberOf}
 use Rattle.findings.specs.declared.Verdict.the-variants.{TooLong, Malformed, Judged}
-
--- a line of n bytes, its digits as one number, most significant first
-line : ℕ → ℕ → List ℕ
-line n digits = hexText (bigEndian n digits) ++ 0x0a ∷ []
 
 record Row : Type 0 where
   log : List ℕ
   -- the verdict's bytes
   answer : List ℕ
-
--- n bytes alike
-times : ℕ → ℕ → List ℕ
-times zero c = []
-times (suc n) c = c ∷ times n c
 
 rows : List Row
 rows =

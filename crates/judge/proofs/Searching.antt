@@ -1,4 +1,5 @@
--- Laws that take a definition of the findings to the search for it.
+-- The findings as the judge searches for them, item by item of a read and write by write, and the
+-- laws that take a definition to such a search.
 use mathlib.Core.Bool.{Bool, true, false, _&&_, _||_}
 use mathlib.Core.List.{List, []}
 use mathlib.Core.Path.{_≡_, refl, sym, ap, ap₂, _∙_}
@@ -18,7 +19,21 @@ use Rattle.log.specs.Log.{clientOf, shown, shownStamp, shownValue}
 use Rattle.judge_frames.specs.Cut.{frameIn, framesIn}
 use Rattle.judge_frames.proofs.Cuts.{length-framesIn, framesIn-at, framesIn-take}
 use Rattle.judge_findings.specs.Tests.{faultsOf}
-use Rattle.judge.specs.Search.{findingOf, writeFault, itemFault}
+use Rattle.judge.specs.Search.{findingOf}
+
+module _ (bytes starts : List ℕ) where
+  -- line `write` has line `line` at fault at the item
+  unfoldable pub writeFault : ℕ → ℕ → ℕ → Bool
+  writeFault line item write =
+      let r = frameIn bytes starts line in
+      faultsOf r (clientOf r) item (shownStamp r item) (frameIn bytes starts write) (ltb write line)
+
+  -- line `line`, of n, shows the item and is at fault there
+  unfoldable pub itemFault : ℕ → ℕ → ℕ → Bool
+  itemFault n line item =
+      let r = frameIn bytes starts line in
+      has (shown r) item && (isUnwritten (framesIn bytes starts n) item (shownStamp r item)
+      (shownValue r item) || someFrom n 0 (writeFault line item))
 
 and-ors : (p a b d : Bool) → (p && (a || (b || d))) ≡ ((p && a) || ((p && b) || (p && d)))
 and-ors true a b d = refl
@@ -124,26 +139,29 @@ fault-search bytes starts n line h =
 module _ (bytes starts : List ℕ) (n line item : ℕ) (r : List ℕ)
     (here : r ≡ frameIn bytes starts line) where
   -- the item isn't shown
-  pub item-not : (items : ℕ) → items ≡ shown r → has items item ≡ false
+  pub item-not : (items : ℕ) → items ≡ shown r → (is : Bool) → is ≡ has items item → is ≡ false
       → itemFault bytes starts n line item ≡ false
   unfolding itemFault
-  item-not items e f = rw (← here, ← e, f)
+  item-not items e is h f = rw (← here, ← e, ← h, f)
 
   -- it is, and is unwritten
-  pub item-unwritten : (items stamp value : ℕ) → items ≡ shown r → has items item ≡ true
+  pub item-unwritten : (items stamp value : ℕ) → items ≡ shown r → (is : Bool)
+      → is ≡ has items item → is ≡ true
       → stamp ≡ shownStamp r item → value ≡ shownValue r item
-      → isUnwritten (framesIn bytes starts n) item stamp value ≡ true
+      → (un : Bool) → un ≡ isUnwritten (framesIn bytes starts n) item stamp value → un ≡ true
       → itemFault bytes starts n line item ≡ true
   unfolding itemFault
-  item-unwritten items stamp value e f s v u = rw (← here, ← e, f, ← s, ← v, u)
+  item-unwritten items stamp value e is h f s v un u t =
+      rw (← here, ← e, ← h, f, ← s, ← v, ← u, t)
 
   -- it is, and was written: what is left are the writes
-  pub item-writes : (items stamp value : ℕ) → items ≡ shown r → has items item ≡ true
+  pub item-writes : (items stamp value : ℕ) → items ≡ shown r → (is : Bool)
+      → is ≡ has items item → is ≡ true
       → stamp ≡ shownStamp r item → value ≡ shownValue r item
-      → isUnwritten (framesIn bytes starts n) item stamp value ≡ false
+      → (un : Bool) → un ≡ isUnwritten (framesIn bytes starts n) item stamp value → un ≡ false
       → itemFault bytes starts n line item ≡ someFrom n 0 (writeFault bytes starts line item)
   unfolding itemFault
-  item-writes items stamp value e f s v u = rw (← here, ← e, f, ← s, ← v, u)
+  item-writes items stamp value e is h f s v un u t = rw (← here, ← e, ← h, f, ← s, ← v, ← u, t)
 
   pub write-fault : (of stamp write : ℕ) (w : List ℕ) → of ≡ clientOf r → stamp ≡ shownStamp r item
       → w ≡ frameIn bytes starts write
@@ -158,25 +176,25 @@ module _ (bytes starts : List ℕ) (n line item : ℕ) (r : List ℕ) (h : line 
   frame-at : getD (framesIn bytes starts n) line [] ≡ r
   frame-at = framesIn-at bytes starts n line h ∙ sym here
 
-  pub finding-one : (stamp value : ℕ) → f ≡ 1 → stamp ≡ shownStamp r item
-      → value ≡ shownValue r item
-      → isUnwritten (framesIn bytes starts n) item stamp value ≡ findingOf f
-      (framesIn bytes starts n) line item
-  finding-one stamp value e s v = rw (e, frame-at, s, v)
+  pub finding-one : (b : Bool) (stamp value : ℕ)
+      → b ≡ isUnwritten (framesIn bytes starts n) item stamp value → f ≡ 1
+      → stamp ≡ shownStamp r item → value ≡ shownValue r item
+      → b ≡ findingOf f (framesIn bytes starts n) line item
+  finding-one b stamp value t e s v = t ∙ rw (e, frame-at, s, v)
 
-  pub finding-two : (stamp : ℕ) → f ≡ 2 → stamp ≡ shownStamp r item
-      → some (fractures r item stamp) (framesIn bytes starts n) ≡ findingOf f
-      (framesIn bytes starts n) line item
-  finding-two stamp e s = rw (e, frame-at, s)
+  pub finding-two : (b : Bool) (stamp : ℕ)
+      → b ≡ some (fractures r item stamp) (framesIn bytes starts n) → f ≡ 2
+      → stamp ≡ shownStamp r item → b ≡ findingOf f (framesIn bytes starts n) line item
+  finding-two b stamp t e s = t ∙ rw (e, frame-at, s)
 
-  pub finding-three : (of stamp : ℕ) → (f ≡ 1 → ⊥) → (f ≡ 2 → ⊥) → of ≡ clientOf r
-      → stamp ≡ shownStamp r item
-      → some (outdates of item stamp) (framesIn bytes starts line) ≡ findingOf f
-      (framesIn bytes starts n) line item
-  finding-three of stamp a b o s =
-      rw (
-        ne-eqb f 1 a,
-        ne-eqb f 2 b,
+  pub finding-three : (b : Bool) (of stamp : ℕ)
+      → b ≡ some (outdates of item stamp) (framesIn bytes starts line) → (f ≡ 1 → ⊥)
+      → (f ≡ 2 → ⊥) → of ≡ clientOf r → stamp ≡ shownStamp r item
+      → b ≡ findingOf f (framesIn bytes starts n) line item
+  finding-three b of stamp t one two o s =
+      t ∙ rw (
+        ne-eqb f 1 one,
+        ne-eqb f 2 two,
         frame-at,
         framesIn-take bytes starts n line
             (omega arith),
@@ -191,3 +209,7 @@ pub holds-search : (bytes starts : List ℕ) (n line f items : ℕ) → line < n
     (findingOf f) (framesIn bytes starts n) line
 unfolding holdsAt
 holds-search bytes starts n line f items h e = rw (framesIn-at bytes starts n line h, e)
+
+-- two tests of the code, joined, are the two that they answer
+pub both-tests : (a b p q v : Bool) → a ≡ p → b ≡ q → (a && b) ≡ v → (p && q) ≡ v
+both-tests a b p q v e f t = rw (← e, ← f) t

@@ -1,6 +1,5 @@
--- Frames that lie one after another in an array of bytes, cut at the starts that a second array
--- holds. A frame whose bounds are no part of the bytes is empty. Each definition is followed by its
--- laws.
+-- Laws of frames cut out of an array of bytes: a search over them, and what storing behind them
+-- leaves as it was.
 use mathlib.Core.Bool.{Bool, true, false}
 use mathlib.Core.List.{List, [], _∷_, _++_, append-assoc, append-nil}
 use mathlib.Core.Path.{_≡_, refl, sym, ap, ap₂, _∙_}

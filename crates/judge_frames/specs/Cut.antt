@@ -1,6 +1,5 @@
 -- Frames that lie one after another in an array of bytes, cut at the starts that a second array
--- holds. A frame whose bounds are no part of the bytes is empty. Each definition is followed by its
--- laws.
+-- holds. A frame whose bounds are no part of the bytes is empty.
 use mathlib.Core.Bool.{cond, _&&_}
 use mathlib.Core.List.{List, [], _∷_, _++_}
 use Prim.Native.Nat.{ℕ, zero, suc, _+_, _-_}

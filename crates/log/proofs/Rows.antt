@@ -18,7 +18,7 @@ use Rattle.log.specs.Log.{endOf, entriesWhole, readShaped, writeShaped, 
 use Rattle.log.specs.Log.{malformed, malformedAt, firstLine, tooLong}
 
 -- a line of n bytes, its digits as one number, most significant first
-line : ℕ → ℕ → List ℕ
+unfoldable pub line : ℕ → ℕ → List ℕ
 line n digits = hexText (bigEndian n digits) ++ 0x0a ∷ []
 
 -- ---- the first malformed line
@@ -188,7 +188,7 @@ rows =
 -- ---- the limits
 
 -- n bytes alike
-times : ℕ → ℕ → List ℕ
+unfoldable pub times : ℕ → ℕ → List ℕ
 times zero c = []
 times (suc n) c = c ∷ times n c
 

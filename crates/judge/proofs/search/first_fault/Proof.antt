@@ -10,7 +10,7 @@ use native.Mathlib.Nat.{sub-zero, le-antisymm}
 use native.Mathlib.Omega.{arith}
 use Rattle.judge_frames.specs.Cut.{framesIn}
 use Rattle.findings.specs.Findings.{faultAt}
-use Rattle.judge.specs.Search.{itemFault, writeFault}
+use Rattle.judge.proofs.Searching.{itemFault, writeFault}
 use Rattle.judge.proofs.Searching.{fault-search, item-not, item-unwritten, item-writes}
 use Rattle.judge.proofs.Searching.{write-fault}
 use Rattle.log.specs.Some.{someFrom, firstFrom}
@@ -119,7 +119,7 @@ not-shown c =
     let l = of-line (c .before .before) in
     item-not (bytes l) (starts l) (n l) (line l) (item (c .before .before)) _
     (l .before .before .frame .ensures) _ (l .before .shown2 .ensures)
-    (sym (c .before .has .ensures) ∙ c .if1 .left)
+    _ (c .before .has .ensures) (c .if1 .left)
 
 unwritten : (c : At tie.Then2) → itemFault
     (bytes (of-line (c .before .before .before .before .before .before)))
@@ -132,10 +132,10 @@ unwritten c =
     item-unwritten (bytes l) (starts l) (n l) (line l)
     (item (c .before .before .before .before .before .before)) _
     (l .before .before .frame .ensures) _ _ _ (l .before .shown2 .ensures)
-    (sym (c .before .before .before .before .before .has .ensures)
-    ∙ c .before .before .before .before .if1 .taken)
+    _ (c .before .before .before .before .before .has .ensures)
+    (c .before .before .before .before .if1 .taken)
     (c .before .before .before .shown-stamp .ensures) (c .before .before .shown-value .ensures)
-    (sym (c .before .is-unwritten .ensures) ∙ c .if2 .taken)
+    _ (c .before .is-unwritten .ensures) (c .if2 .taken)
 
 -- ---- the writes
 
@@ -152,10 +152,10 @@ module _ (c : At tie.Else2) where
       let l = of-line of-item in
       item-writes (bytes l) (starts l) (n l) (line l) (item of-item) _
       (l .before .before .frame .ensures) _ _ _ (l .before .shown2 .ensures)
-      (sym (c .before .before .before .before .before .has .ensures)
-      ∙ c .before .before .before .before .if1 .taken)
+      _ (c .before .before .before .before .before .has .ensures)
+      (c .before .before .before .before .if1 .taken)
       (c .before .before .before .shown-stamp .ensures) (c .before .before .shown-value .ensures)
-      (sym (c .before .is-unwritten .ensures) ∙ c .if2 .left)
+      _ (c .before .is-unwritten .ensures) (c .if2 .left)
 
 no-writes : (c : At tie.After-writes)
     → itemFault (bytes (of-line (of-item (c .before .before))))

@@ -1,5 +1,4 @@
 -- `judge::search::holds` meets its contract.
-use mathlib.Core.Path.{_∙_}
 use Rattle.judge.proofs.Searching.{finding-one, finding-two, finding-three}
 use borrow.Author.Needs.{needs}
 use Rattle.judge.proofs.search.holds.Statement.{statement}
@@ -20,9 +19,9 @@ is-unwritten-requires c κs = search needs
 returns : tie.Need-returns
 returns c =
     let s = c .before .before .before .before .before .before .before .before in
-    c .is-unwritten .ensures
-    ∙ finding-one _ _ (s .args .n) _ (s .args .item) _ (s .pre .1)
-    (c .before .before .before .before .frame .ensures) _ _ _ (c .before .before .if1 .taken)
+    finding-one _ _ (s .args .n) _ (s .args .item) _ (s .pre .1)
+    (c .before .before .before .before .frame .ensures) _ _ _ _ (c .is-unwritten .ensures)
+    (c .before .before .if1 .taken)
     (c .before .before .before .shown-stamp .ensures) (c .before .shown-value .ensures)
 
 is-fractured-requires : tie.Need-is-fractured-requires
@@ -31,9 +30,9 @@ is-fractured-requires c κs = search needs
 returns-2 : tie.Need-returns-2
 returns-2 c =
     let s = c .before .before .before .before .before .before .before .before in
-    c .is-fractured .ensures
-    ∙ finding-two _ _ (s .args .n) _ (s .args .item) _ (s .pre .1)
-    (c .before .before .before .before .frame .ensures) _ _ (c .before .if2 .taken)
+    finding-two _ _ (s .args .n) _ (s .args .item) _ (s .pre .1)
+    (c .before .before .before .before .frame .ensures) _ _ _ (c .is-fractured .ensures)
+    (c .before .if2 .taken)
     (c .before .before .before .shown-stamp .ensures)
 
 client-requires : tie.Need-client-requires
@@ -45,9 +44,8 @@ is-missed-requires c κs = search needs
 returns-3 : tie.Need-returns-3
 returns-3 c =
     let s = c .before .before .before .before .before .before .before .before .before in
-    c .is-missed .ensures
-    ∙ finding-three _ _ (s .args .n) _ (s .args .item) _ (s .pre .1)
-    (c .before .before .before .before .before .frame .ensures) _ _ _
+    finding-three _ _ (s .args .n) _ (s .args .item) _ (s .pre .1)
+    (c .before .before .before .before .before .frame .ensures) _ _ _ _ (c .is-missed .ensures)
     (c .before .before .before .if1 .left) (c .before .before .if2 .left)
     (c .before .client .ensures .0)
     (c .before .before .before .before .shown-stamp .ensures)

@@ -1,13 +1,13 @@
 -- `judge::search::holds_at` meets its contract. The invariant: what is left from item k on decides
 -- as the whole does. The measure is what is left.
-use mathlib.Core.Path.{_≡_, refl, sym, ap, ap₂, _∙_}
+use mathlib.Core.Path.{_≡_, refl, sym, ap, _∙_}
 use mathlib.Core.Bool.{_&&_}
 use Prim.Native.Nat.{_-_}
 use Rattle.itemset.specs.Set.{has}
 use Rattle.judge_frames.specs.Cut.{framesIn}
 use Rattle.log.specs.Log.{shown}
 use Rattle.judge.specs.Search.{findingOf}
-use Rattle.judge.proofs.Searching.{holds-search}
+use Rattle.judge.proofs.Searching.{both-tests, holds-search}
 use Rattle.log.specs.Some.{someFrom}
 use Rattle.log.proofs.Some.{someFrom-here, someFrom-next, someFrom-end}
 use borrow.Author.Needs.{needs}
@@ -41,8 +41,8 @@ returns : tie.Need-returns Inv-loop μ-loop
 returns c =
     let s = c .before .before .before .before .before .before .before .before .before .before in
     sym (someFrom-here 64 _ _ (c .before .before .before .loop-test .taken)
-    (ap₂ _&&_ (sym (c .before .before .has .ensures)) (sym (c .before .holds .ensures))
-    ∙ c .if1 .taken))
+    (both-tests _ _ _ _ _ (c .before .before .has .ensures) (c .before .holds .ensures)
+    (c .if1 .taken)))
     ∙ c .before .before .before .before .loop .inv
     ∙ holds-search (s .args .bytes .now) (s .args .starts .now) (s .args .n) (s .args .line)
     (s .args .finding) _ (s .pre .1)
@@ -58,8 +58,8 @@ loop-less c = search needs
 loop-again : tie.Need-loop-again Inv-loop μ-loop
 loop-again c =
     sym (someFrom-next 64 _ _ (c .before .before .before .loop-test .taken)
-    (ap₂ _&&_ (sym (c .before .before .has .ensures)) (sym (c .before .holds .ensures))
-    ∙ c .if1 .left))
+    (both-tests _ _ _ _ _ (c .before .before .has .ensures) (c .before .holds .ensures)
+    (c .if1 .left)))
     ∙ c .before .before .before .before .loop .inv
 
 returns-2 : tie.Need-returns-2 Inv-loop μ-loop
