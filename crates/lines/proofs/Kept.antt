@@ -5,9 +5,11 @@ use mathlib.Core.Path.{_≡_, refl, sym, ap, _∙_}
 use Prim.Native.Nat.{ℕ, zero, suc, _+_, _≤_, _<_}
 use native.Mathlib.Numerals.{add-one}
 use native.Mathlib.Omega.{arith}
-use lib.Dec.{eqb}
+use lib.Dec.{eqb, ltb}
 use lib.ListN.{length, take, set, length-append, length-set}
-use lib.Seq.{sets, take-all, take-suc-set, take-append-le, length-take-le}
+use lib.Seq.{sets, set-out, take-all, take-suc-set, take-append-le, length-take-le}
+use borrow.Author.Tests.{ltb-true, ltb-false}
+use Rattle.basics.proofs.Cases.{by-test}
 use Rattle.lines.specs.Input.{joined, keptAfter, byteReply, byteBlock, endReply, endBlock}
 use Rattle.lines.specs.Lines.{lineReply, lineBlock}
 
@@ -35,6 +37,17 @@ module _ (line : List ℕ) (at c : ℕ) (wide : length line ≡ 534) where
 
   pub length-full : 534 ≤ at → 534 ≡ length (joined (take at line) c)
   length-full h = sym (length-take-le 534 line (omega arith)) ∙ ap length (joined-full h)
+
+  pub joined-set : take (length (joined (take at line) c)) (set line at c) ≡ joined (take at line) c
+  joined-set =
+      by-test (ltb at 534)
+      (λ e.
+      let h : at < 534 = ltb-true at 534 e in
+      ap (λ (n : ℕ). take n (set line at c)) (sym (length-short h)) ∙ joined-short h)
+      (λ e.
+      let h : 534 ≤ at = ltb-false at 534 e in
+      ap (λ (n : ℕ). take n (set line at c)) (sym (length-full h))
+      ∙ ap (take 534) (set-out line at c (omega arith)) ∙ joined-full h)
 
 -- ---- a line is answered
 

@@ -2,4 +2,6 @@
 mod Calls
 pub mod Unmade
 mod Kept
+pub mod Feeding
 pub mod Whole
+mod Examples

@@ -1,4 +1,4 @@
--- Before an accepted `01` (document 01: frames): on a block of zeros, however long, every
+-- Before an accepted `01` (document 01: store frames): on a block of zeros, however long, every
 -- well-formed frame but an `01` answers 01, and a malformed line 0f, and neither changes a word;
 -- nor does an `01` that isn't accepted. A size of 0 is out of range, so that such a block is
 -- refused by 1.
@@ -21,11 +21,11 @@ use Rattle.layout.specs.Store.{freshBlock}
 use Rattle.range.specs.Sized.{sizes}
 use Rattle.block_calls.specs.Calls.{freshRefusalOn, freshAnswerOn, freshAfter, refusalOn, answerOn}
 use Rattle.block_calls.specs.Calls.{blockAfter}
-use Rattle.frames.specs.declared.StoreFrame.the-variants.{Fresh, Read, Write, Deliver, Show}
-use Rattle.frames.specs.declared.Parsed.{Parsed}
-use Rattle.frames.specs.declared.Parsed.the-variants.{Frame, Malformed}
-use Rattle.frames.specs.Answers.{answerLine}
-use Rattle.frames.specs.Frames.{frameBytes, frameOf}
+use Rattle.store_frames.specs.declared.StoreFrame.the-variants.{Fresh, Read, Write, Deliver, Show}
+use Rattle.store_frames.specs.declared.Parsed.{Parsed}
+use Rattle.store_frames.specs.declared.Parsed.the-variants.{Frame, Malformed}
+use Rattle.store_frames.specs.Answers.{answerLine}
+use Rattle.store_frames.specs.StoreFrames.{frameBytes, storeFrameOf}
 use Rattle.lines.specs.Input.{linesBlock}
 use Rattle.lines.specs.Lines.{callAnswer, callBlock, parsedAnswer, parsedBlock, blank}
 use Rattle.lines.specs.Lines.{lineAnswer, lineBlock, lineReply}
@@ -92,16 +92,16 @@ module _ (b : List ℕ) (zeros : Zeros b) where
   unmade-parsed f o (Frame (Show client) n) h = kept _
 
   unmade-line : (line : List ℕ) → (lineAnswer b line ≡ Made → ⊥) → lineBlock b line ≡ b
-  unmade-line line h = unmade-parsed (frameBytes line) blank (frameOf line) h
+  unmade-line line h = unmade-parsed (frameBytes line) blank (storeFrameOf line) h
 
   -- 01 and 0a
-  pub unmade-reply : (line : List ℕ) → isOther (frameOf line) ≡ true
+  pub unmade-reply : (line : List ℕ) → isOther (storeFrameOf line) ≡ true
       → lineReply b line ≡ 0x30 ∷ 0x31 ∷ 0x0a ∷ []
   unfolding answerLine bytesOfAnswer bigEndian hexText hexDigit
-  unmade-reply line e = rw (other-answer (frameBytes line) blank (frameOf line) e)
+  unmade-reply line e = rw (other-answer (frameBytes line) blank (storeFrameOf line) e)
 
-  pub unmade-block : (line : List ℕ) → isOther (frameOf line) ≡ true → lineBlock b line ≡ b
-  unmade-block line e = other-block (frameBytes line) blank (frameOf line) e
+  pub unmade-block : (line : List ℕ) → isOther (storeFrameOf line) ≡ true → lineBlock b line ≡ b
+  unmade-block line e = other-block (frameBytes line) blank (storeFrameOf line) e
 
 -- none of the lines is an accepted `01`
 abbrev pub NoneMade : List ℕ → List (List ℕ) → Type 0
@@ -119,11 +119,11 @@ unmade-lines b zeros (line ∷ lines) h =
     ∙ unmade-lines b zeros lines (subst (λ (w : List ℕ). NoneMade w lines) same (h .1))
 
 -- 0f and 0a, on any block
-pub malformed-reply : (b line : List ℕ) → frameOf line ≡ Malformed
+pub malformed-reply : (b line : List ℕ) → storeFrameOf line ≡ Malformed
     → lineReply b line ≡ 0x30 ∷ 0x66 ∷ 0x0a ∷ []
 unfolding parsedAnswer answerLine bytesOfAnswer bigEndian hexText hexDigit
 malformed-reply b line e = rw e
 
-pub malformed-block : (b line : List ℕ) → frameOf line ≡ Malformed → lineBlock b line ≡ b
+pub malformed-block : (b line : List ℕ) → storeFrameOf line ≡ Malformed → lineBlock b line ≡ b
 unfolding parsedBlock
 malformed-block b line e = rw e

@@ -1,18 +1,22 @@
--- The replies to the bytes of an input, one at a time, are the replies to its lines: what is kept
--- of a line gets the reply of the line, since both are malformed where they differ.
+-- The replies to the bytes of an input, one at a time, are the replies to its lines, and the block
+-- after them is that of its lines: what is kept of a line gets the reply of the line, since both
+-- are malformed where they differ.
+use mathlib.Core.Bool.{true, false}
 use mathlib.Core.List.{List, [], _∷_, _++_, append-nil}
 use mathlib.Core.Path.{_≡_, refl, sym, ap, ap₂, _∙_}
 use Prim.Native.Nat.{ℕ, _<_}
 use native.Mathlib.Omega.{arith}
 use lib.Dec.{eqb, leb}
-use lib.ListN.{length, take}
+use lib.ListN.{length, take, length-set}
 use lib.Seq.{take-all, take-take, take-append-le, length-take-le}
 use borrow.Author.Tests.{leb-true, leb-false}
 use Rattle.basics.proofs.Cases.{by-test}
-use Rattle.frames.proofs.Reading.{frameOf-long}
+use Rattle.store_frames.proofs.Reading.{storeFrameOf-long}
 use Rattle.lines.specs.Input.{lastLine, linesFrom, linesOf, repliesTo, joined, keptAfter}
-use Rattle.lines.specs.Input.{byteReply, byteBlock, endReply, inputReply}
+use Rattle.lines.specs.Input.{byteReply, byteBlock, endReply, endBlock, inputReply}
+use Rattle.lines.specs.Input.{linesBlock, Lent, lent, keptOf, fed, fedAll, closed}
 use Rattle.lines.specs.Lines.{lineReply, lineBlock}
+use Rattle.lines.proofs.Kept.{joined-set}
 use Rattle.lines.proofs.Unmade.{malformed-reply, malformed-block}
 
 -- ---- a line, and what is kept of it
@@ -27,8 +31,8 @@ module _ (line : List ℕ) where
       (λ e. ap (lineReply b) (take-all 534 line (leb-true (length line) 534 e)))
       (λ e.
       let h : 534 < length line = leb-false (length line) 534 e in
-      malformed-reply b (take 534 line) (frameOf-long (take 534 line) (cut-length h))
-      ∙ sym (malformed-reply b line (frameOf-long line (omega arith))))
+      malformed-reply b (take 534 line) (storeFrameOf-long (take 534 line) (cut-length h))
+      ∙ sym (malformed-reply b line (storeFrameOf-long line (omega arith))))
 
   kept-block : (b : List ℕ) → lineBlock b (take 534 line) ≡ lineBlock b line
   kept-block b =
@@ -36,8 +40,8 @@ module _ (line : List ℕ) where
       (λ e. ap (lineBlock b) (take-all 534 line (leb-true (length line) 534 e)))
       (λ e.
       let h : 534 < length line = leb-false (length line) 534 e in
-      malformed-block b (take 534 line) (frameOf-long (take 534 line) (cut-length h))
-      ∙ sym (malformed-block b line (frameOf-long line (omega arith))))
+      malformed-block b (take 534 line) (storeFrameOf-long (take 534 line) (cut-length h))
+      ∙ sym (malformed-block b line (storeFrameOf-long line (omega arith))))
 
 joined-kept : (s : List ℕ) (c : ℕ) → joined (take 534 s) c ≡ joined s c
 joined-kept s c =
@@ -76,3 +80,59 @@ from (c ∷ input) b begun =
 -- whatever the input and the block
 pub whole-input : (b input : List ℕ) → inputReply b [] input ≡ repliesTo b (linesOf input)
 whole-input b input = from input b []
+
+-- ---- on what the driver lends
+
+kept-fed : (s : Lent) (c : ℕ) → length (s .line) ≡ 534 → keptOf (fed s c) ≡ keptAfter (keptOf s) c
+unfolding fed keptAfter
+kept-fed s c wide =
+    by-test (eqb c 0x0a) (λ e. rw e) (λ e. rw e (joined-set (s .line) (s .at) c wide))
+
+wide-fed : (s : Lent) (c : ℕ) → length (s .line) ≡ 534 → length (fed s c .line) ≡ 534
+unfolding fed
+wide-fed s c wide = length-set (s .line) (s .at) c ∙ wide
+
+ended-block : (b begun : List ℕ) → endBlock b (take 534 begun) ≡ linesBlock b (lastLine begun)
+unfolding endBlock linesBlock lastLine
+ended-block b [] = refl
+ended-block b (x ∷ begun) = kept-block (x ∷ begun) b
+
+-- a byte that ends a line, and any other
+module _ (s : Lent) (c : ℕ) (begun : List ℕ) (k : keptOf s ≡ take 534 begun) where
+  here : joined (keptOf s) c ≡ take 534 (begun ++ c ∷ [])
+  here = ap (λ (l : List ℕ). joined l c) k ∙ joined-kept begun c
+
+  ends : eqb c 0x0a ≡ true → (keptAfter (keptOf s) c ≡ [])
+      × (fed s c .block ≡ lineBlock (s .block) (begun ++ c ∷ []))
+  unfolding keptAfter fed byteBlock
+  ends e =
+      rw e (refl, ap (lineBlock (s .block)) here ∙ kept-block (begun ++ c ∷ []) (s .block))
+
+  goes-on : eqb c 0x0a ≡ false → (keptAfter (keptOf s) c ≡ take 534 (begun ++ c ∷ []))
+      × (fed s c .block ≡ s .block)
+  unfolding keptAfter fed byteBlock
+  goes-on e = rw e (here, refl)
+
+from-block : (input : List ℕ) (s : Lent) (begun : List ℕ) → length (s .line) ≡ 534
+    → keptOf s ≡ take 534 begun → closed (fedAll s input) .block ≡ linesBlock (s .block)
+    (linesFrom begun input)
+unfolding fedAll closed linesFrom linesBlock
+from-block [] s begun wide k = ap (endBlock (s .block)) k ∙ ended-block (s .block) begun
+from-block (c ∷ input) s begun wide k =
+    let line = begun ++ c ∷ [] in
+    by-test (eqb c 0x0a)
+    (λ e.
+    let f = ends s c begun k e in
+    rw e
+    (from-block input (fed s c) [] (wide-fed s c wide) (kept-fed s c wide ∙ f .0)
+    ∙ ap (λ (w : List ℕ). linesBlock w (linesFrom [] input)) (f .1)))
+    (λ e.
+    let f = goes-on s c begun k e in
+    rw e
+    (from-block input (fed s c) line (wide-fed s c wide) (kept-fed s c wide ∙ f .0)
+    ∙ ap (λ (w : List ℕ). linesBlock w (linesFrom line input)) (f .1)))
+
+-- after all bytes and the end, the block is that of the lines, one after another
+pub whole-block : (b line output input : List ℕ) → length line ≡ 534
+    → closed (fedAll (lent b line 0 output) input) .block ≡ linesBlock b (linesOf input)
+whole-block b line output input wide = from-block input (lent b line 0 output) [] wide refl

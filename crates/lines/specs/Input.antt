@@ -5,7 +5,8 @@ use mathlib.Core.Bool.{cond}
 use mathlib.Core.List.{List, [], _∷_, _++_}
 use Prim.Native.Nat.{ℕ}
 use lib.Dec.{eqb}
-use lib.ListN.{take}
+use lib.ListN.{length, take, set}
+use lib.Seq.{sets}
 use Rattle.lines.specs.Lines.{lineReply, lineBlock}
 
 -- ---- the whole input
@@ -65,3 +66,45 @@ unfoldable pub inputReply : List ℕ → List ℕ → List ℕ → List ℕ
 inputReply b kept [] = endReply b kept
 inputReply b kept (c ∷ input) = byteReply b kept c ++ inputReply (byteBlock b kept c)
     (keptAfter kept c) input
+
+-- ---- byte by byte, on what the driver lends
+
+-- the block, the buffer of the line begun, how many of its bytes are kept, and the buffer of
+-- replies
+pub record Lent : Type 0 where
+  pub block : List ℕ
+  pub line : List ℕ
+  pub at : ℕ
+  pub output : List ℕ
+
+abbrev pub lent : List ℕ → List ℕ → ℕ → List ℕ → Lent
+lent block line at output = record { block = block; line = line; at = at; output = output }
+
+-- the bytes kept of the line begun
+abbrev pub keptOf : Lent → List ℕ
+keptOf s = take (s .at) (s .line)
+
+-- after one byte: what `feed` promises
+unfoldable pub fed : Lent → ℕ → Lent
+fed s c =
+    record {
+      block = byteBlock (s .block) (keptOf s) c;
+      line = set (s .line) (s .at) c;
+      at = length (keptAfter (keptOf s) c);
+      output = sets (s .output) 0 (byteReply (s .block) (keptOf s) c);
+    }
+
+-- after these bytes, in order
+unfoldable pub fedAll : Lent → List ℕ → Lent
+fedAll s [] = s
+fedAll s (c ∷ input) = fedAll (fed s c) input
+
+-- after the end of the input: what `end` promises, and no bytes are kept
+unfoldable pub closed : Lent → Lent
+closed s =
+    record {
+      block = endBlock (s .block) (keptOf s);
+      line = s .line;
+      at = 0;
+      output = sets (s .output) 0 (endReply (s .block) (keptOf s));
+    }

@@ -1,6 +1,6 @@
 -- What a line of the store's driver answers on a block, whatever the line and the words: the call
--- of its frame, 15 where it is malformed (document 01: frames). A showing writes into 586 bytes, as
--- many as the longest log frame has.
+-- of its frame, 15 where it is malformed (document 01: store frames). A showing writes into 586
+-- bytes, as many as the longest log frame has.
 use mathlib.Core.List.{List}
 use Prim.Native.Nat.{ℕ}
 use lib.ListN.{replicate}
@@ -9,12 +9,12 @@ use Rattle.protocol.specs.declared.Answer.the-variants.{Refused}
 use Rattle.protocol.specs.Calls.{startRead, startWrite, deliver, show}
 use Rattle.range.specs.Sized.{sizes}
 use Rattle.block_calls.specs.Calls.{freshAnswerOn, freshAfter, answerOn, outputOn, blockAfter}
-use Rattle.frames.specs.declared.StoreFrame.{StoreFrame}
-use Rattle.frames.specs.declared.StoreFrame.the-variants.{Fresh, Read, Write, Deliver, Show}
-use Rattle.frames.specs.declared.Parsed.{Parsed}
-use Rattle.frames.specs.declared.Parsed.the-variants.{Frame, Malformed}
-use Rattle.frames.specs.Answers.{answerLine}
-use Rattle.frames.specs.Frames.{frameBytes, frameOf, valueBytes}
+use Rattle.store_frames.specs.declared.StoreFrame.{StoreFrame}
+use Rattle.store_frames.specs.declared.StoreFrame.the-variants.{Fresh, Read, Write, Deliver, Show}
+use Rattle.store_frames.specs.declared.Parsed.{Parsed}
+use Rattle.store_frames.specs.declared.Parsed.the-variants.{Frame, Malformed}
+use Rattle.store_frames.specs.Answers.{answerLine}
+use Rattle.store_frames.specs.StoreFrames.{frameBytes, storeFrameOf, valueBytes}
 
 -- ---- the call of a frame, whose bytes are f, with this output lent
 
@@ -62,13 +62,13 @@ unfoldable pub blank : List ℕ
 blank = replicate 586 0
 
 abbrev pub lineAnswer : List ℕ → List ℕ → Answer
-lineAnswer b line = parsedAnswer b (frameBytes line) blank (frameOf line)
+lineAnswer b line = parsedAnswer b (frameBytes line) blank (storeFrameOf line)
 
 -- the block after it
 abbrev pub lineBlock : List ℕ → List ℕ → List ℕ
-lineBlock b line = parsedBlock b (frameBytes line) blank (frameOf line)
+lineBlock b line = parsedBlock b (frameBytes line) blank (storeFrameOf line)
 
 -- the line that answers it
 abbrev pub lineReply : List ℕ → List ℕ → List ℕ
 lineReply b line = answerLine (lineAnswer b line)
-    (parsedOutput b (frameBytes line) blank (frameOf line))
+    (parsedOutput b (frameBytes line) blank (storeFrameOf line))

@@ -1,13 +1,13 @@
-// A line of the store's driver: parsed, carried out on the block, and answered by a line (document 01: frames).
+// A line of the store's driver: parsed, carried out on the block, and answered by a line (document 01: store frames).
 pub mod input;
 
-use frames::Parsed;
-use frames::StoreFrame;
 use protocol::Answer;
+use store_frames::Parsed;
+use store_frames::StoreFrame;
 ghost use mathlib.Core.Path.{_≡_};
 ghost use lib.ListN.{length};
 ghost use lib.Seq.{sets};
-ghost use Rattle.frames.specs.Frames.{frameBytes, frameOf, parsed};
+ghost use Rattle.store_frames.specs.StoreFrames.{frameBytes, storeFrameOf, parsed};
 ghost use Rattle.lines.specs.Lines.{callAnswer, callBlock, callOutput, parsedAnswer, parsedBlock, parsedOutput, blank, lineReply, lineBlock};
 
 // The call of a frame, whose bytes are `f`. A write's values are those from byte 10 on.
@@ -46,12 +46,12 @@ fn blank_output() -> [u8; 586]
 
 // The call of a line's frame; 15 where the line is malformed.
 fn carry_out(b: &mut [u64], line: &[u8], shown: &mut [u8]) -> Answer
-    ensures { λ r. ⌜ r ≡ parsedAnswer (now (b .entry)) (frameBytes (now (line .entry))) (now (shown .entry)) (frameOf (now (line .entry))) ⌝ }
-    ensures { λ _. ⌜ now (b .exit) ≡ parsedBlock (now (b .entry)) (frameBytes (now (line .entry))) (now (shown .entry)) (frameOf (now (line .entry))) ⌝ }
-    ensures { λ _. ⌜ now (shown .exit) ≡ parsedOutput (now (b .entry)) (frameBytes (now (line .entry))) (now (shown .entry)) (frameOf (now (line .entry))) ⌝ }
+    ensures { λ r. ⌜ r ≡ parsedAnswer (now (b .entry)) (frameBytes (now (line .entry))) (now (shown .entry)) (storeFrameOf (now (line .entry))) ⌝ }
+    ensures { λ _. ⌜ now (b .exit) ≡ parsedBlock (now (b .entry)) (frameBytes (now (line .entry))) (now (shown .entry)) (storeFrameOf (now (line .entry))) ⌝ }
+    ensures { λ _. ⌜ now (shown .exit) ≡ parsedOutput (now (b .entry)) (frameBytes (now (line .entry))) (now (shown .entry)) (storeFrameOf (now (line .entry))) ⌝ }
 {
     let mut bytes = blank_frame();
-    let parsed = frames::read_frame(line, &mut bytes);
+    let parsed = store_frames::read_frame(line, &mut bytes);
     let Parsed::Frame { frame, length } = parsed else {
         return Answer::Refused(15);
     };
@@ -66,5 +66,5 @@ pub fn answer_line(b: &mut [u64], line: &[u8], output: &mut [u8; 1175]) -> usize
 {
     let mut shown = blank_output();
     let answer = carry_out(b, line, &mut shown);
-    frames::put_answer(answer, &shown, output)
+    store_frames::put_answer(answer, &shown, output)
 }

@@ -5,7 +5,7 @@ use mathlib.Core.Path.{ap, _∙_}
 use Prim.Native.Nat.{ℕ}
 use lib.ListN.{length}
 use lib.Seq.{sets}
-use Rattle.frames.specs.Frames.{frameBytes, frameOf}
+use Rattle.store_frames.specs.StoreFrames.{frameBytes, storeFrameOf}
 use Rattle.lines.specs.Lines.{parsedBlock}
 use Rattle.lines.proofs.Calls.{replied}
 use Rattle.lines.proofs.answer_line.Statement.{statement}
@@ -38,7 +38,7 @@ returns c =
       c .put-answer .ensures .0 ∙ ap length reply,
       (
         c .put-answer .ensures .1 ∙ ap (sets (a .output .now) 0) reply,
-        done .1 .0 ∙ ap (λ (x : List ℕ). parsedBlock b (frameBytes line) x (frameOf line))
+        done .1 .0 ∙ ap (λ (x : List ℕ). parsedBlock b (frameBytes line) x (storeFrameOf line))
             (made .ensures),
       ),
     )

@@ -8,9 +8,9 @@ use native.Mathlib.Omega.{arith}
 use lib.ListN.{length}
 use Rattle.protocol.specs.Calls.{startWrite}
 use Rattle.block_calls.specs.Calls.{answerOn, blockAfter}
-use Rattle.frames.specs.declared.StoreFrame.{StoreFrame}
-use Rattle.frames.specs.declared.Parsed.the-variants.{Frame}
-use Rattle.frames.proofs.Parsing.{parsed-write}
+use Rattle.store_frames.specs.declared.StoreFrame.{StoreFrame}
+use Rattle.store_frames.specs.declared.Parsed.the-variants.{Frame}
+use Rattle.store_frames.proofs.Parsing.{parsed-write}
 use Rattle.lines.specs.Lines.{callAnswer, callBlock, callOutput}
 use Rattle.lines.proofs.Calls.{rest-whole}
 use Rattle.lines.proofs.call.Statement.{statement}

@@ -8,11 +8,11 @@ use native.Mathlib.Nat.{sub-zero}
 use native.Mathlib.Omega.{arith}
 use lib.ListN.{length, take}
 use lib.Seq.{length-sets}
-use Rattle.frames.specs.declared.StoreFrame.{StoreFrame}
-use Rattle.frames.specs.declared.Parsed.the-variants.{Frame}
-use Rattle.frames.specs.Frames.{frameBytes, frameOf, parsed, storedBytes}
-use Rattle.frames.proofs.Parsing.{parsed-length}
-use Rattle.frames.proofs.Reading.{Stored, frame-stored, stored-front}
+use Rattle.store_frames.specs.declared.StoreFrame.{StoreFrame}
+use Rattle.store_frames.specs.declared.Parsed.the-variants.{Frame}
+use Rattle.store_frames.specs.StoreFrames.{frameBytes, storeFrameOf, parsed, storedBytes}
+use Rattle.store_frames.proofs.Parsing.{parsed-length}
+use Rattle.store_frames.proofs.Reading.{Stored, frame-stored, stored-front}
 use Rattle.lines.specs.Lines.{parsedAnswer, parsedBlock, parsedOutput}
 use Rattle.lines.proofs.Calls.{carried-answer, carried-block, carried-output}
 use Rattle.lines.proofs.carry_out.Statement.{statement}
@@ -39,7 +39,7 @@ module _ (p : tie.After-parsed) where
   abbrev n : ℕ
   n = p .parsed .given .0 .1 .0
 
-  is-frame : Frame frame n ≡ frameOf line
+  is-frame : Frame frame n ≡ storeFrameOf line
   is-frame = sym (p .parsed .given .1) ∙ p .before .before .read-frame .ensures .0
 
   stored : Stored line n

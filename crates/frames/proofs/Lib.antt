@@ -1,5 +1,0 @@
--- The proofs of `frames`, and the laws that they share.
-pub mod Parsing
-pub mod Reading
-mod Writing
-mod Examples

@@ -1,3 +1,0 @@
--- The definitions that the contracts of `frames` cite.
-pub mod Frames
-pub mod Answers

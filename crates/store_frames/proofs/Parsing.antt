@@ -1,0 +1,89 @@
+-- What a frame tells of the bytes that it was parsed from.
+use mathlib.Core.Bool.{true, false}
+use mathlib.Core.List.{List, []}
+use mathlib.Core.Path.{_≡_, refl, sym, subst}
+use Prim.Native.Nat.{ℕ, _+_, _*_, _≤_, _<_}
+use native.Mathlib.Omega.{arith}
+use lib.Dec.{eqb, leb}
+use lib.ListN.{length}
+use borrow.Author.Tests.{eqb-true, leb-true}
+use Rattle.basics.proofs.Cases.{by-test, and-left, and-right}
+use Rattle.store_frames.specs.declared.StoreFrame.{StoreFrame}
+use Rattle.store_frames.specs.declared.StoreFrame.the-variants.{Fresh, Read, Write, Deliver}
+use Rattle.store_frames.specs.declared.StoreFrame.the-variants.{Show}
+use Rattle.store_frames.specs.declared.Parsed.{Parsed}
+use Rattle.store_frames.specs.declared.Parsed.the-variants.{Frame, Malformed}
+use Rattle.store_frames.specs.StoreFrames.{kindOf, isStoreFrame, valuesIn, isWrite, parsed}
+
+-- ---- the tests
+
+pub isStoreFrame-length : (kind n : ℕ) (f : List ℕ) → isStoreFrame kind n f ≡ true → length f ≡ n
+isStoreFrame-length kind n f e = eqb-true (length f) n
+    (and-right (eqb (kindOf f) kind) (eqb (length f) n) e)
+
+pub isWrite-length : (f : List ℕ) → isWrite f ≡ true → (10 ≤ length f) × (length f ≤ 266)
+isWrite-length f e =
+    let n = 10 + 4 * valuesIn (length f) in
+    let shaped = and-left (isStoreFrame 0x03 n f) (leb (valuesIn (length f)) 64) e in
+    let few = leb-true (valuesIn (length f)) 64
+    (and-right (isStoreFrame 0x03 n f) (leb (valuesIn (length f)) 64) e) in
+    let long = isStoreFrame-length 0x03 n f shaped in
+    (omega arith, omega arith)
+
+isStoreFrame-other : (kind n : ℕ) (f : List ℕ) → (length f ≡ n → ⊥) → isStoreFrame kind n f ≡ false
+isStoreFrame-other kind n f h = by-test (isStoreFrame kind n f)
+    (λ e. absurd (h (isStoreFrame-length kind n f e)))
+    (λ e. e)
+
+isWrite-other : (f : List ℕ) → 266 < length f → isWrite f ≡ false
+isWrite-other f h =
+    by-test (isWrite f) (λ e. absurd (omega (arith, isWrite-length f e .1))) (λ e. e)
+
+-- ---- no frame
+
+pub parsed-none : parsed [] ≡ Malformed
+unfolding parsed
+parsed-none = refl
+
+-- more bytes than the longest frame has
+pub parsed-long : (f : List ℕ) → 266 < length f → parsed f ≡ Malformed
+unfolding parsed
+parsed-long f h =
+    rw (
+      isStoreFrame-other 0x01 4 f (λ e. omega arith),
+      isStoreFrame-other 0x02 10 f
+          (λ e. omega arith),
+      isWrite-other f h,
+      isStoreFrame-other 0x04 3 f
+          (λ e. omega arith),
+      isStoreFrame-other 0x05 2 f (λ e. omega arith),
+    )
+
+-- ---- a frame: its length is that of the bytes, and a write has kind, client and set before its values
+
+abbrev Headed : List ℕ → StoreFrame → Type 0
+Headed f (Fresh clients partitions items) = Unit
+Headed f (Read client s) = Unit
+Headed f (Write client s) = 10 ≤ length f
+Headed f (Deliver place) = Unit
+Headed f (Show client) = Unit
+
+abbrev Sized : List ℕ → Parsed → Type 0
+Sized f Malformed = Unit
+Sized f (Frame g n) = (n ≡ length f) × Headed f g
+
+parsed-sized : (f : List ℕ) → Sized f (parsed f)
+unfolding parsed
+parsed-sized f =
+    by-test (isStoreFrame 0x01 4 f) (λ a. rw a (refl, tt))
+    (λ a. by-test (isStoreFrame 0x02 10 f) (λ b. rw (a, b) (refl, tt))
+    (λ b. by-test (isWrite f) (λ c. rw (a, b, c) (refl, isWrite-length f c .0))
+    (λ c. by-test (isStoreFrame 0x04 3 f) (λ d. rw (a, b, c, d) (refl, tt))
+    (λ d. by-test (isStoreFrame 0x05 2 f) (λ e. rw (a, b, c, d, e) (refl, tt))
+    (λ e. rw (a, b, c, d, e) tt)))))
+
+pub parsed-length : (f : List ℕ) (g : StoreFrame) (n : ℕ) → Frame g n ≡ parsed f → n ≡ length f
+parsed-length f g n e = subst (Sized f) (sym e) (parsed-sized f) .0
+
+pub parsed-write : (f : List ℕ) (d s n : ℕ) → Frame (Write d s) n ≡ parsed f → 10 ≤ length f
+parsed-write f d s n e = subst (Sized f) (sym e) (parsed-sized f) .1

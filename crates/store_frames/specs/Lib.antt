@@ -1,0 +1,3 @@
+-- The definitions that the contracts of `store_frames` cite.
+pub mod StoreFrames
+pub mod Answers
