@@ -50,6 +50,7 @@ pub extern "C" fn koolvent_start_write(b: &mut [u64], client: u64, set: u64, val
     ensures answer { λ r. ⌜ r ≡ numberOfAnswer (answerOn (now (b .entry)) (startWrite client set (now (values .entry)))) ⌝ }
     ensures block { λ _. ⌜ now (b .exit) ≡ blockAfter (now (b .entry)) (startWrite client set (now (values .entry))) ⌝ }
     ensures tables { λ _. ⌜ tablesOf (now (b .exit)) ≡ tablesAfter (now (b .entry)) (startWrite client set (now (values .entry))) ⌝ }
+    ensures values { λ _. ⌜ now (values .exit) ≡ now (values .entry) ⌝ }
 {
     number_of(calls::start_write(b, client, set, values))
 }

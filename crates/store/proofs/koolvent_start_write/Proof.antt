@@ -1,5 +1,5 @@
 -- `store::koolvent_start_write` meets its contract: the number of the call's answer.
-use mathlib.Core.Path.{sym, ap, subst, _∙_}
+use mathlib.Core.Path.{refl, sym, ap, subst, _∙_}
 use borrow.Author.Needs.{needs}
 use Rattle.protocol.specs.Calls.{numberOfAnswer}
 use Rattle.block_calls.specs.Calls.{Fits}
@@ -19,7 +19,7 @@ same-length c = search needs
 
 returns : tie.Need-returns
 returns c = let x = c .before .before .before .start-write .ensures in
-    (c .number-of .ensures ∙ ap numberOfAnswer (x .0), (x .1 .0, x .1 .1))
+    (c .number-of .ensures ∙ ap numberOfAnswer (x .0), (x .1 .0, (x .1 .1, refl)))
 
 pub koolvent-start-write-spec : {M : Type 1} → statement M
 koolvent-start-write-spec =
