@@ -59,7 +59,7 @@ parsed-long f h =
       isStoreFrame-other 0x05 2 f (λ e. omega arith),
     )
 
--- ---- a frame: its length is that of the bytes, and a write has kind, client and set before its values
+-- ---- a frame: its length is that of the bytes, and a write has ten bytes before its values
 
 abbrev Headed : List ℕ → StoreFrame → Type 0
 Headed f (Fresh clients partitions items) = Unit

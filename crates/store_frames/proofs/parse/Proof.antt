@@ -129,25 +129,29 @@ is-frame-requires-4 : tie.Need-is-frame-requires-4
 is-frame-requires-4 c κs = search needs
 
 number-at-requires-9 : tie.Need-number-at-requires-9
-number-at-requires-9 c κs = omega (
-  arith,
-  isStoreFrame-length 5 2
-      (c .before .before .before .before .before .before .before .before .before .before .before .args .f .now) (sym (c .before .is-frame4 .ensures) ∙ c .if5 .taken),
-)
+number-at-requires-9 c κs =
+    let fourth = c .before .before .before in
+    let a = fourth .before .before .before .before .before .before .before .before .args in
+    omega (
+      arith,
+      isStoreFrame-length 5 2 (a .f .now) (sym (c .before .is-frame4 .ensures) ∙ c .if5 .taken),
+    )
 
 returns-5 : tie.Need-returns-5
 unfolding parsed
-returns-5 c = rw (
-  sym
-      (c .before .before .before .before .before .before .before .before .before .before .is-frame .ensures) ∙ c .before .before .before .before .before .before .before .before .before .if1 .left,
-  sym (c .before .before .before .before .before .before .before .before .is-frame2 .ensures)
-      ∙ c .before .before .before .before .before .before .before .if2 .left,
-  sym (c .before .before .before .before .before .before .is-write .ensures)
-      ∙ c .before .before .before .before .before .if3 .left,
-  sym (c .before .before .before .before .is-frame3 .ensures)
-      ∙ c .before .before .before .if4 .left,
-  sym (c .before .before .is-frame4 .ensures) ∙ c .before .if5 .taken,
-) (cc)
+returns-5 c =
+    let third = c .before .before .before .before .before in
+    rw (
+      sym (third .before .before .before .before .before .is-frame .ensures)
+          ∙ third .before .before .before .before .if1 .left,
+      sym (c .before .before .before .before .before .before .before .before .is-frame2 .ensures)
+          ∙ c .before .before .before .before .before .before .before .if2 .left,
+      sym (c .before .before .before .before .before .before .is-write .ensures)
+          ∙ c .before .before .before .before .before .if3 .left,
+      sym (c .before .before .before .before .is-frame3 .ensures)
+          ∙ c .before .before .before .if4 .left,
+      sym (c .before .before .is-frame4 .ensures) ∙ c .before .if5 .taken,
+    ) (cc)
 
 returns-6 : tie.Need-returns-6
 unfolding parsed

@@ -68,54 +68,63 @@ same-length : tie.Need-same-length
 same-length c = search needs
 
 returns : tie.Need-returns
-returns c = written
-    (c .before .before .before .before .before .before .before .before .before .args .out .now)
-    (answer-refused _
-    (c .before .before .before .before .before .before .before .before .before .args .shown .now)
-    ∙ sym (ap (λ (a : Answer). answerLine a
-    (c .before .before .before .before .before .before .before .before .before .args .shown .now)) (c .before .before .before .before .before .a .given .1))) (c .before .before .put-line .ensures)
+returns c =
+    let a = c .before .before .before .before .before .before .before .before .before .args in
+    let answer : Answer → List ℕ = λ x. answerLine x (a .shown .now) in
+    written (a .out .now)
+    (answer-refused _ (a .shown .now)
+    ∙ sym (ap answer (c .before .before .before .before .before .a .given .1)))
+    (c .before .before .put-line .ensures)
 
 same-length-2 : tie.Need-same-length-2
 same-length-2 c = search needs
 
 returns-2 : tie.Need-returns-2
-returns-2 c = written
-    (c .before .before .before .before .before .before .before .before .args .out .now)
-    (answer-made
-    (c .before .before .before .before .before .before .before .before .args .shown .now)
-    ∙ sym (ap (λ (a : Answer). answerLine a
-    (c .before .before .before .before .before .before .before .before .args .shown .now))
-    (c .before .before .before .before .enum-told .given .1)))
+returns-2 c =
+    let a = c .before .before .before .before .before .before .before .before .args in
+    let answer : Answer → List ℕ = λ x. answerLine x (a .shown .now) in
+    written (a .out .now)
+    (answer-made (a .shown .now)
+    ∙ sym (ap answer (c .before .before .before .before .enum-told .given .1)))
     (c .before .before .put-line2 .ensures)
 
 same-length-3 : tie.Need-same-length-3
 same-length-3 c = search needs
 
 returns-3 : tie.Need-returns-3
-returns-3 c = written
-    (c .before .before .before .before .before .before .before .before .before .args .out .now)
-    (answer-started _
-    (c .before .before .before .before .before .before .before .before .before .args .shown .now)
-    ∙ sym (ap (λ (a : Answer). answerLine a
-    (c .before .before .before .before .before .before .before .before .before .args .shown .now)) (c .before .before .before .before .before .a2 .given .1))) (c .before .before .put-line3 .ensures)
+returns-3 c =
+    let a = c .before .before .before .before .before .before .before .before .before .args in
+    let answer : Answer → List ℕ = λ x. answerLine x (a .shown .now) in
+    written (a .out .now)
+    (answer-started _ (a .shown .now)
+    ∙ sym (ap answer (c .before .before .before .before .before .a2 .given .1)))
+    (c .before .before .put-line3 .ensures)
 
 same-length-4 : tie.Need-same-length-4
 same-length-4 c = search needs
 
 returns-4 : tie.Need-returns-4
-returns-4 c = written
-    (c .before .before .before .before .before .before .before .before .before .args .out .now)
-    (answer-delivered _ _ _
-    (c .before .before .before .before .before .before .before .before .before .args .shown .now)
-    ∙ sym (ap (λ (a : Answer). answerLine a
-    (c .before .before .before .before .before .before .before .before .before .args .shown .now)) (c .before .before .before .before .before .a3 .given .1))) (c .before .before .put-line4 .ensures)
+returns-4 c =
+    let a = c .before .before .before .before .before .before .before .before .before .args in
+    let answer : Answer → List ℕ = λ x. answerLine x (a .shown .now) in
+    written (a .out .now)
+    (answer-delivered _ _ _ (a .shown .now)
+    ∙ sym (ap answer (c .before .before .before .before .before .a3 .given .1)))
+    (c .before .before .put-line4 .ensures)
 
 same-length-5 : tie.Need-same-length-5
 same-length-5 c = search needs
 
 returns-5 : tie.Need-returns-5
-returns-5 c = written
-    (c .before .before .before .before .before .before .before .before .before .before .args .out .now) (ap (λ (l : List ℕ). lineOf (0 ∷ l)) (c .before .before .before .front .ensures) ∙ answer-shown _ (c .before .before .before .before .before .before .before .before .before .before .args .shown .now) ∙ sym (ap (λ (a : Answer). answerLine a (c .before .before .before .before .before .before .before .before .before .before .args .shown .now)) (c .before .before .before .before .before .before .a4 .given .1))) (c .before .before .put-shown .ensures)
+returns-5 c =
+    let told = c .before .before .before .before .before .before in
+    let a = told .before .before .before .before .args in
+    let answer : Answer → List ℕ = λ x. answerLine x (a .shown .now) in
+    written (a .out .now)
+    (ap (λ (l : List ℕ). lineOf (0 ∷ l)) (c .before .before .before .front .ensures)
+    ∙ answer-shown _ (a .shown .now)
+    ∙ sym (ap answer (told .a4 .given .1)))
+    (c .before .before .put-shown .ensures)
 
 pub put-into-spec : {M : Type 1} → statement M
 put-into-spec =

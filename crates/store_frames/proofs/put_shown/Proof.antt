@@ -40,13 +40,14 @@ same-length c = simp length-set (ap length (c .before .before .encode .ensures)
 
 returns : tie.Need-returns
 returns c =
-    let a = c .before .before .before .before .before .before .before .before .before .before .args in
+    let begun = c .before .before .before .before .before .before in
+    let a = begun .before .before .before .before .args in
     let n = length (a .bytes .now) in (
       omega (arith, length-lineOf (0 ∷ a .bytes .now)),
       ap (λ (l : List ℕ). set l (2 * n + 2) 10)
           (c .before .before .encode .ensures
           ∙ ap (λ (l : List ℕ). sets l 2 (hexText (a .bytes .now)))
-          (c .before .before .before .before .before .before .put-byte .ensures))
+          (begun .put-byte .ensures))
           ∙ shown-stored (a .bytes .now) (a .out .now),
     )
 

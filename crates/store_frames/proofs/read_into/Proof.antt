@@ -26,10 +26,11 @@ same-length c = search needs
 
 returns : tie.Need-returns
 returns c =
-    let line = c .before .before .before .before .before .before .before .before .args .line .now in (
+    let decoded = c .before .before .before .before in
+    let line = decoded .before .before .before .before .args .line .now in (
       sym (storeFrameOf-malformed line (sym (c .enum-told .given .1)
-          ∙ c .before .before .before .before .decode-line .ensures .0)),
-      c .before .before .before .before .decode-line .ensures .1,
+          ∙ decoded .decode-line .ensures .0)),
+      decoded .decode-line .ensures .1,
     )
 
 sub-parse : tie.Need-sub-parse
@@ -40,15 +41,16 @@ part-parse-start c = search needs
 
 part-parse-end : tie.Need-part-parse-end
 part-parse-end c =
-    let s = stored-bytes
-    (c .before .before .before .before .before .before .before .before .before .before .args .line .now) (c .before .before .text .given .0 .0) (sym (c .before .before .text .given .1) ∙ c .before .before .before .before .before .before .decode-line .ensures .0) in
+    let decoded = c .before .before .before .before .before .before in
+    let a = decoded .before .before .before .before .args in
+    let text = c .before .before .text .given in
+    let s = stored-bytes (a .line .now) (text .0 .0)
+    (sym (text .1) ∙ decoded .decode-line .ensures .0) in
     omega (
       arith,
       s .fits,
-      ap length
-          (c .before .before .before .before .before .before .decode-line .ensures .1),
-      length-sets
-          (c .before .before .before .before .before .before .before .before .before .before .args .bytes .now) 0 (storedBytes (c .before .before .before .before .before .before .before .before .before .before .args .line .now)),
+      ap length (decoded .decode-line .ensures .1),
+      length-sets (a .bytes .now) 0 (storedBytes (a .line .now)),
     )
 
 parse-requires : tie.Need-parse-requires
@@ -59,15 +61,17 @@ same-length-2 c = search needs
 
 returns-2 : tie.Need-returns-2
 returns-2 c =
-    let line =
-    c .before .before .before .before .before .before .before .before .before .before .before .before .args .line .now in
-    let n = c .before .before .before .before .text .given .0 .0 in
-    let s = stored-bytes line n (sym (c .before .before .before .before .text .given .1)
-    ∙ c .before .before .before .before .before .before .before .before .decode-line .ensures .0) in (
+    let decoded = c .before .before .before .before .before .before .before .before in
+    let a = decoded .before .before .before .before .args in
+    let line = a .line .now in
+    let text = c .before .before .before .before .text .given in
+    let n = text .0 .0 in
+    let s = stored-bytes line n (sym (text .1) ∙ decoded .decode-line .ensures .0) in
+    let bytes = decoded .decode-line .ensures .1 in (
       c .parse .ensures ∙ ap parsed
-          (ap (λ (k : ℕ). take k
-          (c .before .before .before .before .before .before .before .before .decode-line .last .1 .0)) (sub-zero (c .before .before .before .before .text .given .0 .0)) ∙ stored-front line (c .before .before .before .before .before .before .before .before .before .before .before .before .args .bytes .now) n s (c .before .before .before .before .before .before .before .before .decode-line .ensures .1) (omega arith)),
-      c .before .before .before .before .before .before .before .before .decode-line .ensures .1,
+          (ap (λ (k : ℕ). take k (decoded .decode-line .last .1 .0)) (sub-zero n)
+          ∙ stored-front line (a .bytes .now) n s bytes (omega arith)),
+      bytes,
     )
 
 pub read-into-spec : {M : Type 1} → statement M
