@@ -28,12 +28,12 @@ same-length c = search needs
 
 returns : tie.Need-returns
 returns c =
-    let a = c .before .before .before .before .before .before .before .before .before .before .before .before .args in
+    let carried = c .before .before .before .before .before .before in
+    let a = carried .before .before .before .before .before .before .args in
     let b = a .b .now in
     let line = a .line .now in
-    let made =
-    c .before .before .before .before .before .before .before .before .before .blank-output in
-    let done = c .before .before .before .before .before .before .carry-out .ensures in
+    let made = carried .before .before .before .blank-output in
+    let done = carried .carry-out .ensures in
     let reply = replied b line (made .result) (made .ensures) (done .0) (done .1 .1) in (
       c .put-answer .ensures .0 ∙ ap length reply,
       (

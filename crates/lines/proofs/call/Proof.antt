@@ -79,11 +79,12 @@ same-length c = search needs
 returns : tie.Need-returns
 unfolding callAnswer callBlock callOutput
 returns c =
-    let a = c .before .before .before .before .before .before .before .before .before .before .args in
+    let arm = c .before .before .before .before .before in
+    let a = arm .before .before .before .before .before .args in
     let b = a .b .now in
     let f = a .f .now in
     let o = a .shown .now in
-    let told = c .before .before .before .before .before .frame .given .1 in (
+    let told = arm .frame .given .1 in (
       c .before .before .fresh .ensures .0 ∙ sym (ap (callAnswer b f o) told),
       (
         c .before .before .fresh .ensures .1 .0 ∙ sym (ap (callBlock b f o) told),
@@ -97,11 +98,12 @@ same-length-2 c = search needs
 returns-2 : tie.Need-returns-2
 unfolding callAnswer callBlock callOutput
 returns-2 c =
-    let a = c .before .before .before .before .before .before .before .before .before .before .args in
+    let arm = c .before .before .before .before .before in
+    let a = arm .before .before .before .before .before .args in
     let b = a .b .now in
     let f = a .f .now in
     let o = a .shown .now in
-    let told = c .before .before .before .before .before .frame2 .given .1 in (
+    let told = arm .frame2 .given .1 in (
       c .before .before .start-read .ensures .0 ∙ sym (ap (callAnswer b f o) told),
       (
         c .before .before .start-read .ensures .1 .0 ∙ sym (ap (callBlock b f o) told),
@@ -115,12 +117,13 @@ same-length-3 c = search needs
 returns-3 : tie.Need-returns-3
 unfolding callAnswer callBlock callOutput
 returns-3 c =
-    let a = c .before .before .before .before .before .before .before .before .before .before .before .args in
+    let arm = c .before .before .before .before .before .before in
+    let a = arm .before .before .before .before .before .args in
     let b = a .b .now in
     let f = a .f .now in
     let o = a .shown .now in
-    let held = c .before .before .before .before .before .before .frame3 .given .0 in
-    let told = c .before .before .before .before .before .before .frame3 .given .1 in
+    let held = arm .frame3 .given .0 in
+    let told = arm .frame3 .given .1 in
     let values = rest-whole 10 f in (
       c .before .before .start-write .ensures .0
           ∙ ap (λ (v : List ℕ). answerOn b (startWrite (held .0) (held .1 .0) v)) values
@@ -139,11 +142,12 @@ same-length-4 c = search needs
 returns-4 : tie.Need-returns-4
 unfolding callAnswer callBlock callOutput
 returns-4 c =
-    let a = c .before .before .before .before .before .before .before .before .before .before .args in
+    let arm = c .before .before .before .before .before in
+    let a = arm .before .before .before .before .before .args in
     let b = a .b .now in
     let f = a .f .now in
     let o = a .shown .now in
-    let told = c .before .before .before .before .before .frame4 .given .1 in (
+    let told = arm .frame4 .given .1 in (
       c .before .before .deliver .ensures .0 ∙ sym (ap (callAnswer b f o) told),
       (
         c .before .before .deliver .ensures .1 .0 ∙ sym (ap (callBlock b f o) told),
@@ -160,11 +164,12 @@ same-length-6 c = search needs
 returns-5 : tie.Need-returns-5
 unfolding callAnswer callBlock callOutput
 returns-5 c =
-    let a = c .before .before .before .before .before .before .before .before .before .before .before .args in
+    let arm = c .before .before .before .before .before .before in
+    let a = arm .before .before .before .before .before .args in
     let b = a .b .now in
     let f = a .f .now in
     let o = a .shown .now in
-    let told = c .before .before .before .before .before .before .frame5 .given .1 in (
+    let told = arm .frame5 .given .1 in (
       c .before .before .show .ensures .0 ∙ sym (ap (callAnswer b f o) told),
       (
         c .before .before .show .ensures .1 .0 ∙ sym (ap (callBlock b f o) told),

@@ -21,10 +21,11 @@ same-length-2 c = search needs
 
 returns : tie.Need-returns
 returns c =
-    let a = c .before .before .before .before .before .before .before .before .before .before .before .before .before .args in
-    let k = c .before .before .before .before .before .before .before .before .before .keep .ensures in
+    let ended = c .before .before .before .before .before .before in
+    let a = ended .before .before .before .before .before .before .before .args in
+    let k = ended .before .before .before .keep .ensures in
     fed-end (a .b .now) (a .output .now) (take (a .at) (a .line .now)) (a .c)
-    (eq-eqb (a .c) 0x0a (c .before .before .before .before .before .before .if1 .taken))
+    (eq-eqb (a .c) 0x0a (ended .if1 .taken))
     (k .1 .0) (c .before .before .answer-front .ensures) (k .1 .1)
 
 same-length-3 : tie.Need-same-length-3
