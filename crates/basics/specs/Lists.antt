@@ -1,5 +1,5 @@
 -- Lists with a test: membership, all, how many, the list without a place; numbers below a bound
--- with a test. Each definition is followed by its laws.
+-- with a test.
 use mathlib.Core.Bool.{Bool, true, cond, _&&_}
 use mathlib.Core.List.{List, [], _∷_, _++_}
 use mathlib.Core.Logic.{_⊎_}

@@ -1,1 +1,1 @@
-// Definitions and laws that the other crates share: see specs/. No code.
+// Definitions and laws that the other crates share: see specs/ and proofs/. No code.

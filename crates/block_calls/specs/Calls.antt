@@ -18,7 +18,7 @@ use Rattle.layout.specs.Store.{freshBlock}
 use Rattle.start.specs.Start.{readStarted, writeStarted}
 use Rattle.deliver.specs.Deliver.{deliveredBlock}
 
--- ---- fresh: 2 for sizes out of range, whatever the block's length; else 1 for a block that is too short
+-- ---- fresh: 2 for sizes out of range, whatever the block's length; else 1 for one too short
 
 unfoldable pub freshRefusalOn : List ℕ → Sizes → ℕ
 freshRefusalOn b z = first (test 2 (not (sizesInRange z)) ∷ test 1 (ltb (length b) needed) ∷ [])

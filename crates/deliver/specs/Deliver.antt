@@ -33,8 +33,9 @@ preparedDelivered b partitions items k stamp =
     let rest = remove (at b scalars (awaitedAt d)) k in
     cond (eqb rest 0) (writeEnded b partitions items d stamp) (store b scalars (awaitedAt d) rest)
 
--- ---- Commit: one pass over the stored versions; the first alike counts, since at equal stamps the latest already there stays
+-- ---- Commit: one pass over the stored versions
 
+-- the first alike counts, since at equal stamps the latest already there stays
 abbrev pub commitItem : ℕ → ℕ → List ℕ → Version → List ℕ
 commitItem partitions p b v =
     cond (eqb (v .item % partitions) p && ltb (v .item) 64)
@@ -53,7 +54,7 @@ commitDelivered b partitions versions p stamp = upTo (commitVersion partitions p
 unfoldable pub getDelivered : List ℕ → ℕ → ℕ → ℕ → ℕ → List ℕ
 getDelivered b value d k stamp = send b (Got d (version k value stamp 0) (latestIn b k))
 
--- ---- Got: the version is kept as the answer, the view takes the later; with the last one the read ends
+-- ---- Got: the version is kept, the view takes the later; with the last one the read ends
 
 abbrev pub keptAnswer : List ℕ → ℕ → Version → Entry → List ℕ
 keptAnswer b d v latest =

@@ -12,7 +12,7 @@ use Rattle.layout.specs.Decode.{viewIn}
 use Rattle.layout.specs.Store.{storeView}
 use Rattle.slots.specs.Room.{send}
 
--- ---- either kind: the last ended transaction takes kind (1 a read, 2 a write) and set, the client is idle, with no set
+-- ---- either kind (1 a read, 2 a write): it is the last ended one; the client is idle, with no set
 
 abbrev pub ended : List ℕ → ℕ → ℕ → ℕ → List ℕ
 ended b d kind s =
@@ -32,7 +32,7 @@ readEnded b items d =
     let s = at b scalars (setAt d) in
     ended (upTo (keepAnswer d s) b items) d 1 s
 
--- ---- a write: the view takes it, item by item; the last ended transaction takes the values and the stamp; commits join
+-- ---- a write: the view takes it, item by item; values and stamp are kept; commits join
 
 abbrev pub seeItem : ℕ → ℕ → ℕ → List ℕ → ℕ → List ℕ
 seeItem d s stamp b k = cond (has s k)

@@ -1,5 +1,4 @@
--- Lines of a text, each ended by byte 0a (document 01: frames). The laws say that a line's end is
--- the first such byte.
+-- Lines of a text, each ended by byte 0a (document 01: frames).
 use mathlib.Core.Bool.{Bool, cond}
 use mathlib.Core.List.{List, [], _∷_}
 use Prim.Native.Nat.{ℕ, suc, _+_}

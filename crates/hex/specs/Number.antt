@@ -1,5 +1,5 @@
 -- Big-endian numbers: the number of some bytes, and the bytes of a number, most significant first
--- (document 01: frames). Each law goes by the number of bytes, the last byte first.
+-- (document 01: frames).
 use mathlib.Core.List.{List, [], _∷_, _++_}
 use Prim.Native.Nat.{ℕ, zero, suc, _+_, _*_, _/_, _%_}
 use lib.ListN.{getD}

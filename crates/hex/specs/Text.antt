@@ -1,5 +1,4 @@
--- Bytes as text, two digits a byte, and text as bytes (document 01: frames). The laws go two digits
--- at a time.
+-- Bytes as text, two digits a byte, and text as bytes (document 01: frames).
 use mathlib.Core.Bool.{Bool, true, false, cond, _&&_}
 use mathlib.Core.List.{List, [], _∷_, _++_}
 use Prim.Native.Nat.{ℕ}

@@ -1,5 +1,4 @@
--- What parsing a frame answers, its client and its number, and that this decides which frame is
--- malformed.
+-- What parsing a frame answers: its client and its number, or that it is malformed.
 use mathlib.Core.Bool.{Bool, true, cond, _&&_}
 use mathlib.Core.List.{List}
 use Prim.Native.Nat.{ℕ}

@@ -1,5 +1,5 @@
 // Which blocks are valid (refusal 1), and the load and the versions in use of a valid block.
-ghost use mathlib.Core.Bool.{true, cond, _&&_};
+ghost use mathlib.Core.Bool.{true, _&&_};
 ghost use mathlib.Core.Path.{_≡_};
 ghost use Prim.Native.Nat.{_≤_};
 ghost use lib.ListN.{length};
@@ -78,14 +78,6 @@ pub fn valid_block(b: &[u64]) -> bool
     } else {
         long_block(b)
     }
-}
-
-// The same for C: 1 or 0.
-#[no_mangle]
-pub extern "C" fn koolvent_valid(b: &[u64]) -> u64
-    ensures { λ r. ⌜ r ≡ cond (validBlock (now (b .entry))) 1 0 ⌝ }
-{
-    if valid_block(b) { 1 } else { 0 }
 }
 
 // The load of a valid block.

@@ -1,4 +1,4 @@
--- Rows that each refuse a wrong definition which the theorems let pass (docs/pinned_store.md).
+-- Rows that each refuse a wrong definition which the theorems let pass (docs/PINNED.md).
 use mathlib.Core.Bool.{Bool, false, _&&_}
 use mathlib.Core.List.{List, [], _∷_}
 use Prim.Native.Nat.{ℕ, _+_, _^_}
