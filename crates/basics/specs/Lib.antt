@@ -1,3 +1,3 @@
--- What the other crates' definitions and proofs share: tests, and lists with a test.
+-- What the other crates' definitions and proofs share: lists with a test, and a loop as a fold.
 pub mod Lists
 pub mod Fold

@@ -1,4 +1,4 @@
--- The sizes that a test looks at: the number of partitions matters to a commit alone.
+-- The sizes that a test looks at: the number of partitions matters to messages alone.
 use Prim.Native.Nat.{ℕ}
 use Rattle.protocol.specs.Tables.{Sizes}
 
