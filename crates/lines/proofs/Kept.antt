@@ -10,44 +10,45 @@ use lib.ListN.{length, take, set, length-append, length-set}
 use lib.Seq.{sets, set-out, take-all, take-suc-set, take-append-le, length-take-le}
 use borrow.Author.Tests.{ltb-true, ltb-false}
 use Rattle.basics.proofs.Cases.{by-test}
-use Rattle.lines.specs.Input.{joined, keptAfter, byteReply, byteBlock, endReply, endBlock}
+use Rattle.lines.specs.Input.{mostKept, joined, keptAfter, byteReply, byteBlock, endReply}
+use Rattle.lines.specs.Input.{endBlock}
 use Rattle.lines.specs.Lines.{lineReply, lineBlock}
 
 -- ---- a byte is kept
 
-module _ (line : List ℕ) (at c : ℕ) (wide : length line ≡ 534) where
-  pub joined-short : at < 534 → take (at + 1) (set line at c) ≡ joined (take at line) c
+module _ (line : List ℕ) (at c : ℕ) (wide : length line ≡ mostKept) where
+  pub joined-short : at < mostKept → take (at + 1) (set line at c) ≡ joined (take at line) c
   joined-short h =
       let short : length (take at line) ≡ at = length-take-le at line (omega arith) in
       ap (λ (n : ℕ). take n (set line at c)) (add-one at)
       ∙ take-suc-set line at c (omega arith)
-      ∙ sym (take-all 534 (take at line ++ c ∷ [])
+      ∙ sym (take-all mostKept (take at line ++ c ∷ [])
       (omega (arith, length-append (take at line) (c ∷ []))))
 
-  pub joined-full : 534 ≤ at → take 534 line ≡ joined (take at line) c
+  pub joined-full : mostKept ≤ at → take mostKept line ≡ joined (take at line) c
   joined-full h =
       let whole : take at line ≡ line = take-all at line (omega arith) in
-      sym (take-append-le 534 line (c ∷ []) (omega arith))
+      sym (take-append-le mostKept line (c ∷ []) (omega arith))
       ∙ ap (λ (l : List ℕ). joined l c) (sym whole)
 
-  pub length-short : at < 534 → at + 1 ≡ length (joined (take at line) c)
+  pub length-short : at < mostKept → at + 1 ≡ length (joined (take at line) c)
   length-short h =
       sym (length-take-le (at + 1) (set line at c) (omega (arith, length-set line at c)))
       ∙ ap length (joined-short h)
 
-  pub length-full : 534 ≤ at → 534 ≡ length (joined (take at line) c)
-  length-full h = sym (length-take-le 534 line (omega arith)) ∙ ap length (joined-full h)
+  pub length-full : mostKept ≤ at → mostKept ≡ length (joined (take at line) c)
+  length-full h = sym (length-take-le mostKept line (omega arith)) ∙ ap length (joined-full h)
 
   pub joined-set : take (length (joined (take at line) c)) (set line at c) ≡ joined (take at line) c
   joined-set =
-      by-test (ltb at 534)
+      by-test (ltb at mostKept)
       (λ e.
-      let h : at < 534 = ltb-true at 534 e in
+      let h : at < mostKept = ltb-true at mostKept e in
       ap (λ (n : ℕ). take n (set line at c)) (sym (length-short h)) ∙ joined-short h)
       (λ e.
-      let h : 534 ≤ at = ltb-false at 534 e in
+      let h : mostKept ≤ at = ltb-false at mostKept e in
       ap (λ (n : ℕ). take n (set line at c)) (sym (length-full h))
-      ∙ ap (take 534) (set-out line at c (omega arith)) ∙ joined-full h)
+      ∙ ap (take mostKept) (set-out line at c (omega arith)) ∙ joined-full h)
 
 -- ---- a line is answered
 

@@ -1,12 +1,13 @@
 -- An input, cut into lines after each 0a, and what the driver answers to it: one line a line, each
 -- carried out on the block that the line before it left. The driver sees one byte at a time, and
--- keeps at most 534 bytes of a line: no frame's line has more than 533.
+-- keeps one byte more of a line than any frame's has.
 use mathlib.Core.Bool.{cond}
 use mathlib.Core.List.{List, [], _∷_, _++_}
-use Prim.Native.Nat.{ℕ}
+use Prim.Native.Nat.{ℕ, _+_}
 use lib.Dec.{eqb}
 use lib.ListN.{length, take, set}
 use lib.Seq.{sets}
+use Rattle.store_frames.specs.Limits.{mostLine}
 use Rattle.lines.specs.Lines.{lineReply, lineBlock}
 
 -- ---- the whole input
@@ -39,9 +40,13 @@ linesBlock b (line ∷ lines) = linesBlock (lineBlock b line) lines
 
 -- ---- byte by byte: the bytes kept of the line begun
 
+-- the most that are kept
+abbrev pub mostKept : ℕ
+mostKept = mostLine + 1
+
 -- with one byte more
 abbrev pub joined : List ℕ → ℕ → List ℕ
-joined kept c = take 534 (kept ++ c ∷ [])
+joined kept c = take mostKept (kept ++ c ∷ [])
 
 unfoldable pub keptAfter : List ℕ → ℕ → List ℕ
 keptAfter kept c = cond (eqb c 0x0a) [] (joined kept c)

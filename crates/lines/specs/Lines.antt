@@ -1,11 +1,12 @@
 -- What a line of the store's driver answers on a block, whatever the line and the words: the call
--- of its frame, 15 where it is malformed (document 01: store frames). A showing writes into 586
--- bytes, as many as the longest log frame has.
+-- of its frame, 15 where it is malformed (document 01: store frames). A showing writes into as
+-- many bytes as the longest log frame has.
 use mathlib.Core.List.{List}
 use Prim.Native.Nat.{ℕ}
 use lib.ListN.{replicate}
 use Rattle.protocol.specs.declared.Answer.{Answer}
 use Rattle.protocol.specs.declared.Answer.the-variants.{Refused}
+use Rattle.protocol.specs.Frame.{mostLogFrame}
 use Rattle.protocol.specs.Calls.{startRead, startWrite, deliver, show}
 use Rattle.range.specs.Sized.{sizes}
 use Rattle.block_calls.specs.Calls.{freshAnswerOn, freshAfter, answerOn, outputOn, blockAfter}
@@ -59,7 +60,7 @@ parsedOutput b f output (Frame frame n) = callOutput b f output frame
 
 -- what a showing is lent
 unfoldable pub blank : List ℕ
-blank = replicate 586 0
+blank = replicate mostLogFrame 0
 
 abbrev pub lineAnswer : List ℕ → List ℕ → Answer
 lineAnswer b line = parsedAnswer b (frameBytes line) blank (storeFrameOf line)

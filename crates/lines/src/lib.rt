@@ -2,11 +2,15 @@
 pub mod input;
 
 use protocol::Answer;
+use store_frames::MOST_FRAME;
+use store_frames::MOST_LOG_FRAME;
+use store_frames::MOST_REPLY;
 use store_frames::Parsed;
 use store_frames::StoreFrame;
 ghost use mathlib.Core.Path.{_≡_};
 ghost use lib.ListN.{length};
 ghost use lib.Seq.{sets};
+ghost use Rattle.store_frames.specs.Limits.{mostFrame};
 ghost use Rattle.store_frames.specs.StoreFrames.{frameBytes, storeFrameOf, parsed};
 ghost use Rattle.lines.specs.Lines.{callAnswer, callBlock, callOutput, parsedAnswer, parsedBlock, parsedOutput, blank, lineReply, lineBlock};
 
@@ -31,17 +35,17 @@ fn call(b: &mut [u64], frame: StoreFrame, f: &[u8], shown: &mut [u8]) -> Answer
 }
 
 // Room for the bytes of the longest frame.
-fn blank_frame() -> [u8; 266]
-    ensures { λ r. ⌜ 266 ≡ length r ⌝ }
+fn blank_frame() -> [u8; MOST_FRAME]
+    ensures { λ r. ⌜ mostFrame ≡ length r ⌝ }
 {
-    [0u8; 266]
+    [0u8; MOST_FRAME]
 }
 
 // Room for the longest log frame.
-fn blank_output() -> [u8; 586]
+fn blank_output() -> [u8; MOST_LOG_FRAME]
     ensures { λ r. ⌜ r ≡ blank ⌝ }
 {
-    [0u8; 586]
+    [0u8; MOST_LOG_FRAME]
 }
 
 // The call of a line's frame; 15 where the line is malformed.
@@ -59,7 +63,7 @@ fn carry_out(b: &mut [u64], line: &[u8], shown: &mut [u8]) -> Answer
 }
 
 // Carries out a line on the block, writes the line that answers it to the front of `output`, and gives that line's length.
-pub fn answer_line(b: &mut [u64], line: &[u8], output: &mut [u8; 1175]) -> usize
+pub fn answer_line(b: &mut [u64], line: &[u8], output: &mut [u8; MOST_REPLY]) -> usize
     ensures { λ r. ⌜ r ≡ length (lineReply (now (b .entry)) (now (line .entry))) ⌝ }
     ensures { λ _. ⌜ now (output .exit) ≡ sets (now (output .entry)) 0 (lineReply (now (b .entry)) (now (line .entry))) ⌝ }
     ensures { λ _. ⌜ now (b .exit) ≡ lineBlock (now (b .entry)) (now (line .entry)) ⌝ }

@@ -1,7 +1,7 @@
 -- The log frame of an ended transaction (document 01, 'Frames'), which a showing writes: a read
 -- part and a write part, either of which may be absent.
 use mathlib.Core.List.{List, [], _∷_, _++_}
-use Prim.Native.Nat.{ℕ}
+use Prim.Native.Nat.{ℕ, _+_, _*_}
 use Rattle.hex.specs.Number.{bigEndian}
 use Rattle.itemset.specs.Set.{members}
 use Rattle.protocol.specs.Tables.{Ended, nothing, read, write, numberOf, writerOf}
@@ -32,3 +32,7 @@ unfoldable pub frame : ℕ → Ended → List ℕ
 frame d nothing = []
 frame d (read s stamps values) = withRead (0x21 ∷ bigEndian 1 d) s stamps values
 frame d (write s stamp values) = withWrite (0x20 ∷ bigEndian 1 d) s stamp values
+
+-- the most bytes that one has: a read part of all 64 items
+abbrev pub mostLogFrame : ℕ
+mostLogFrame = 10 + 9 * 64

@@ -16,7 +16,7 @@ use Rattle.itemset.proofs.Counts.{rank-mod, count-le}
 use Rattle.itemset.proofs.Members.{length-members-rank}
 use Rattle.protocol.specs.Tables.{Ended, nothing, read, write, numberOf}
 use Rattle.protocol.specs.Range.{isClient}
-use Rattle.protocol.specs.Frame.{listed, shownEntry, frame}
+use Rattle.protocol.specs.Frame.{listed, shownEntry, frame, mostLogFrame}
 use Rattle.protocol.specs.Calls.{isNothing, shownFrame}
 use Rattle.protocol.proofs.Shown.{length-listed, length-frame-read, length-frame-write}
 use Rattle.layout.specs.Layout.{scalars, lastStamps, lastValues, at, lastKindAt, lastSetAt}
@@ -133,7 +133,7 @@ module _ (b : List ℕ) (d : ℕ) {kind set : ℕ} (k : kind ≡ at b scalars (l
 rank-le-item : (s k : ℕ) → rank s k ≤ k
 rank-le-item s k = rw (rank-mod s k) (count-le (s % 2 ^ k) k (mod-lt s (pow-pos k)))
 
-pub length-frame-le : (d : ℕ) (e : Ended) → length (frame d e) ≤ 586
+pub length-frame-le : (d : ℕ) (e : Ended) → length (frame d e) ≤ mostLogFrame
 unfolding frame
 length-frame-le d nothing = omega arith
 length-frame-le d (read s asked shown) =

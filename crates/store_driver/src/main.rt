@@ -2,8 +2,10 @@
 // It sees only the promises of `lines`, and the length of a block. The block starts as zeros, on which every well-formed frame but an `01` is refused by 1.
 use libc::STDIN_FILENO;
 use libc::STDOUT_FILENO;
+use lines::input::MOST_KEPT;
 use lines::input::end;
 use lines::input::feed;
+use store_frames::MOST_REPLY;
 ghost use mathlib.Core.Path.{_≡_};
 ghost use Rattle.lines.specs.Input.{lent, fed, closed};
 ghost use Rattle.store_driver.specs.Turn.{TookOf, TurnOf, ServedBy};
@@ -38,12 +40,18 @@ fn write_front(text: &[u8], n: usize) -> bool {
     }
 }
 
-fn say(reply: &[u8; 1175], n: usize) -> bool {
+fn say(reply: &[u8; MOST_REPLY], n: usize) -> bool {
     write_front(reply, n)
 }
 
 // Takes one byte of the input, and prints the reply where it ends a line.
-fn take_byte(b: &mut [u64], line: &mut [u8; 534], at: usize, c: u8, reply: &mut [u8; 1175]) -> Step
+fn take_byte(
+    b: &mut [u64],
+    line: &mut [u8; MOST_KEPT],
+    at: usize,
+    c: u8,
+    reply: &mut [u8; MOST_REPLY],
+) -> Step
     ensures { λ r. ⌜ lent (now (b .exit)) (now (line .exit)) (r .at) (now (reply .exit)) ≡ fed (lent (now (b .entry)) (now (line .entry)) at (now (reply .entry))) c ⌝ }
 {
     let fed = feed(b, line, at, c, reply);
@@ -56,10 +64,10 @@ fn take_byte(b: &mut [u64], line: &mut [u8; 534], at: usize, c: u8, reply: &mut 
 // Takes the bytes of one read, up to a reply that can't be written.
 fn take_bytes(
     b: &mut [u64],
-    line: &mut [u8; 534],
+    line: &mut [u8; MOST_KEPT],
     at: usize,
     input: &[u8],
-    reply: &mut [u8; 1175],
+    reply: &mut [u8; MOST_REPLY],
 ) -> Took
     ensures { λ r. ⌜ TookOf (lent (now (b .entry)) (now (line .entry)) at (now (reply .entry))) (lent (now (b .exit)) (now (line .exit)) (r .at) (now (reply .exit))) (now (input .entry)) (r .taken) (r .on) ⌝ }
 {
@@ -85,7 +93,7 @@ fn take_bytes(
 }
 
 // At the end of the input: a line begun has no 0a.
-fn finish(b: &mut [u64], line: &mut [u8; 534], at: usize, reply: &mut [u8; 1175])
+fn finish(b: &mut [u64], line: &mut [u8; MOST_KEPT], at: usize, reply: &mut [u8; MOST_REPLY])
     ensures { λ _. ⌜ lent (now (b .exit)) (now (line .exit)) 0 (now (reply .exit)) ≡ closed (lent (now (b .entry)) (now (line .entry)) at (now (reply .entry))) ⌝ }
 {
     let n = end(b, line, at, reply);
@@ -95,10 +103,10 @@ fn finish(b: &mut [u64], line: &mut [u8; 534], at: usize, reply: &mut [u8; 1175]
 // One read of the input, and what it leads to. It goes on until the input ends, or a read or a write fails.
 fn turn(
     b: &mut [u64],
-    line: &mut [u8; 534],
+    line: &mut [u8; MOST_KEPT],
     at: usize,
     buf: &mut [u8],
-    reply: &mut [u8; 1175],
+    reply: &mut [u8; MOST_REPLY],
 ) -> State
     ensures { λ r. ⌜ TurnOf (lent (now (b .entry)) (now (line .entry)) at (now (reply .entry))) (lent (now (b .exit)) (now (line .exit)) (r .at) (now (reply .exit))) (now (buf .exit)) (r .taken) (r .on) (r .ended) ⌝ }
 {
@@ -131,7 +139,12 @@ fn turn(
 }
 
 // Reads and answers, and gives how many bytes are kept at the end. A function ends, so that there is a last read: the 18,446,744,073,709,551,615th.
-fn serve(b: &mut [u64], line: &mut [u8; 534], buf: &mut [u8], reply: &mut [u8; 1175]) -> usize
+fn serve(
+    b: &mut [u64],
+    line: &mut [u8; MOST_KEPT],
+    buf: &mut [u8],
+    reply: &mut [u8; MOST_REPLY],
+) -> usize
     ensures { λ r. ⌜ ServedBy (lent (now (b .entry)) (now (line .entry)) 0 (now (reply .entry))) (lent (now (b .exit)) (now (line .exit)) r (now (reply .exit))) ⌝ }
 {
     let mut at = 0;
@@ -149,8 +162,8 @@ fn serve(b: &mut [u64], line: &mut [u8; 534], buf: &mut [u8], reply: &mut [u8; 1
 
 fn main() {
     let mut b = [0u64; layout::NEEDED];
-    let mut line = [0u8; 534];
-    let mut reply = [0u8; 1175];
+    let mut line = [0u8; MOST_KEPT];
+    let mut reply = [0u8; MOST_REPLY];
     let mut buf = io::buffer();
     serve(&mut b, &mut line, &mut buf, &mut reply);
 }

@@ -8,6 +8,7 @@ use lib.Dec.{eqb, leb}
 use lib.ListN.{length}
 use borrow.Author.Tests.{eqb-true, leb-true}
 use Rattle.basics.proofs.Cases.{by-test, and-left, and-right}
+use Rattle.store_frames.specs.Limits.{mostFrame}
 use Rattle.store_frames.specs.declared.StoreFrame.{StoreFrame}
 use Rattle.store_frames.specs.declared.StoreFrame.the-variants.{Fresh, Read, Write, Deliver}
 use Rattle.store_frames.specs.declared.StoreFrame.the-variants.{Show}
@@ -21,7 +22,7 @@ pub isStoreFrame-length : (kind n : ℕ) (f : List ℕ) → isStoreFrame kind n 
 isStoreFrame-length kind n f e = eqb-true (length f) n
     (and-right (eqb (kindOf f) kind) (eqb (length f) n) e)
 
-pub isWrite-length : (f : List ℕ) → isWrite f ≡ true → (10 ≤ length f) × (length f ≤ 266)
+pub isWrite-length : (f : List ℕ) → isWrite f ≡ true → (10 ≤ length f) × (length f ≤ mostFrame)
 isWrite-length f e =
     let n = 10 + 4 * valuesIn (length f) in
     let shaped = and-left (isStoreFrame 0x03 n f) (leb (valuesIn (length f)) 64) e in
@@ -35,7 +36,7 @@ isStoreFrame-other kind n f h = by-test (isStoreFrame kind n f)
     (λ e. absurd (h (isStoreFrame-length kind n f e)))
     (λ e. e)
 
-isWrite-other : (f : List ℕ) → 266 < length f → isWrite f ≡ false
+isWrite-other : (f : List ℕ) → mostFrame < length f → isWrite f ≡ false
 isWrite-other f h =
     by-test (isWrite f) (λ e. absurd (omega (arith, isWrite-length f e .1))) (λ e. e)
 
@@ -46,7 +47,7 @@ unfolding parsed
 parsed-none = refl
 
 -- more bytes than the longest frame has
-pub parsed-long : (f : List ℕ) → 266 < length f → parsed f ≡ Malformed
+pub parsed-long : (f : List ℕ) → mostFrame < length f → parsed f ≡ Malformed
 unfolding parsed
 parsed-long f h =
     rw (

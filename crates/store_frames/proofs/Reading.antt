@@ -17,6 +17,7 @@ use Rattle.hex.proofs.Decoding.{decoded-bytes, decoded-malformed}
 use Rattle.hex.proofs.Stores.{sets-front}
 use Rattle.hex.specs.Text.{isHex, bytesOf}
 use Rattle.hex.proofs.Text.{length-hexText, hexText-bytesOf, length-bytesOf}
+use Rattle.store_frames.specs.Limits.{mostFrame, mostLine}
 use Rattle.store_frames.specs.declared.StoreFrame.{StoreFrame}
 use Rattle.store_frames.specs.declared.Parsed.the-variants.{Frame, Malformed}
 use Rattle.store_frames.specs.StoreFrames.{isEnded, textOf, frameBytes, parsed, storeFrameOf}
@@ -35,12 +36,12 @@ ended-length [] e = absurd (false≢true e)
 ended-length (x ∷ line) e = omega arith
 
 pub isDecoded-length : (line : List ℕ) → isDecoded line ≡ true → (1 ≤ length line)
-    × (length line ≤ 533)
+    × (length line ≤ mostLine)
 unfolding isDecoded
 isDecoded-length line e =
-    let short = leb (length line) 533 in (
+    let short = leb (length line) mostLine in (
       ended-length line (and-right short (isEnded line) e),
-      leb-true (length line) 533
+      leb-true (length line) mostLine
           (and-left short (isEnded line) e),
     )
 
@@ -79,18 +80,18 @@ module _ (line : List ℕ) where
       (λ h.
       ap parsed (frameBytes-hex e h)
       ∙ parsed-long (bytesOf (textOf line))
-      (omega (arith, hex-even line h, leb-false (length line) 533 (unended e d))))
+      (omega (arith, hex-even line h, leb-false (length line) mostLine (unended e d))))
       (λ h. ap parsed (frameBytes-not h) ∙ parsed-none))
       (λ e. ap parsed (frameBytes-unended e) ∙ parsed-none)
     where
-      unended : isEnded line ≡ true → (leb (length line) 533 && isEnded line) ≡ false
-          → leb (length line) 533 ≡ false
-      unended e f = by-test (leb (length line) 533)
-          (λ t. not-both (and-both (leb (length line) 533) (isEnded line) t e) f) (λ t. t)
+      unended : isEnded line ≡ true → (leb (length line) mostLine && isEnded line) ≡ false
+          → leb (length line) mostLine ≡ false
+      unended e f = by-test (leb (length line) mostLine)
+          (λ t. not-both (and-both (leb (length line) mostLine) (isEnded line) t e) f) (λ t. t)
 
-  pub storeFrameOf-long : 533 < length line → storeFrameOf line ≡ Malformed
+  pub storeFrameOf-long : mostLine < length line → storeFrameOf line ≡ Malformed
   unfolding isDecoded
-  storeFrameOf-long h = storeFrameOf-undecoded (rw (lt-leb (length line) 533 h))
+  storeFrameOf-long h = storeFrameOf-undecoded (rw (lt-leb (length line) mostLine h))
 
   pub decodedLine-text : isDecoded line ≡ true → decodedLine line ≡ decoded (textOf line)
   unfolding decodedLine
@@ -119,7 +120,7 @@ module _ (line : List ℕ) where
   pub record Stored (n : ℕ) : Type 0 where
     pub bytes : frameBytes line ≡ storedBytes line
     pub long : n ≡ length (storedBytes line)
-    pub fits : n ≤ 266
+    pub fits : n ≤ mostFrame
 
   pub stored-bytes : (n : ℕ) → Bytes n ≡ decodedLine line → Stored n
   unfolding decodedLine isDecoded
@@ -127,7 +128,7 @@ module _ (line : List ℕ) where
       by-test (isDecoded line)
       (λ d.
       let h = decoded-bytes (textOf line) n (rw d at m) in
-      let e = and-right (leb (length line) 533) (isEnded line) d in
+      let e = and-right (leb (length line) mostLine) (isEnded line) d in
       let l = isDecoded-length line d in
       let size : n ≡ length (bytesOf (textOf line)) =
       h .1 ∙ sym (length-bytesOf (textOf line) (h .0)) in
@@ -145,7 +146,7 @@ module _ (line : List ℕ) where
 
   -- the frame's bytes lie at the front of the bytes stored to
   pub stored-front : (bytes : List ℕ) {after : List ℕ} (n : ℕ) → Stored n
-      → after ≡ sets bytes 0 (storedBytes line) → 266 ≤ length bytes
+      → after ≡ sets bytes 0 (storedBytes line) → mostFrame ≤ length bytes
       → take n after ≡ frameBytes line
   stored-front bytes n s e h =
       let fits : length (storedBytes line) ≤ length bytes = omega (arith, s .long, s .fits) in

@@ -11,6 +11,7 @@ use Rattle.hex.specs.declared.Decoded.the-variants.{Malformed as Undecoded}
 use Rattle.hex.specs.Decode.{decoded}
 use Rattle.hex.specs.Number.{numberAt}
 use Rattle.hex.specs.Text.{isHex, bytesOf}
+use Rattle.store_frames.specs.Limits.{mostLine}
 use Rattle.store_frames.specs.declared.StoreFrame.the-variants.{Fresh, Read, Write, Deliver}
 use Rattle.store_frames.specs.declared.StoreFrame.the-variants.{Show}
 use Rattle.store_frames.specs.declared.Parsed.{Parsed}
@@ -70,10 +71,10 @@ valueBytes f = drop 10 f
 abbrev pub storeFrameOf : List ℕ → Parsed
 storeFrameOf line = parsed (frameBytes line)
 
--- ---- reading it: a line over 533 bytes is longer than any frame's, and isn't decoded
+-- ---- reading it: a line longer than any frame's isn't decoded
 
 unfoldable pub isDecoded : List ℕ → Bool
-isDecoded line = leb (length line) 533 && isEnded line
+isDecoded line = leb (length line) mostLine && isEnded line
 
 unfoldable pub decodedLine : List ℕ → Decoded
 decodedLine line = cond (isDecoded line) (decoded (textOf line)) Undecoded

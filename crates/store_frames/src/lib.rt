@@ -8,7 +8,20 @@ ghost use lib.ListN.{length, take};
 ghost use lib.Seq.{sets};
 ghost use Rattle.hex.specs.Number.{bigEndian};
 ghost use Rattle.store_frames.specs.Answers.{lineOf, answerLine};
-ghost use Rattle.store_frames.specs.StoreFrames.{isEnded, kindOf, isStoreFrame, valuesIn, isWrite, parsed, storeFrameOf, isDecoded, decodedLine, storedBytes};
+ghost use Rattle.store_frames.specs.Limits.{mostFrame};
+ghost use Rattle.store_frames.specs.StoreFrames.{isEnded, kindOf, isStoreFrame, valuesIn};
+ghost use Rattle.store_frames.specs.StoreFrames.{isWrite, parsed, storeFrameOf, isDecoded};
+ghost use Rattle.store_frames.specs.StoreFrames.{decodedLine, storedBytes};
+
+// The most bytes: of a store frame, of its line, of the log frame that a showing writes, and of a
+// reply's line.
+pub const MOST_FRAME: usize = 266;
+
+pub const MOST_LINE: usize = 2 * MOST_FRAME + 1;
+
+pub const MOST_LOG_FRAME: usize = 586;
+
+pub const MOST_REPLY: usize = 2 * (1 + MOST_LOG_FRAME) + 1;
 
 // A store frame (document 01's desk is a client, its cabinets are partitions, its lines items).
 pub enum StoreFrame {
@@ -49,11 +62,11 @@ fn is_ended(line: &[u8]) -> bool
     if 0 < n { line[n - 1] == 0x0a } else { false }
 }
 
-// The line has its 0a, and is no longer than the longest frame's: 266 bytes of two digits, and 0a.
+// The line has its 0a, and is no longer than the longest frame's.
 fn is_decoded(line: &[u8]) -> bool
     ensures { λ r. ⌜ r ≡ isDecoded (now (line .entry)) ⌝ }
 {
-    (line.len() <= 533) & is_ended(line)
+    (line.len() <= MOST_LINE) & is_ended(line)
 }
 
 // The frame's first byte; 0 where it has none.
@@ -128,7 +141,7 @@ fn parse(f: &[u8]) -> Parsed
 
 // Stores the bytes of a line's digits at the front of `bytes`.
 fn decode_line(line: &[u8], bytes: &mut [u8]) -> Decoded
-    requires { ⌜ 266 ≤ length (now bytes) ⌝ }
+    requires { ⌜ mostFrame ≤ length (now bytes) ⌝ }
     ensures { λ r. ⌜ r ≡ decodedLine (now (line .entry)) ⌝ }
     ensures { λ _. ⌜ now (bytes .exit) ≡ sets (now (bytes .entry)) 0 (storedBytes (now (line .entry))) ⌝ }
 {
@@ -141,7 +154,7 @@ fn decode_line(line: &[u8], bytes: &mut [u8]) -> Decoded
 }
 
 fn read_into(line: &[u8], bytes: &mut [u8]) -> Parsed
-    requires { ⌜ 266 ≤ length (now bytes) ⌝ }
+    requires { ⌜ mostFrame ≤ length (now bytes) ⌝ }
     ensures { λ r. ⌜ r ≡ storeFrameOf (now (line .entry)) ⌝ }
     ensures { λ _. ⌜ now (bytes .exit) ≡ sets (now (bytes .entry)) 0 (storedBytes (now (line .entry))) ⌝ }
 {
@@ -153,7 +166,7 @@ fn read_into(line: &[u8], bytes: &mut [u8]) -> Parsed
 }
 
 // Reads a line: its frame, whose bytes are then those of `bytes`, from the front on.
-pub fn read_frame(line: &[u8], bytes: &mut [u8; 266]) -> Parsed
+pub fn read_frame(line: &[u8], bytes: &mut [u8; MOST_FRAME]) -> Parsed
     ensures { λ r. ⌜ r ≡ storeFrameOf (now (line .entry)) ⌝ }
     ensures { λ _. ⌜ now (bytes .exit) ≡ sets (now (bytes .entry)) 0 (storedBytes (now (line .entry))) ⌝ }
 {
@@ -221,7 +234,7 @@ fn put_into(out: &mut [u8], a: Answer, shown: &[u8]) -> usize
 }
 
 // Writes an answer's line to the front of `out`, and answers its length. What a show wrote is the front of `shown`.
-pub fn put_answer(a: Answer, shown: &[u8; 586], out: &mut [u8; 1175]) -> usize
+pub fn put_answer(a: Answer, shown: &[u8; MOST_LOG_FRAME], out: &mut [u8; MOST_REPLY]) -> usize
     ensures { λ r. ⌜ r ≡ length (answerLine a (now (shown .entry))) ⌝ }
     ensures { λ _. ⌜ now (out .exit) ≡ sets (now (out .entry)) 0 (answerLine a (now (shown .entry))) ⌝ }
 {

@@ -10,6 +10,7 @@ use lib.ListN.{length, take}
 use lib.Seq.{length-sets}
 use Rattle.store_frames.specs.declared.StoreFrame.{StoreFrame}
 use Rattle.store_frames.specs.declared.Parsed.the-variants.{Frame}
+use Rattle.store_frames.specs.Limits.{mostFrame}
 use Rattle.store_frames.specs.StoreFrames.{frameBytes, storeFrameOf, parsed, storedBytes}
 use Rattle.store_frames.proofs.Parsing.{parsed-length}
 use Rattle.store_frames.proofs.Reading.{Stored, frame-stored, stored-front}
@@ -45,7 +46,7 @@ module _ (p : tie.After-parsed) where
   stored : Stored line n
   stored = frame-stored line frame n is-frame
 
-  wide : length bytes ≡ 266
+  wide : length bytes ≡ mostFrame
   wide =
       ap length (p .before .before .read-frame .ensures .1) ∙ length-sets room 0 (storedBytes line)
       ∙ sym (p .before .before .before .before .blank-frame .ensures)

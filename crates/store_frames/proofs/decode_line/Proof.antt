@@ -1,5 +1,5 @@
--- `store_frames::decode_line` meets its contract: a line that is decoded is at most 266 bytes of
--- two digits, and 0a.
+-- `store_frames::decode_line` meets its contract: a line that is decoded is at most
+-- `mostFrame` bytes of two digits, and 0a.
 use borrow.Author.Needs.{needs}
 use mathlib.Core.List.{List}
 use mathlib.Core.Path.{_≡_, sym, ap, _∙_}

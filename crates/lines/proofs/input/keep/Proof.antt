@@ -1,5 +1,5 @@
--- `lines::input::keep` meets its contract: behind fewer than 534 bytes one more is kept, behind 534
--- none.
+-- `lines::input::keep` meets its contract: behind fewer than `mostKept` bytes one
+-- more is kept, behind as many none.
 use borrow.Author.Needs.{needs}
 use mathlib.Core.Path.{refl, sym}
 use native.Mathlib.Omega.{arith}
