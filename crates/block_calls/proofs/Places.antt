@@ -30,12 +30,12 @@ use Rattle.layout.specs.Decode.{messageOf, kindIn, messageIn, tablesOf, validBl
 use Rattle.layout.specs.Encodes.{Encodes}
 use Rattle.slots.proofs.ReadBack.{read-message}
 use Rattle.encoding.proofs.WellFormed.{WellFormed, tells-valid-block}
-use Rattle.deliver.specs.declared.Tested.{Tested}
-use Rattle.deliver.specs.Tests.{Bounded, testedIn}
+use Rattle.deliver_tests.specs.declared.Tested.{Tested}
+use Rattle.deliver_tests.specs.Tests.{Bounded, testedIn}
 use Rattle.deliver.specs.Deliver.{messageDelivered, deliveredBlock}
-use Rattle.deliver.proofs.Bounds.{bounded}
+use Rattle.deliver_tests.proofs.Bounds.{bounded}
 use Rattle.deliver.proofs.Delivered.{delivered-block}
-use Rattle.deliver.proofs.TestedTables.{Tells, tested-tables}
+use Rattle.deliver_tests.proofs.TestedTables.{Tells, tested-tables}
 use Rattle.block_calls.specs.Calls.{refusalOn, answerOn, changed, blockAfter}
 use Rattle.block_calls.proofs.Accepted.{valid-tables, holds-tables, refusal-valid, accepted-valid}
 use Rattle.block_calls.proofs.Accepted.{answer-accepted}

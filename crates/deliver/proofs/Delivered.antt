@@ -21,13 +21,13 @@ use Rattle.layout.specs.Encodes.{Encodes}
 use Rattle.layout.specs.Masked.{MaskedMessage}
 use Rattle.layout.proofs.Room.{HasRoom, room-valid}
 use Rattle.layout.proofs.Held.{message-held}
-use Rattle.slots.proofs.EncodesTakeOut.{encodes-take-out}
+use Rattle.messages.proofs.EncodesTakeOut.{encodes-take-out}
 use Rattle.deliver.specs.declared.Counts.{Counts}
-use Rattle.deliver.specs.declared.Tested.{Tested}
-use Rattle.deliver.specs.Tests.{testedIn}
+use Rattle.deliver_tests.specs.declared.Tested.{Tested}
+use Rattle.deliver_tests.specs.Tests.{testedIn}
 use Rattle.deliver.specs.Deliver.{messageDelivered, countsIn, deliveredBlock}
-use Rattle.deliver.proofs.Worked.{answerOf, countsOf, encodes-work}
-use Rattle.deliver.proofs.TestedTables.{tested-tables}
+use Rattle.deliver.proofs.Worked.{countsOf, encodes-work}
+use Rattle.deliver_tests.proofs.TestedTables.{answerOf, tested-tables}
 
 -- room for what an accepted delivery leaves
 room-after : (t : Tables) (i : ℕ) → AcceptedDeliver capacities t i → HasRoom (deliveredAt t i)

@@ -2,11 +2,8 @@
 -- it holds.
 pub mod Rows
 pub mod Struck
-pub mod Committed
 pub mod Replied
 pub mod Got
-pub mod Bounds
 pub mod Worked
-pub mod TestedTables
 pub mod Delivered
 pub mod Past

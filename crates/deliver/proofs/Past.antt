@@ -22,10 +22,11 @@ use Rattle.ends.proofs.Past.{SamePast, past-none, past-trans, past-when, past-e
 use Rattle.ends.proofs.Past.{past-entry, past-keep, past-send, past-scalar, past-read-ended}
 use Rattle.ends.proofs.Past.{past-write-ended}
 use Rattle.slots.specs.Room.{keep}
+use Rattle.commit.specs.Commit.{commitVersion, commitDelivered}
 use Rattle.deliver.specs.declared.Counts.{Counts}
-use Rattle.deliver.specs.Tests.{Bounded}
-use Rattle.deliver.specs.Deliver.{prepareDelivered, preparedDelivered, commitVersion}
-use Rattle.deliver.specs.Deliver.{commitDelivered, getDelivered, keptAnswer, gotDelivered}
+use Rattle.deliver_tests.specs.Tests.{Bounded}
+use Rattle.deliver.specs.Deliver.{prepareDelivered, preparedDelivered}
+use Rattle.deliver.specs.Deliver.{getDelivered, keptAnswer, gotDelivered}
 use Rattle.deliver.specs.Deliver.{messageDelivered}
 
 past-take-out : (b : List ℕ) (n i : ℕ) → i < n → n ≤ mostMessages → SamePast b (takeOut b n i)

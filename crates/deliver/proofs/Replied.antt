@@ -29,7 +29,7 @@ use Rattle.layout.proofs.Changed.{changed-none, changed-scalar, encodes-changed
 use Rattle.layout.proofs.Room.{room-client}
 use Rattle.ends.specs.Ends.{sendCommit, touched, writeKept, writeEnded}
 use Rattle.deliver.specs.Deliver.{preparedDelivered}
-use Rattle.ends.proofs.Same.{encodes-same-view}
+use Rattle.layout.proofs.Same.{encodes-same-view}
 use Rattle.ends.proofs.Rests.{narrow-resting}
 use Rattle.ends.proofs.Ended.{encodes-write-kept}
 use Rattle.deliver.proofs.Struck.{words-struck, narrow-struck}

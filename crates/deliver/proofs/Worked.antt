@@ -24,22 +24,16 @@ use Rattle.layout.specs.Encodes.{Encodes}
 use Rattle.layout.proofs.Room.{HasRoom}
 use Rattle.layout.proofs.Parts.{awaits-answer, writes-nothing}
 use Rattle.slots.specs.Room.{send}
+use Rattle.commit.specs.Commit.{commitDelivered}
+use Rattle.deliver_tests.proofs.TestedTables.{answerOf}
 use Rattle.slots.proofs.EncodesRoom.{encodes-keep, encodes-send}
 use Rattle.layout.specs.Layout.{mostVersions, mostMessages}
 use Rattle.deliver.specs.declared.Counts.{Counts}
-use Rattle.deliver.specs.Deliver.{prepareDelivered, commitDelivered, getDelivered}
+use Rattle.deliver.specs.Deliver.{prepareDelivered, getDelivered}
 use Rattle.deliver.specs.Deliver.{gotDelivered, messageDelivered}
-use Rattle.deliver.proofs.Committed.{latest-held, encodes-committed}
+use Rattle.commit.proofs.Committed.{latest-held, encodes-committed}
 use Rattle.deliver.proofs.Replied.{encodes-prepared}
 use Rattle.deliver.proofs.Got.{encodes-got}
-
--- the value that answers a get; no other message has one
-unfoldable pub answerOf : Tables → Message → ℕ
-answerOf t (Prepare v) = 0
-answerOf t (Prepared k stamp) = 0
-answerOf t (Commit p stamp) = 0
-answerOf t (Get d k stamp) = found (t .versions) k stamp .value
-answerOf t (Got d v latest) = 0
 
 abbrev pub countsOf : Tables → Counts
 countsOf t = record {

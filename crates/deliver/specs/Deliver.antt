@@ -1,9 +1,8 @@
 -- The five deliveries as changes of the block.
-use mathlib.Core.Bool.{cond, _&&_}
+use mathlib.Core.Bool.{cond}
 use mathlib.Core.List.{List, []}
-use Prim.Native.Nat.{ℕ, _%_}
-use lib.Dec.{eqb, ltb}
-use Rattle.basics.specs.Fold.{upTo}
+use Prim.Native.Nat.{ℕ}
+use lib.Dec.{eqb}
 use Rattle.itemset.specs.Set.{remove}
 use Rattle.protocol.specs.declared.Version.{Version}
 use Rattle.protocol.specs.declared.Entry.{Entry}
@@ -13,11 +12,12 @@ use Rattle.protocol.specs.Tables.{writerOf, laterOf}
 use Rattle.protocol.specs.Steps.{version}
 use Rattle.layout.specs.Layout.{header, scalars, values, at, store, partitionsAt, itemsAt}
 use Rattle.layout.specs.Layout.{versionsAt, messagesAt, awaitedAt, itemAt}
-use Rattle.layout.specs.Decode.{latestIn, viewIn, versionIn, messageIn}
-use Rattle.layout.specs.Store.{storeLatest, storeView, takeOut}
+use Rattle.layout.specs.Decode.{latestIn, viewIn, messageIn}
+use Rattle.layout.specs.Store.{storeView, takeOut}
 use Rattle.slots.specs.Room.{keep, send}
+use Rattle.commit.specs.Commit.{commitDelivered}
 use Rattle.deliver.specs.declared.Counts.{Counts}
-use Rattle.deliver.specs.Tests.{testedIn}
+use Rattle.deliver_tests.specs.Tests.{testedIn}
 use Rattle.ends.specs.Ends.{readEnded, writeEnded}
 
 -- ---- Prepare: the version is stored, the reply joins
@@ -33,21 +33,7 @@ preparedDelivered b partitions items k stamp =
     let rest = remove (at b scalars (awaitedAt d)) k in
     cond (eqb rest 0) (writeEnded b partitions items d stamp) (store b scalars (awaitedAt d) rest)
 
--- ---- Commit: one pass over the stored versions
-
--- the first alike counts, since at equal stamps the latest already there stays
-abbrev pub commitItem : ℕ → ℕ → List ℕ → Version → List ℕ
-commitItem partitions p b v =
-    cond (eqb (v .item % partitions) p && ltb (v .item) 64)
-    (storeLatest b (v .item) (laterOf (latestIn b (v .item))
-    (record { stamp = v .stamp; set = v .set }))) b
-
-abbrev pub commitVersion : ℕ → ℕ → ℕ → List ℕ → ℕ → List ℕ
-commitVersion partitions p stamp b i =
-    cond (eqb (versionIn b i .stamp) stamp) (commitItem partitions p b (versionIn b i)) b
-
-unfoldable pub commitDelivered : List ℕ → ℕ → ℕ → ℕ → ℕ → List ℕ
-commitDelivered b partitions versions p stamp = upTo (commitVersion partitions p stamp) b versions
+-- ---- Commit: commitDelivered, of crate commit
 
 -- ---- Get: the reply joins, with this value, the version's, and the item's latest
 

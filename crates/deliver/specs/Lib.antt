@@ -1,3 +1,2 @@
--- Deliveries on the block: what is tested before, and what they write.
-pub mod Tests
+-- Deliveries on the block: what they write.
 pub mod Deliver

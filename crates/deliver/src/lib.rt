@@ -1,33 +1,23 @@
-// Deliveries on the block: what is told of a message before it is delivered (`tests`), and its delivery. The message is taken out,
-// later ones move up, and it does its work.
+// Deliveries on the block: the message is taken out, later ones move up, and it does its work.
 ghost use mathlib.Core.Path.{_≡_};
 ghost use Prim.Native.Nat.{_≤_, _<_};
 ghost use lib.ListN.{length};
 ghost use Rattle.layout.specs.Layout.{mostVersions, mostMessages, needed};
 ghost use Rattle.layout.specs.Store.{takeOut};
-ghost use Rattle.deliver.specs.Tests.{Bounded};
+ghost use Rattle.deliver_tests.specs.Tests.{Bounded};
 ghost use Rattle.deliver.specs.Deliver.{messageDelivered};
+use commit::commit;
+use messages::take_out;
 use protocol::Message;
-use slots::message::take_out;
 
-pub mod commit;
 pub mod replies;
 pub mod requests;
-pub mod tests;
 
 // What a block's header says of partitions, items and stored versions.
 pub struct Counts {
     pub partitions: u64,
     pub items: u64,
     pub versions: u64,
-}
-
-// What is told of a message before it is delivered: the refusal (11, 12 or 0), the outcome (0 none ended, 1 a read ended, 2 a write
-// ended), and the value that answers a get.
-pub struct Tested {
-    pub refusal: u64,
-    pub outcome: u64,
-    pub value: u64,
 }
 
 // The work of message `m`, taken out before; a get is answered with `value`.
@@ -44,7 +34,7 @@ fn work(b: &mut [u64], counts: Counts, value: u64, m: Message)
             item,
             stamp,
         ),
-        Message::Commit { partition, stamp } => commit::commit(
+        Message::Commit { partition, stamp } => commit(
             b,
             counts.partitions,
             counts.versions,

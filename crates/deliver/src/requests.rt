@@ -3,10 +3,10 @@ ghost use mathlib.Core.Path.{_≡_};
 ghost use Prim.Native.Nat.{_<_};
 ghost use Rattle.deliver.specs.Deliver.{prepareDelivered, getDelivered};
 use layout::entry::latest;
+use messages::send;
 use protocol::Message;
 use protocol::Version;
-use slots::room::keep;
-use slots::room::send;
+use versions::keep;
 
 // The version is stored, and the reply joins.
 pub fn prepare(b: &mut [u64], v: Version)

@@ -17,7 +17,7 @@ use Rattle.layout.specs.Encodes.{Encodes, HoldsEntry}
 use Rattle.layout.proofs.Room.{HasRoom}
 use Rattle.layout.proofs.EncodesEntry.{encodes-view}
 use Rattle.ends.specs.Ends.{seeItem}
-use Rattle.ends.proofs.Same.{encodes-same-view}
+use Rattle.layout.proofs.Same.{encodes-same-view}
 
 -- what is read of a view is what the block holds
 pub view-held : {b : List ℕ} (d k : ℕ) {e : Entry} → HoldsEntry b views (viewAt d k) e

@@ -2,11 +2,11 @@
 ghost use mathlib.Core.Path.{_≡_};
 ghost use Prim.Native.Nat.{_≤_};
 ghost use Rattle.ends.specs.Ends.{ended};
-use layout::client::put_awaited;
-use layout::client::put_last_kind;
-use layout::client::put_last_set;
-use layout::client::put_mode;
-use layout::client::put_set;
+use client_fields::put_awaited;
+use client_fields::put_last_kind;
+use client_fields::put_last_set;
+use client_fields::put_mode;
+use client_fields::put_set;
 
 pub mod read;
 pub mod write;

@@ -4,12 +4,12 @@ ghost use Prim.Native.Nat.{_≤_, _<_};
 ghost use Rattle.basics.specs.Fold.{upTo};
 ghost use Rattle.ends.specs.Ends.{keepAnswer, readEnded};
 use crate::end;
+use client_fields::asked;
+use client_fields::put_last_read_stamp;
+use client_fields::put_last_value;
+use client_fields::set_of;
+use client_fields::value;
 use itemset::has;
-use layout::client::asked;
-use layout::client::put_last_read_stamp;
-use layout::client::put_last_value;
-use layout::client::set_of;
-use layout::client::value;
 
 // The last ended transaction takes stamp and value of item `k` of set `s`.
 fn keep_answer(b: &mut [u64], d: u64, s: u64, k: u64)

@@ -5,17 +5,17 @@ ghost use Prim.Native.Nat.{_≤_, _<_};
 ghost use Rattle.basics.specs.Fold.{upTo};
 ghost use Rattle.ends.specs.Ends.{seeItem, keepValue, touchItem, touched, sendCommit, writeKept, writeEnded};
 use crate::end;
+use client_fields::put_last_stamp;
+use client_fields::put_last_value;
+use client_fields::set_of;
+use client_fields::value;
 use itemset::has;
 use itemset::insert;
-use layout::client::put_last_stamp;
-use layout::client::put_last_value;
-use layout::client::set_of;
-use layout::client::value;
 use layout::entry::put_view;
 use layout::entry::view;
+use messages::send;
 use protocol::Entry;
 use protocol::Message;
-use slots::room::send;
 
 // The view entry of item `k` of set `s` becomes the later of itself and this write.
 fn see_item(b: &mut [u64], d: u64, s: u64, stamp: u64, k: u64)

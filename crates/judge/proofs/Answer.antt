@@ -13,10 +13,10 @@ use Rattle.judge_frames.specs.Cut.{framesIn}
 use Rattle.judge_frames.proofs.Cuts.{length-framesIn}
 use Rattle.log.specs.Log.{tooLong, framesOf}
 use Rattle.findings.specs.Findings.{findings, faultAt, lowest, judged, checked}
-use Rattle.judge_log.specs.Scan.{Scanning, ScannedOf}
-use Rattle.judge_log.proofs.Scanning.{scan-start}
+use Rattle.judge_scan.specs.Scan.{Scanning, ScannedOf}
+use Rattle.judge_scan.proofs.Scanning.{scan-start}
 use Rattle.log.specs.Some.{firstFrom}
-use Rattle.judge_log.specs.declared.scan.Scanned.the-variants.{Lines, Bad}
+use Rattle.judge_scan.specs.declared.Scanned.the-variants.{Lines, Bad}
 use Rattle.findings.specs.declared.Verdict.the-variants.{Malformed, Judged}
 
 module _ (bytes starts : List ℕ) (n line : ℕ)

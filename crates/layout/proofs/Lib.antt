@@ -10,6 +10,7 @@ pub mod SameBut
 pub mod EncodesClient
 pub mod EncodesEntry
 pub mod EncodesLists
+pub mod Same
 pub mod Changed
 pub mod Held
 pub mod Blank

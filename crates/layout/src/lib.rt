@@ -6,7 +6,6 @@ ghost use lib.ListN.{length, getD, set};
 ghost use Rattle.layout.specs.Layout.{needed, at, store, header, clientsAt, partitionsAt, itemsAt, versionsAt, messagesAt};
 ghost use Rattle.layout.specs.Store.{storeSizes, blank, freshBlock};
 
-pub mod client;
 pub mod entry;
 
 // The most clients, items, stored versions and messages in flight that there are words for.

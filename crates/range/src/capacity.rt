@@ -17,11 +17,11 @@ fn arrived_at(b: &[u64], d: u64) -> u64
     ensures { λ r. ⌜ r ≡ arrived (clientIn (now (b .entry)) d) ⌝ }
     ensures { λ r. ⌜ r ≤ mostItems ⌝ }
 {
-    if layout::client::mode(b, d) < 2 {
+    if client_fields::mode(b, d) < 2 {
         return 0;
     }
-    let set = itemset::count(layout::client::set_of(b, d));
-    let awaited = itemset::count(layout::client::awaited(b, d));
+    let set = itemset::count(client_fields::set_of(b, d));
+    let awaited = itemset::count(client_fields::awaited(b, d));
     if set < awaited {
         return 0;
     }

@@ -124,10 +124,10 @@ fn asked_in_range(b: &[u64], d: u64, clients: u64, items: u64) -> bool
     requires { ⌜ (1 ≤ d) × (d ≤ mostClients) × (clients ≤ mostClients) × (items ≤ mostItems) × (needed ≤ length (now b)) ⌝ }
     ensures { λ r. ⌜ r ≡ askedTest (now (b .entry)) d clients items ⌝ }
 {
-    if 2 <= layout::client::mode(b, d) {
-        stamp_in_range(clients, layout::client::stamp(b, d))
+    if 2 <= client_fields::mode(b, d) {
+        stamp_in_range(clients, client_fields::stamp(b, d))
     } else {
-        stamps_in_range(b, ASKED, d, layout::client::set_of(b, d), clients, items)
+        stamps_in_range(b, ASKED, d, client_fields::set_of(b, d), clients, items)
     }
 }
 
@@ -136,7 +136,7 @@ fn read_in_range(b: &[u64], d: u64, clients: u64, items: u64) -> bool
     requires { ⌜ (1 ≤ d) × (d ≤ mostClients) × (clients ≤ mostClients) × (items ≤ mostItems) × (needed ≤ length (now b)) ⌝ }
     ensures { λ r. ⌜ r ≡ endedInRange (sized clients items) (lastRead (now (b .entry)) d) ⌝ }
 {
-    let set = layout::client::last_set(b, d);
+    let set = client_fields::last_set(b, d);
     itemset::all_below(set, items)
         & (stamps_in_range(b, LAST_STAMPS, d, set, clients, items)
             & values_in_range(b, LAST_VALUES, d, set, items))
@@ -147,9 +147,9 @@ fn write_in_range(b: &[u64], d: u64, clients: u64, items: u64) -> bool
     requires { ⌜ (1 ≤ d) × (d ≤ mostClients) × (clients ≤ mostClients) × (items ≤ mostItems) × (needed ≤ length (now b)) ⌝ }
     ensures { λ r. ⌜ r ≡ endedInRange (sized clients items) (lastWrite (now (b .entry)) d) ⌝ }
 {
-    let set = layout::client::last_set(b, d);
+    let set = client_fields::last_set(b, d);
     itemset::all_below(set, items)
-        & stamp_in_range(clients, layout::client::last_stamp(b, d))
+        & stamp_in_range(clients, client_fields::last_stamp(b, d))
         & values_in_range(b, LAST_VALUES, d, set, items)
 }
 
@@ -157,7 +157,7 @@ fn last_in_range(b: &[u64], d: u64, clients: u64, items: u64) -> bool
     requires { ⌜ (1 ≤ d) × (d ≤ mostClients) × (clients ≤ mostClients) × (items ≤ mostItems) × (needed ≤ length (now b)) ⌝ }
     ensures { λ r. ⌜ r ≡ lastTest (now (b .entry)) d clients items ⌝ }
 {
-    let kind = layout::client::last_kind(b, d);
+    let kind = client_fields::last_kind(b, d);
     if kind == 0 {
         return true;
     }
@@ -172,10 +172,10 @@ fn state_in_range(b: &[u64], d: u64, items: u64) -> bool
     requires { ⌜ (1 ≤ d) × (d ≤ mostClients) ⌝ }
     ensures { λ r. ⌜ r ≡ stateTest (now (b .entry)) d items ⌝ }
 {
-    let mode = layout::client::mode(b, d);
-    let count = layout::client::count(b, d);
-    let set = layout::client::set_of(b, d);
-    let awaited = layout::client::awaited(b, d);
+    let mode = client_fields::mode(b, d);
+    let count = client_fields::count(b, d);
+    let set = client_fields::set_of(b, d);
+    let awaited = client_fields::awaited(b, d);
     (mode < 3)
         & (count < 4294967296)
         & itemset::all_below(set, items)
@@ -189,7 +189,7 @@ fn running_in_range(b: &[u64], d: u64, items: u64) -> bool
     requires { ⌜ (1 ≤ d) × (d ≤ mostClients) × (items ≤ mostItems) × (needed ≤ length (now b)) ⌝ }
     ensures { λ r. ⌜ r ≡ valuesTest (now (b .entry)) d items ⌝ }
 {
-    values_in_range(b, VALUES, d, layout::client::set_of(b, d), items)
+    values_in_range(b, VALUES, d, client_fields::set_of(b, d), items)
 }
 
 fn client_in_range(b: &[u64], d: u64, clients: u64, items: u64) -> bool

@@ -11,13 +11,13 @@ ghost use Rattle.layout.specs.Layout.{header, scalars, at, itemsAt, modeAt};
 ghost use Rattle.layout.specs.Decode.{sizesIn, tablesOf, validBlock};
 ghost use Rattle.range.specs.Sized.{sizes};
 ghost use Rattle.block_calls.specs.Calls.{freshRefusalOn, refusalOn};
+use client_fields::last_kind;
+use client_fields::mode;
 use itemset::all_below;
 use itemset::count;
 use layout::MOST_MESSAGES;
 use layout::MOST_VERSIONS;
 use layout::NEEDED;
-use layout::client::last_kind;
-use layout::client::mode;
 use range::load;
 use range::occupied;
 use range::valid_block;
@@ -101,7 +101,7 @@ fn of_client_write(b: &[u64], d: u64, s: u64, bytes: &[u8]) -> u64
 {
     let items = count(s);
     let values = bytes.len() as u64 == 4 * items;
-    let counted = layout::client::count(b, d) == 4294967295;
+    let counted = client_fields::count(b, d) == 4294967295;
     let full = MOST_MESSAGES < load(b) + items;
     let stored = MOST_VERSIONS < occupied(b) + items;
     refuse(

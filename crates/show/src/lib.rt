@@ -8,15 +8,15 @@ ghost use Rattle.itemset.specs.Set.{count};
 ghost use Rattle.layout.specs.Layout.{at, scalars, lastStampAt};
 ghost use Rattle.protocol.specs.Tables.{numberOf};
 ghost use Rattle.show.specs.Show.{frameIn, head, readItem, writtenItem, putItem, readPart, writePart};
+use client_fields::last_kind;
+use client_fields::last_read_stamp;
+use client_fields::last_set;
+use client_fields::last_stamp;
+use client_fields::last_value;
 use hex::put_bytes;
 use itemset::count;
 use itemset::has;
 use itemset::rank;
-use layout::client::last_kind;
-use layout::client::last_read_stamp;
-use layout::client::last_set;
-use layout::client::last_stamp;
-use layout::client::last_value;
 
 // Kind and client: what every frame begins with.
 fn put_head(out: &mut [u8], kind: u8, d: u64)

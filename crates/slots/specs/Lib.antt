@@ -1,4 +1,2 @@
--- Stored versions and messages in flight: what a search among the versions finds, and how one
--- more joins.
-pub mod Found
+-- How one more joins the stored versions or the messages in flight.
 pub mod Room

@@ -1,4 +1,4 @@
-// The stored versions and the messages in flight of a store, in one lent block of 64-bit words: each read and joined by value.
+// What the stored versions and the messages in flight share: each is a run of words at the end of those that are there.
 ghost use mathlib.Core.Path.{_≡_};
 ghost use mathlib.Core.List.{[], _∷_};
 ghost use Prim.Native.Nat.{_<_};
@@ -6,18 +6,8 @@ ghost use lib.Seq.{sets};
 ghost use Rattle.layout.specs.Layout.{needed};
 use layout::put_word;
 
-pub mod message;
-pub mod room;
-pub mod version;
-
-// What a search finds: a place, or nothing.
-pub enum Found {
-    At(u64),
-    Nothing,
-}
-
 // Four words from `place` on.
-fn put_four(b: &mut [u64], place: u64, first: u64, second: u64, third: u64, fourth: u64)
+pub fn put_four(b: &mut [u64], place: u64, first: u64, second: u64, third: u64, fourth: u64)
     requires { ⌜ place < needed ⌝ }
     ensures { λ _. ⌜ now (b .exit) ≡ sets (now (b .entry)) place (first ∷ second ∷ third ∷ fourth ∷ []) ⌝ }
 {

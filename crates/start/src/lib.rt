@@ -2,9 +2,9 @@
 ghost use mathlib.Core.Path.{_≡_};
 ghost use Prim.Native.Nat.{_≤_};
 ghost use Rattle.start.specs.Start.{busy};
-use layout::client::put_awaited;
-use layout::client::put_mode;
-use layout::client::put_set;
+use client_fields::put_awaited;
+use client_fields::put_mode;
+use client_fields::put_set;
 
 pub mod read;
 pub mod write;

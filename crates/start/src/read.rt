@@ -9,14 +9,14 @@ ghost use Rattle.layout.specs.Layout.{mostMessages, header, at, itemsAt, messag
 ghost use Rattle.layout.specs.Decode.{viewIn};
 ghost use Rattle.start.specs.Start.{askItem, sendGet, readStarted};
 use crate::put_busy;
+use client_fields::asked;
+use client_fields::put_asked;
+use client_fields::put_value;
 use itemset::has;
 use itemset::rank;
-use layout::client::asked;
-use layout::client::put_asked;
-use layout::client::put_value;
 use layout::entry::view;
+use messages::append;
 use protocol::Message;
-use slots::message::append;
 
 fn later(x: u64, y: u64) -> u64
     ensures { λ r. ⌜ r ≡ max x y ⌝ }

@@ -7,17 +7,17 @@ ghost use Rattle.itemset.specs.Set.{count};
 ghost use Rattle.layout.specs.Layout.{mostMessages, header, scalars, at, itemsAt, messagesAt, countAt};
 ghost use Rattle.start.specs.Start.{valueItem, sendPrepare, writeStarted};
 use crate::put_busy;
+use client_fields::count;
+use client_fields::put_count;
+use client_fields::put_stamp;
+use client_fields::put_value;
+use client_fields::value;
 use hex::number_at;
 use itemset::has;
 use itemset::rank;
-use layout::client::count;
-use layout::client::put_count;
-use layout::client::put_stamp;
-use layout::client::put_value;
-use layout::client::value;
+use messages::append;
 use protocol::Message;
 use protocol::Version;
-use slots::message::append;
 
 // Item `k` of set `s` takes its four bytes as its value.
 fn keep_item(b: &mut [u64], d: u64, s: u64, bytes: &[u8], k: u64)

@@ -6,19 +6,19 @@ ghost use Rattle.protocol.specs.Calls.{startRead, startWrite, deliver, show};
 ghost use Rattle.layout.specs.Layout.{header, at, versionsAt, messagesAt};
 ghost use Rattle.layout.specs.Decode.{messageIn, tablesOf, validBlock};
 ghost use Rattle.range.specs.Sized.{sizes};
-ghost use Rattle.deliver.specs.Tests.{testedIn};
+ghost use Rattle.deliver_tests.specs.Tests.{testedIn};
 ghost use Rattle.block_calls.specs.Calls.{freshAnswerOn, freshAfter, freshTables, refusalOn, answerOn, outputOn, blockAfter, tablesAfter};
 use deliver::Counts;
-use deliver::Tested;
 use deliver::deliver_message;
-use deliver::tests::tested;
+use deliver_tests::Tested;
+use deliver_tests::test;
+use messages::kind;
+use messages::message;
 use protocol::Answer;
 use protocol::Message;
 use range::valid_block;
 use show::frame_length;
 use show::write_frame;
-use slots::message::kind;
-use slots::message::message;
 
 pub fn fresh(b: &mut [u64], clients: u64, partitions: u64, items: u64) -> Answer
     ensures answer { λ r. ⌜ r ≡ freshAnswerOn (now (b .entry)) (sizes clients partitions items) ⌝ }
@@ -115,7 +115,7 @@ fn deliver_at(b: &mut [u64], i: u64) -> Answer
     ensures block { λ _. ⌜ now (b .exit) ≡ blockAfter (now (b .entry)) (deliver i) ⌝ }
 {
     let m = message(b, i);
-    let t = tested(b, layout::version_count(b), m);
+    let t = test(b, layout::version_count(b), m);
     if t.refusal == 0 {
         deliver_on(b, i, t, m)
     } else {

@@ -1,6 +1,6 @@
 -- `deliver::work` meets its contract: arm by arm.
 use mathlib.Core.Path.{subst}
-use Rattle.deliver.specs.Tests.{Bounded}
+use Rattle.deliver_tests.specs.Tests.{Bounded}
 use Rattle.deliver.specs.Deliver.{messageDelivered}
 use borrow.Author.Needs.{needs}
 use Rattle.deliver.proofs.work.Statement.{statement}

@@ -3,9 +3,9 @@ use mathlib.Core.List.{[]}
 use mathlib.Core.Path.{subst, _∙_}
 use native.Mathlib.Omega.{arith}
 use Rattle.judge.proofs.Answer.{checked-lines, checked-bad}
-use Rattle.judge_log.specs.Scan.{ScannedOf}
-use Rattle.judge_log.specs.declared.scan.Scanned.{Scanned}
-use Rattle.judge_log.specs.declared.scan.Scanned.the-variants.{Lines, Bad}
+use Rattle.judge_scan.specs.Scan.{ScannedOf}
+use Rattle.judge_scan.specs.declared.Scanned.{Scanned}
+use Rattle.judge_scan.specs.declared.Scanned.the-variants.{Lines, Bad}
 use borrow.Author.Needs.{needs}
 use Rattle.judge.proofs.judge_into.Statement.{statement}
 use Rattle.judge.proofs.judge_into.Tie as tie

@@ -5,7 +5,7 @@ use Prim.Native.Nat.{ℕ}
 use native.Mathlib.Omega.{arith}
 use borrow.Author.Needs.{needs}
 use Rattle.protocol.specs.Calls.{deliver}
-use Rattle.deliver.specs.Tests.{Bounded, testedIn}
+use Rattle.deliver_tests.specs.Tests.{Bounded, testedIn}
 use Rattle.block_calls.proofs.Given.{refused-given}
 use Rattle.block_calls.proofs.Places.{few-places, few-versions, bounded-message, told-refusal}
 use Rattle.store.proofs.calls.deliver_at.Statement.{statement}
@@ -18,8 +18,8 @@ message-requires c κs = let start = c .before .before in
 version-count-requires : tie.Need-version-count-requires
 version-count-requires c κs = search needs
 
-tested-requires : tie.Need-tested-requires
-tested-requires c κs =
+test-requires : tie.Need-test-requires
+test-requires c κs =
     let start = c .before .before .before .before .before in (
       omega (
         arith,
@@ -38,9 +38,9 @@ deliver-on-requires c κs =
     let start = read .before .before .before in
     let counted = test .before .version-count .ensures in (
       sym (told-refusal (start .args .b .now) (start .args .i) (search needs) (search needs) _ _ _
-          (read .message .ensures) counted (test .tested .ensures)) ∙ c .before .if1 .taken,
+          (read .message .ensures) counted (test .test .ensures)) ∙ c .before .if1 .taken,
       read .message .ensures,
-      test .tested .ensures ∙ ap (λ (n : ℕ). testedIn (start .args .b .now) n
+      test .test .ensures ∙ ap (λ (n : ℕ). testedIn (start .args .b .now) n
           (read .message .result)) counted,
     )
 
@@ -60,7 +60,7 @@ returns-2 c =
     let start = read .before .before .before in
     refused-given (start .args .b .now) (deliver (start .args .i)) _
     (told-refusal (start .args .b .now) (start .args .i) (search needs) (search needs) _ _ _
-    (read .message .ensures) (test .before .version-count .ensures) (test .tested .ensures))
+    (read .message .ensures) (test .before .version-count .ensures) (test .test .ensures))
     (c .if1 .left)
 
 pub deliver-at-spec : {M : Type 1} → statement M
@@ -69,7 +69,7 @@ deliver-at-spec =
     (tie.spec
     message-requires
     version-count-requires
-    tested-requires
+    test-requires
     deliver-on-requires
     same-length
     returns

@@ -1,0 +1,209 @@
+// The fields of a client (document 01: desk) but its view: eight of its own, and four words for each item.
+ghost use mathlib.Core.Path.{_≡_};
+ghost use Prim.Native.Nat.{_≤_, _<_};
+ghost use Rattle.layout.specs.Layout.{at, store, scalars, asked, values, lastStamps, lastValues};
+ghost use Rattle.layout.specs.Layout.{clientWords, scalarAt, modeAt, countAt, setAt, awaitedAt, stampAt, lastKindAt, lastSetAt, lastStampAt, itemAt};
+use layout::ASKED;
+use layout::CLIENT_WORDS;
+use layout::LAST_STAMPS;
+use layout::LAST_VALUES;
+use layout::MOST_ITEMS;
+use layout::SCALARS;
+use layout::VALUES;
+use layout::put_word;
+use layout::word;
+
+// Word `f` of the scalars of client `d`.
+fn scalar(b: &[u64], d: u64, f: u64) -> u64
+    requires { ⌜ (1 ≤ d) × (d ≤ 8) × (f < clientWords) ⌝ }
+    ensures { λ r. ⌜ r ≡ at (now (b .entry)) scalars (scalarAt d f) ⌝ }
+{
+    word(b, (SCALARS + (CLIENT_WORDS * (d - 1) + f)) as usize)
+}
+
+fn put_scalar(b: &mut [u64], d: u64, f: u64, v: u64)
+    requires { ⌜ (1 ≤ d) × (d ≤ 8) × (f < clientWords) ⌝ }
+    ensures { λ _. ⌜ now (b .exit) ≡ store (now (b .entry)) scalars (scalarAt d f) v ⌝ }
+{
+    put_word(b, (SCALARS + (CLIENT_WORDS * (d - 1) + f)) as usize, v);
+}
+
+// 0 idle, 1 reading, 2 writing.
+pub fn mode(b: &[u64], d: u64) -> u64
+    requires { ⌜ (1 ≤ d) × (d ≤ 8) ⌝ }
+    ensures { λ r. ⌜ r ≡ at (now (b .entry)) scalars (modeAt d) ⌝ }
+{
+    scalar(b, d, 0)
+}
+
+pub fn put_mode(b: &mut [u64], d: u64, v: u64)
+    requires { ⌜ (1 ≤ d) × (d ≤ 8) ⌝ }
+    ensures { λ _. ⌜ now (b .exit) ≡ store (now (b .entry)) scalars (modeAt d) v ⌝ }
+{
+    put_scalar(b, d, 0, v);
+}
+
+// How many writes it has started.
+pub fn count(b: &[u64], d: u64) -> u64
+    requires { ⌜ (1 ≤ d) × (d ≤ 8) ⌝ }
+    ensures { λ r. ⌜ r ≡ at (now (b .entry)) scalars (countAt d) ⌝ }
+{
+    scalar(b, d, 1)
+}
+
+pub fn put_count(b: &mut [u64], d: u64, v: u64)
+    requires { ⌜ (1 ≤ d) × (d ≤ 8) ⌝ }
+    ensures { λ _. ⌜ now (b .exit) ≡ store (now (b .entry)) scalars (countAt d) v ⌝ }
+{
+    put_scalar(b, d, 1, v);
+}
+
+// The items of its transaction under way.
+pub fn set_of(b: &[u64], d: u64) -> u64
+    requires { ⌜ (1 ≤ d) × (d ≤ 8) ⌝ }
+    ensures { λ r. ⌜ r ≡ at (now (b .entry)) scalars (setAt d) ⌝ }
+{
+    scalar(b, d, 2)
+}
+
+pub fn put_set(b: &mut [u64], d: u64, v: u64)
+    requires { ⌜ (1 ≤ d) × (d ≤ 8) ⌝ }
+    ensures { λ _. ⌜ now (b .exit) ≡ store (now (b .entry)) scalars (setAt d) v ⌝ }
+{
+    put_scalar(b, d, 2, v);
+}
+
+// Those of them that it still awaits.
+pub fn awaited(b: &[u64], d: u64) -> u64
+    requires { ⌜ (1 ≤ d) × (d ≤ 8) ⌝ }
+    ensures { λ r. ⌜ r ≡ at (now (b .entry)) scalars (awaitedAt d) ⌝ }
+{
+    scalar(b, d, 3)
+}
+
+pub fn put_awaited(b: &mut [u64], d: u64, v: u64)
+    requires { ⌜ (1 ≤ d) × (d ≤ 8) ⌝ }
+    ensures { λ _. ⌜ now (b .exit) ≡ store (now (b .entry)) scalars (awaitedAt d) v ⌝ }
+{
+    put_scalar(b, d, 3, v);
+}
+
+// The one stamp of a write under way.
+pub fn stamp(b: &[u64], d: u64) -> u64
+    requires { ⌜ (1 ≤ d) × (d ≤ 8) ⌝ }
+    ensures { λ r. ⌜ r ≡ at (now (b .entry)) scalars (stampAt d) ⌝ }
+{
+    scalar(b, d, 4)
+}
+
+pub fn put_stamp(b: &mut [u64], d: u64, v: u64)
+    requires { ⌜ (1 ≤ d) × (d ≤ 8) ⌝ }
+    ensures { λ _. ⌜ now (b .exit) ≡ store (now (b .entry)) scalars (stampAt d) v ⌝ }
+{
+    put_scalar(b, d, 4, v);
+}
+
+// Its last ended transaction: 0 none yet, 1 a read, 2 a write.
+pub fn last_kind(b: &[u64], d: u64) -> u64
+    requires { ⌜ (1 ≤ d) × (d ≤ 8) ⌝ }
+    ensures { λ r. ⌜ r ≡ at (now (b .entry)) scalars (lastKindAt d) ⌝ }
+{
+    scalar(b, d, 5)
+}
+
+pub fn put_last_kind(b: &mut [u64], d: u64, v: u64)
+    requires { ⌜ (1 ≤ d) × (d ≤ 8) ⌝ }
+    ensures { λ _. ⌜ now (b .exit) ≡ store (now (b .entry)) scalars (lastKindAt d) v ⌝ }
+{
+    put_scalar(b, d, 5, v);
+}
+
+// The last ended transaction's items.
+pub fn last_set(b: &[u64], d: u64) -> u64
+    requires { ⌜ (1 ≤ d) × (d ≤ 8) ⌝ }
+    ensures { λ r. ⌜ r ≡ at (now (b .entry)) scalars (lastSetAt d) ⌝ }
+{
+    scalar(b, d, 6)
+}
+
+pub fn put_last_set(b: &mut [u64], d: u64, v: u64)
+    requires { ⌜ (1 ≤ d) × (d ≤ 8) ⌝ }
+    ensures { λ _. ⌜ now (b .exit) ≡ store (now (b .entry)) scalars (lastSetAt d) v ⌝ }
+{
+    put_scalar(b, d, 6, v);
+}
+
+// The one stamp of a last write.
+pub fn last_stamp(b: &[u64], d: u64) -> u64
+    requires { ⌜ (1 ≤ d) × (d ≤ 8) ⌝ }
+    ensures { λ r. ⌜ r ≡ at (now (b .entry)) scalars (lastStampAt d) ⌝ }
+{
+    scalar(b, d, 7)
+}
+
+pub fn put_last_stamp(b: &mut [u64], d: u64, v: u64)
+    requires { ⌜ (1 ≤ d) × (d ≤ 8) ⌝ }
+    ensures { λ _. ⌜ now (b .exit) ≡ store (now (b .entry)) scalars (lastStampAt d) v ⌝ }
+{
+    put_scalar(b, d, 7, v);
+}
+
+// The stamp that a read under way asks for at item `k`.
+pub fn asked(b: &[u64], d: u64, k: u64) -> u64
+    requires { ⌜ (1 ≤ d) × (d ≤ 8) × (k < 64) ⌝ }
+    ensures { λ r. ⌜ r ≡ at (now (b .entry)) asked (itemAt d k) ⌝ }
+{
+    word(b, (ASKED + (MOST_ITEMS * (d - 1) + k)) as usize)
+}
+
+pub fn put_asked(b: &mut [u64], d: u64, k: u64, v: u64)
+    requires { ⌜ (1 ≤ d) × (d ≤ 8) × (k < 64) ⌝ }
+    ensures { λ _. ⌜ now (b .exit) ≡ store (now (b .entry)) asked (itemAt d k) v ⌝ }
+{
+    put_word(b, (ASKED + (MOST_ITEMS * (d - 1) + k)) as usize, v);
+}
+
+// The value of item `k`: a read's answer so far, or a write's.
+pub fn value(b: &[u64], d: u64, k: u64) -> u64
+    requires { ⌜ (1 ≤ d) × (d ≤ 8) × (k < 64) ⌝ }
+    ensures { λ r. ⌜ r ≡ at (now (b .entry)) values (itemAt d k) ⌝ }
+{
+    word(b, (VALUES + (MOST_ITEMS * (d - 1) + k)) as usize)
+}
+
+pub fn put_value(b: &mut [u64], d: u64, k: u64, v: u64)
+    requires { ⌜ (1 ≤ d) × (d ≤ 8) × (k < 64) ⌝ }
+    ensures { λ _. ⌜ now (b .exit) ≡ store (now (b .entry)) values (itemAt d k) v ⌝ }
+{
+    put_word(b, (VALUES + (MOST_ITEMS * (d - 1) + k)) as usize, v);
+}
+
+// The stamp of item `k` in the last ended transaction, a read.
+pub fn last_read_stamp(b: &[u64], d: u64, k: u64) -> u64
+    requires { ⌜ (1 ≤ d) × (d ≤ 8) × (k < 64) ⌝ }
+    ensures { λ r. ⌜ r ≡ at (now (b .entry)) lastStamps (itemAt d k) ⌝ }
+{
+    word(b, (LAST_STAMPS + (MOST_ITEMS * (d - 1) + k)) as usize)
+}
+
+pub fn put_last_read_stamp(b: &mut [u64], d: u64, k: u64, v: u64)
+    requires { ⌜ (1 ≤ d) × (d ≤ 8) × (k < 64) ⌝ }
+    ensures { λ _. ⌜ now (b .exit) ≡ store (now (b .entry)) lastStamps (itemAt d k) v ⌝ }
+{
+    put_word(b, (LAST_STAMPS + (MOST_ITEMS * (d - 1) + k)) as usize, v);
+}
+
+// The value of item `k` in the last ended transaction.
+pub fn last_value(b: &[u64], d: u64, k: u64) -> u64
+    requires { ⌜ (1 ≤ d) × (d ≤ 8) × (k < 64) ⌝ }
+    ensures { λ r. ⌜ r ≡ at (now (b .entry)) lastValues (itemAt d k) ⌝ }
+{
+    word(b, (LAST_VALUES + (MOST_ITEMS * (d - 1) + k)) as usize)
+}
+
+pub fn put_last_value(b: &mut [u64], d: u64, k: u64, v: u64)
+    requires { ⌜ (1 ≤ d) × (d ≤ 8) × (k < 64) ⌝ }
+    ensures { λ _. ⌜ now (b .exit) ≡ store (now (b .entry)) lastValues (itemAt d k) v ⌝ }
+{
+    put_word(b, (LAST_VALUES + (MOST_ITEMS * (d - 1) + k)) as usize, v);
+}

@@ -1,0 +1,2 @@
+-- A commit on the block.
+pub mod Commit

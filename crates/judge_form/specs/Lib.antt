@@ -1,0 +1,2 @@
+-- What parsing a frame answers.
+pub mod Parsed

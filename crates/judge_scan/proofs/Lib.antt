@@ -1,0 +1,2 @@
+-- The laws of scanning a log.
+pub mod Scanning

@@ -1,0 +1,2 @@
+-- What scanning a log keeps and answers.
+pub mod Scan

@@ -1,0 +1,2 @@
+-- What a search among the stored versions finds.
+pub mod Found
