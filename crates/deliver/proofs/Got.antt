@@ -16,16 +16,15 @@ use Rattle.protocol.specs.Tables.{withClient, withView}
 use Rattle.protocol.specs.Range.{isIdle, isWriting}
 use Rattle.protocol.specs.Steps.{answered, isLast, got, seen}
 use Rattle.protocol.proofs.Ranges.Clients.{ClientInRange}
-use Rattle.layout.specs.Layout.{scalars, store, awaitedAt}
+use Rattle.layout.specs.Layout.{scalars, values, store, awaitedAt}
 use Rattle.layout.specs.Decode.{viewIn}
 use Rattle.layout.specs.Store.{storeView}
 use Rattle.layout.specs.Encodes.{Encodes, HoldsClient}
 use Rattle.layout.proofs.Room.{HasRoom}
 use Rattle.layout.proofs.Parts.{awaits-answer, awaits-busy, writes-nothing, no-reply-awaited}
-use Rattle.layout.proofs.ClientWords.{wordsOf, putValue}
+use Rattle.layout.proofs.ClientWords.{wordsOf, putWord}
 use Rattle.layout.proofs.ClientHolds.{words-hold}
-use Rattle.layout.proofs.Changed.{Changed, changed-none, changed-scalar, changed-value}
-use Rattle.layout.proofs.Changed.{encodes-changed}
+use Rattle.layout.proofs.Changed.{Changed, changed-none, changed-put, encodes-changed}
 use Rattle.layout.proofs.EncodesEntry.{encodes-view}
 use Rattle.ends.specs.Ends.{readEnded}
 use Rattle.deliver.specs.Deliver.{keptAnswer, gotDelivered}
@@ -76,16 +75,16 @@ module _ {b : List ℕ} {t : Tables} (d : ℕ) (v : Version) (latest : Entry) (n
 
   -- and with the answer
   kept : Changed d seenBlock (keptAnswer b d v latest)
-      (putValue (wordsOf seenBlock d) (v .item) (v .value))
+      (putWord (wordsOf seenBlock d) values (v .item) (v .value))
   kept =
-      changed-value (changed-none d seenBlock first (omega (arith, r .clients))
-      (encodes-seen-later .long)) (v .item) (v .value)
+      changed-put (changed-none d seenBlock first (omega (arith, r .clients))
+      (encodes-seen-later .long)) values (v .item) (v .value)
       (omega (arith, r .items))
 
   answers : (j : ℕ) → has (c .read .set) j ≡ true
-      → put (wordsOf seenBlock d .values) (v .item) (v .value) j ≡ put (c .read .values) (v .item)
+      → put (wordsOf seenBlock d values) (v .item) (v .value) j ≡ put (c .read .values) (v .item)
       (v .value) j
-  answers = put-held (c .read .set) (v .item) (v .value) (wordsOf seenBlock d .values)
+  answers = put-held (c .read .set) (v .item) (v .value) (wordsOf seenBlock d values)
       (c .read .values)
       (held .read reads .values)
 
@@ -105,10 +104,10 @@ module _ {b : List ℕ} {t : Tables} (d : ℕ) (v : Version) (latest : Entry) (n
       (withClient (withView t d view) d (answered c (v .item) (v .value)))
   goes-on more =
       encodes-changed encodes-seen-later r last
-      (changed-scalar kept 3 (remove (c .read .awaited) (v .item)) (lit< tt))
+      (changed-put kept scalars 3 (remove (c .read .awaited) (v .item)) (lit< tt))
       (narrow-answered c (v .item) (v .value) (r .client d first last))
       (words-answered (wordsOf seenBlock d) c (v .item) (words-hold held) busy (v .value)
-      (put (wordsOf seenBlock d .values) (v .item) (v .value)) reads more answers)
+      reads more answers)
 
   -- with no write part nothing of one is seen
   abbrev viewAfter : ℕ → Entry

@@ -25,7 +25,7 @@ use Rattle.layout.proofs.Room.{HasRoom, narrow-below}
 use Rattle.layout.proofs.Parts.{awaits-reply, awaits-busy, no-answer-awaited}
 use Rattle.layout.proofs.ClientWords.{wordsOf}
 use Rattle.layout.proofs.ClientHolds.{words-hold}
-use Rattle.layout.proofs.Changed.{changed-none, changed-scalar, encodes-changed}
+use Rattle.layout.proofs.Changed.{changed-none, changed-put, encodes-changed}
 use Rattle.layout.proofs.Room.{room-client}
 use Rattle.ends.specs.Ends.{sendCommit, touched, writeKept, writeEnded}
 use Rattle.deliver.specs.Deliver.{preparedDelivered}
@@ -120,7 +120,7 @@ module _ {b : List ℕ} (t : Tables) (ms : List Message) (k stamp : ℕ)
       (sym (append-nil ms))
       (encodes-same-view (put (t .view) d (t .view d))
       (encodes-changed n r last
-      (changed-scalar (changed-none d b first (omega (arith, r .clients)) (n .long)) 3
+      (changed-put (changed-none d b first (omega (arith, r .clients)) (n .long)) scalars 3
       (remove (c .write .awaited) k) (lit< tt))
       (narrow-struck c k (r .client d first last))
       (words-struck (wordsOf b d) c k (words-hold held) busy writes more))

@@ -7,28 +7,19 @@ use Rattle.itemset.specs.Set.{has, remove}
 use Rattle.protocol.specs.Tables.{Client, ofRead, ofWrite, put}
 use Rattle.protocol.specs.Range.{isIdle, isWriting}
 use Rattle.protocol.specs.Steps.{answered, struck, isLast}
+use Rattle.layout.specs.Layout.{scalars, values}
 use Rattle.layout.proofs.Room.{NarrowClient}
-use Rattle.layout.proofs.ClientWords.{Words}
+use Rattle.layout.proofs.ClientWords.{Words, putWord}
 use Rattle.layout.proofs.ClientHolds.{WordsHold}
-
--- w with another awaited set and other values
-abbrev pub struckWords : Words → ℕ → (ℕ → ℕ) → Words
-struckWords w rest vs =
-    record {
-      scalar = put (w .scalar) 3 rest;
-      asked = w .asked;
-      values = vs;
-      lastStamps =
-          w .lastStamps;
-      lastValues = w .lastValues;
-    }
 
 module _ (w : Words) (c : Client) (k : ℕ) (h : WordsHold w c) (busy : isIdle c ≡ false) where
   -- an answer to a read that goes on
-  pub words-answered : (value : ℕ) (vs : ℕ → ℕ) → isWriting c ≡ false → isLast ofRead c k ≡ false
-      → ((j : ℕ) → has (c .read .set) j ≡ true → vs j ≡ put (c .read .values) k value j)
-      → WordsHold (struckWords w (remove (c .read .awaited) k) vs) (answered c k value)
-  words-answered value vs reads more same =
+  pub words-answered : (value : ℕ) → isWriting c ≡ false → isLast ofRead c k ≡ false
+      → ((j : ℕ) → has (c .read .set) j ≡ true
+      → put (w values) k value j ≡ put (c .read .values) k value j)
+      → WordsHold (putWord (putWord w values k value) scalars 3 (remove (c .read .awaited) k))
+      (answered c k value)
+  words-answered value reads more same =
       let p = h .read reads in
       record {
         mode = h .mode ∙ rw (busy, more) refl;
@@ -40,7 +31,7 @@ module _ (w : Words) (c : Client) (k : ℕ) (h : WordsHold w c) (busy : isIdle c
 
   -- a reply to a write that goes on
   pub words-struck : isWriting c ≡ true → isLast ofWrite c k ≡ false
-      → WordsHold (struckWords w (remove (c .write .awaited) k) (w .values)) (struck c k)
+      → WordsHold (putWord w scalars 3 (remove (c .write .awaited) k)) (struck c k)
   words-struck writes more =
       let p = h .write writes in
       record {

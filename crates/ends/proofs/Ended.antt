@@ -13,10 +13,11 @@ use Rattle.itemset.proofs.Pass.{filled-at}
 use Rattle.protocol.specs.Tables.{Tables, read, write, resting, withClient, withView}
 use Rattle.protocol.specs.Range.{isWriting}
 use Rattle.protocol.specs.Steps.{seen}
+use Rattle.layout.specs.Layout.{scalars, asked, values}
 use Rattle.layout.specs.Encodes.{Encodes, HoldsClient}
 use Rattle.layout.proofs.Room.{HasRoom, narrow-below}
 use Rattle.layout.proofs.ClientWords.{Words}
-use Rattle.layout.proofs.Changed.{Changed, changed-none, changed-scalar, encodes-changed}
+use Rattle.layout.proofs.Changed.{Changed, changed-none, changed-put, encodes-changed}
 use Rattle.ends.specs.Ends.{ended, keepAnswer, seeItem, readEnded, writeKept}
 use Rattle.ends.proofs.Seen.{encodes-seen}
 use Rattle.ends.proofs.Copied.{values-taken, answers-taken}
@@ -41,7 +42,7 @@ encodes-write-kept {b} {t} d stamp n r first last writes set =
     let h : HoldsClient b₁ d (t .client d) = e .client d first last in
     let v = values-taken s (changed-none d b₁ first (omega (arith, r .clients)) (e .long)) items
     (r .items) in
-    encodes-changed e r last (changed-scalar (ended-changed 2 s v) 7 stamp (lit< tt))
+    encodes-changed e r last (changed-put (ended-changed 2 s v) scalars 7 stamp (lit< tt))
     (narrow-resting (t .client d .count) (write s stamp (t .client d .write .values))
     (narrow-below s items set (r .items)))
     (rests-write _ (t .client d .count) s stamp (t .client d .write .values) (h .count)
@@ -51,20 +52,20 @@ encodes-write-kept {b} {t} d stamp n r first last writes set =
 
 pub encodes-read-ended : {a b : List ℕ} {t : Tables} {d : ℕ} {w : Words} (count s : ℕ)
     (stamps vs : ℕ → ℕ) → Encodes a t → HasRoom t
-    → d ≤ t .sizes .clients → s < 2 ^ t .sizes .items → Changed d a b w → w .scalar 1 ≡ count
-    → w .scalar 2 ≡ s
-    → ((k : ℕ) → has s k ≡ true → w .asked k ≡ stamps k)
-    → ((k : ℕ) → has s k ≡ true → w .values k ≡ vs k)
+    → d ≤ t .sizes .clients → s < 2 ^ t .sizes .items → Changed d a b w → w scalars 1 ≡ count
+    → w scalars 2 ≡ s
+    → ((k : ℕ) → has s k ≡ true → w asked k ≡ stamps k)
+    → ((k : ℕ) → has s k ≡ true → w values k ≡ vs k)
     → Encodes (readEnded b (t .sizes .items) d) (withClient t d (resting count (read s stamps vs)))
 unfolding readEnded
-encodes-read-ended {a} {b} {t} {d} {w} count s stamps vs n r last set c counted same asked values =
+encodes-read-ended {a} {b} {t} {d} {w} count s stamps vs n r last set c counted same asks answers =
     let items = t .sizes .items in
     let v = answers-taken s c items (r .items) in
     subst (λ (z : ℕ). Encodes (ended (upTo (keepAnswer d z) b items) d 1 z)
     (withClient t d (resting count (read s stamps vs))))
-    (sym (c .words .scalar 2 (lit< tt) ∙ same))
+    (sym (c .words .row scalars 2 (lit< tt) ∙ same))
     (encodes-changed n r last (ended-changed 1 s v)
     (narrow-resting count (read s stamps vs) (narrow-below s items set (r .items)))
     (rests-read _ count s stamps vs counted
-    (λ k m. filled-at s _ _ items k (has-below s k items set m) m ∙ asked k m)
-    (λ k m. filled-at s _ _ items k (has-below s k items set m) m ∙ values k m)))
+    (λ k m. filled-at s _ _ items k (has-below s k items set m) m ∙ asks k m)
+    (λ k m. filled-at s _ _ items k (has-below s k items set m) m ∙ answers k m)))

@@ -1,22 +1,20 @@
 -- A change of one client, store by store: each store adds one word, and at the end the words say
 -- which client the block holds.
+use mathlib.Core.Bool.{false}
 use mathlib.Core.List.{List}
+use mathlib.Core.Path.{_≡_, ap, _∙_, subst}
 use Prim.Native.Nat.{ℕ, _≤_, _<_}
 use native.Mathlib.Omega.{arith}
 use lib.ListN.{length}
-use Rattle.protocol.specs.Tables.{Tables, Client, withClient}
-use Rattle.layout.specs.Layout.{clientWords, scalars, asked, values, lastStamps, lastValues}
-use Rattle.layout.specs.Layout.{store, needed, scalarAt, itemAt}
+use Rattle.protocol.specs.Tables.{Tables, Client, put, withClient}
+use Rattle.layout.specs.Layout.{Section, store, needed}
 use Rattle.layout.specs.Encodes.{Encodes}
 use Rattle.layout.proofs.Room.{HasRoom, NarrowClient}
-use Rattle.layout.proofs.ClientWords.{Words, wordsOf, HasWords, has-words, putScalar}
-use Rattle.layout.proofs.ClientWords.{putAsked, putValue, putLastStamp, putLastValue}
-use Rattle.layout.proofs.ClientWords.{has-words-scalar, has-words-asked, has-words-value}
-use Rattle.layout.proofs.ClientWords.{has-words-last-stamp, has-words-last-value}
+use Rattle.layout.proofs.Sections.{isSection, rowWidth, rowAt}
+use Rattle.layout.proofs.ClientWords.{Words, wordsOf, HasWords, has-words, has-words-put}
+use Rattle.layout.proofs.ClientWords.{putWord, withRow, put-row, put-row-other}
 use Rattle.layout.proofs.ClientHolds.{WordsHold, holds-words}
-use Rattle.layout.proofs.SameBut.{SameBut, same-but-refl, same-but-trans, same-but-scalar}
-use Rattle.layout.proofs.SameBut.{same-but-asked, same-but-value, same-but-last-stamp}
-use Rattle.layout.proofs.SameBut.{same-but-last-value}
+use Rattle.layout.proofs.SameBut.{SameBut, same-but-refl, same-but-trans, same-but-put}
 use Rattle.layout.proofs.EncodesClient.{encodes-client}
 
 -- b′ is b but for words of client d, which are w now
@@ -33,48 +31,38 @@ changed-none d b l h long = record
     { first = l; last = h; long = long; same = same-but-refl d b; words = has-words d b }
 
 -- one store more
-changed-more : {d : ℕ} {b b′ b″ : List ℕ} {w w″ : Words} → Changed d b b′ w → SameBut d b′ b″
-    → HasWords d b″ w″ → Changed d b b″ w″
-changed-more c same words =
+pub changed-put : {d : ℕ} {b b′ : List ℕ} {w : Words} → Changed d b b′ w → (s : Section)
+    (k v : ℕ) → k < rowWidth s → Changed d b (store b′ s (rowAt s d k) v) (putWord w s k v)
+changed-put {d} {b} {b′} {w} c s k v l =
+    let same : SameBut d b′ (store b′ s (rowAt s d k) v) =
+    same-but-put d b′ s k v (c .first) (c .last) l in
     record {
       first = c .first;
       last = c .last;
       long = omega (arith, c .long, same .long);
-      same =
-          same-but-trans (c .same) same;
-      words = words;
+      same = same-but-trans (c .same) same;
+      words = has-words-put (c .first) (c .last) (c .long) (c .words) s k v l;
     }
 
-module _ {d : ℕ} {b b′ : List ℕ} {w : Words} (c : Changed d b b′ w) where
-  pub changed-scalar : (f v : ℕ) → f < clientWords
-      → Changed d b (store b′ scalars (scalarAt d f) v) (putScalar w f v)
-  changed-scalar f v l =
-      changed-more c (same-but-scalar d b′ f v (c .first) (c .last) l)
-      (has-words-scalar (c .first) (c .last) (c .long) (c .words) f v l)
+-- into a row that is told as a whole
+pub changed-row : {d : ℕ} {b b′ : List ℕ} (w : Words) (s : Section) (f : ℕ → ℕ)
+    → Changed d b b′ (withRow w s f) → (k v : ℕ) → k < rowWidth s
+    → Changed d b (store b′ s (rowAt s d k) v) (withRow w s (put f k v))
+changed-row {d} {b} w s f c k v l =
+    subst (Changed d b _) (put-row w s f k v) (changed-put c s k v l)
 
-  pub changed-asked : (k v : ℕ) → k < 64
-      → Changed d b (store b′ asked (itemAt d k) v) (putAsked w k v)
-  changed-asked k v l =
-      changed-more c (same-but-asked d b′ k v (c .first) (c .last) l)
-      (has-words-asked (c .first) (c .last) (c .long) (c .words) k v l)
-
-  pub changed-value : (k v : ℕ) → k < 64
-      → Changed d b (store b′ values (itemAt d k) v) (putValue w k v)
-  changed-value k v l =
-      changed-more c (same-but-value d b′ k v (c .first) (c .last) l)
-      (has-words-value (c .first) (c .last) (c .long) (c .words) k v l)
-
-  pub changed-last-stamp : (k v : ℕ) → k < 64
-      → Changed d b (store b′ lastStamps (itemAt d k) v) (putLastStamp w k v)
-  changed-last-stamp k v l =
-      changed-more c (same-but-last-stamp d b′ k v (c .first) (c .last) l)
-      (has-words-last-stamp (c .first) (c .last) (c .long) (c .words) k v l)
-
-  pub changed-last-value : (k v : ℕ) → k < 64
-      → Changed d b (store b′ lastValues (itemAt d k) v) (putLastValue w k v)
-  changed-last-value k v l =
-      changed-more c (same-but-last-value d b′ k v (c .first) (c .last) l)
-      (has-words-last-value (c .first) (c .last) (c .long) (c .words) k v l)
+-- into two such rows
+pub changed-rows : {d : ℕ} {b b′ : List ℕ} (w : Words) (s : Section) (f : ℕ → ℕ) (r : Section)
+    (g : ℕ → ℕ) → isSection s r ≡ false → Changed d b b′ (withRow (withRow w s f) r g)
+    → (k u v : ℕ) → k < rowWidth s → k < rowWidth r
+    → Changed d b (store (store b′ s (rowAt s d k) u) r (rowAt r d k) v)
+    (withRow (withRow w s (put f k u)) r (put g k v))
+changed-rows {d} {b} w s f r g n c k u v l h =
+    changed-row (withRow w s (put f k u)) r g
+    (subst (Changed d b _)
+    (put-row-other (withRow w s f) r g s k u n
+    ∙ ap (λ (x : Words). withRow x r g) (put-row w s f k u)) (changed-put c s k u l))
+    k v h
 
 pub encodes-changed : {b b′ : List ℕ} {t : Tables} {d : ℕ} {w : Words} {c : Client} → Encodes b t
     → HasRoom t → d ≤ t .sizes .clients

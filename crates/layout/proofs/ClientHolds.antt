@@ -7,6 +7,7 @@ use lib.Dec.{lit<}
 use Rattle.itemset.specs.Set.{has}
 use Rattle.protocol.specs.Tables.{Client, ReadPart, WritePart, Ended, nothing, read, write}
 use Rattle.protocol.specs.Range.{isWriting}
+use Rattle.layout.specs.Layout.{scalars, asked, values, lastStamps, lastValues}
 use Rattle.layout.specs.Encodes.{numberOfMode, HoldsEnded, HoldsClient}
 use Rattle.layout.proofs.Room.{NarrowEnded, NarrowClient}
 use Rattle.layout.proofs.ClientWords.{Words, wordsOf, HasWords, KeptClient}
@@ -14,33 +15,33 @@ use Rattle.layout.proofs.ClientWords.{Words, wordsOf, HasWords, KeptCli
 -- these are the words of an ended transaction: its kind, set and one stamp, and for each item a
 -- stamp and a value
 abbrev pub EndedHold : ℕ → ℕ → ℕ → (ℕ → ℕ) → (ℕ → ℕ) → Ended → Type 0
-EndedHold kind set one stamps values nothing = kind ≡ 0
-EndedHold kind set one stamps values (read s σ ν) =
+EndedHold kind set one stamps vs nothing = kind ≡ 0
+EndedHold kind set one stamps vs (read s σ ν) =
     (kind ≡ 1) × (set ≡ s) × ((k : ℕ) → has s k ≡ true → stamps k ≡ σ k)
-    × ((k : ℕ) → has s k ≡ true → values k ≡ ν k)
-EndedHold kind set one stamps values (write s σ ν) =
-    (kind ≡ 2) × (set ≡ s) × (one ≡ σ) × ((k : ℕ) → has s k ≡ true → values k ≡ ν k)
+    × ((k : ℕ) → has s k ≡ true → vs k ≡ ν k)
+EndedHold kind set one stamps vs (write s σ ν) =
+    (kind ≡ 2) × (set ≡ s) × (one ≡ σ) × ((k : ℕ) → has s k ≡ true → vs k ≡ ν k)
 
 abbrev pub WordsEnded : Words → Ended → Type 0
-WordsEnded w e = EndedHold (w .scalar 5) (w .scalar 6) (w .scalar 7) (w .lastStamps)
-    (w .lastValues) e
+WordsEnded w e = EndedHold (w scalars 5) (w scalars 6) (w scalars 7) (w lastStamps)
+    (w lastValues) e
 
 -- as `HoldsRead`, `HoldsWrite` and `HoldsClient`, of a client's words
 pub record WordsRead (w : Words) (p : ReadPart) : Type 0 where
-  pub set : w .scalar 2 ≡ p .set
-  pub awaited : w .scalar 3 ≡ p .awaited
-  pub asked : (k : ℕ) → has (p .set) k ≡ true → w .asked k ≡ p .asked k
-  pub values : (k : ℕ) → has (p .set) k ≡ true → w .values k ≡ p .values k
+  pub set : w scalars 2 ≡ p .set
+  pub awaited : w scalars 3 ≡ p .awaited
+  pub asked : (k : ℕ) → has (p .set) k ≡ true → w asked k ≡ p .asked k
+  pub values : (k : ℕ) → has (p .set) k ≡ true → w values k ≡ p .values k
 
 pub record WordsWrite (w : Words) (p : WritePart) : Type 0 where
-  pub set : w .scalar 2 ≡ p .set
-  pub awaited : w .scalar 3 ≡ p .awaited
-  pub stamp : w .scalar 4 ≡ p .stamp
-  pub values : (k : ℕ) → has (p .set) k ≡ true → w .values k ≡ p .values k
+  pub set : w scalars 2 ≡ p .set
+  pub awaited : w scalars 3 ≡ p .awaited
+  pub stamp : w scalars 4 ≡ p .stamp
+  pub values : (k : ℕ) → has (p .set) k ≡ true → w values k ≡ p .values k
 
 pub record WordsHold (w : Words) (c : Client) : Type 0 where
-  pub mode : w .scalar 0 ≡ numberOfMode c
-  pub count : w .scalar 1 ≡ c .count
+  pub mode : w scalars 0 ≡ numberOfMode c
+  pub count : w scalars 1 ≡ c .count
   pub read : isWriting c ≡ false → WordsRead w (c .read)
   pub write : isWriting c ≡ true → WordsWrite w (c .write)
   pub last : WordsEnded w (c .last)
@@ -72,39 +73,39 @@ words-hold {d} {b} {c} h =
 
 holds-ended : (d : ℕ) (b : List ℕ) (w : Words) → HasWords d b w → (e : Ended) → NarrowEnded e
     → WordsEnded w e → HoldsEnded b d e
-holds-ended d b w k nothing n h = k .scalar 5 (lit< tt) ∙ h
+holds-ended d b w k nothing n h = k .row scalars 5 (lit< tt) ∙ h
 holds-ended d b w k (read s stamps vs) n h = (
-  k .scalar 5 (lit< tt) ∙ h .0,
-  k .scalar 6 (lit< tt) ∙ h .1,
-  λ j e. k .lastStamps j (n j e)
+  k .row scalars 5 (lit< tt) ∙ h .0,
+  k .row scalars 6 (lit< tt) ∙ h .1,
+  λ j e. k .row lastStamps j (n j e)
       ∙ h .2 j e,
-  λ j e. k .lastValues j (n j e) ∙ h .3 j e,
+  λ j e. k .row lastValues j (n j e) ∙ h .3 j e,
 )
 holds-ended d b w k (write s stamp vs) n h = (
-  k .scalar 5 (lit< tt) ∙ h .0,
-  k .scalar 6 (lit< tt) ∙ h .1,
-  k .scalar 7 (lit< tt)
+  k .row scalars 5 (lit< tt) ∙ h .0,
+  k .row scalars 6 (lit< tt) ∙ h .1,
+  k .row scalars 7 (lit< tt)
       ∙ h .2,
-  λ j e. k .lastValues j (n j e) ∙ h .3 j e,
+  λ j e. k .row lastValues j (n j e) ∙ h .3 j e,
 )
 
 pub holds-words : {d : ℕ} {b : List ℕ} {w : Words} {c : Client} → HasWords d b w → NarrowClient c
     → WordsHold w c → HoldsClient b d c
 holds-words {d} {b} {w} {c} k n h =
     record {
-      mode = k .scalar 0 (lit< tt) ∙ h .mode;
-      count = k .scalar 1 (lit< tt) ∙ h .count;
+      mode = k .row scalars 0 (lit< tt) ∙ h .mode;
+      count = k .row scalars 1 (lit< tt) ∙ h .count;
       read = λ x. let p = h .read x in record {
-        set = k .scalar 2 (lit< tt) ∙ p .set;
-        awaited = k .scalar 3 (lit< tt) ∙ p .awaited;
-        asked = λ j e. k .asked j (n .read j e) ∙ p .asked j e;
-        values = λ j e. k .values j (n .read j e) ∙ p .values j e;
+        set = k .row scalars 2 (lit< tt) ∙ p .set;
+        awaited = k .row scalars 3 (lit< tt) ∙ p .awaited;
+        asked = λ j e. k .row asked j (n .read j e) ∙ p .asked j e;
+        values = λ j e. k .row values j (n .read j e) ∙ p .values j e;
       };
       write = λ x. let p = h .write x in record {
-        set = k .scalar 2 (lit< tt) ∙ p .set;
-        awaited = k .scalar 3 (lit< tt) ∙ p .awaited;
-        stamp = k .scalar 4 (lit< tt) ∙ p .stamp;
-        values = λ j e. k .values j (n .write j e) ∙ p .values j e;
+        set = k .row scalars 2 (lit< tt) ∙ p .set;
+        awaited = k .row scalars 3 (lit< tt) ∙ p .awaited;
+        stamp = k .row scalars 4 (lit< tt) ∙ p .stamp;
+        values = λ j e. k .row values j (n .write j e) ∙ p .values j e;
       };
       last = holds-ended d b w k (c .last) (n .last) (h .last);
     }

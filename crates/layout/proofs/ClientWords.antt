@@ -1,260 +1,136 @@
--- The words of a client, its view apart, and what they are after a store.
+-- The words of a client, its view apart: a row in each section that has one for each client, and
+-- what they are after a store.
+use mathlib.Core.Bool.{false, cond}
 use mathlib.Core.List.{List}
 use mathlib.Core.Logic.{_≢_}
-use mathlib.Core.Path.{_≡_, refl, _∙_}
+use mathlib.Core.Path.{_≡_, refl, sym, ap, _∙_, subst}
 use Prim.Native.Nat.{ℕ, _+_, _≤_, _<_}
 use native.Mathlib.Omega.{arith}
-use lib.ListN.{length}
 use lib.Dec.{eqb}
+use lib.ListN.{length}
 use borrow.Author.Tests.{eqb-true, eqb-false}
+use Rattle.basics.proofs.Cases.{by-test, not-both}
 use Rattle.protocol.specs.Tables.{put}
 use Rattle.protocol.proofs.Put.{by-cond}
-use Rattle.layout.specs.Layout.{clientWords, Section, scalars, asked, values, lastStamps}
-use Rattle.layout.specs.Layout.{lastValues, base, at, store, needed, scalarAt, itemAt}
+use Rattle.layout.specs.Layout.{Section, base, size, at, store, needed}
 use Rattle.layout.proofs.At.{at-store, at-store-other}
+use Rattle.layout.proofs.Sections.{isSection, section-true, same-section, section-end}
+use Rattle.layout.proofs.Sections.{rowWidth, rowAt, row-in, same-row}
 
--- ---- a row of words: word n of the row stands at place n of the section
-
-module _ (s : Section) (wide : ℕ) (place : ℕ → ℕ) where
-  abbrev pub Row : List ℕ → (ℕ → ℕ) → Type 0
-  Row b f = (n : ℕ) → n < wide → at b s (place n) ≡ f n
-
-  row-trans : (a b : List ℕ) (f : ℕ → ℕ) → Row a f → Row b (λ n. at a s (place n)) → Row b f
-  row-trans a b f p q n l = q n l ∙ p n l
-
-  -- a store elsewhere
-  row-other : (b : List ℕ) (f : ℕ → ℕ) (r : Section) (i v : ℕ)
-      → ((n : ℕ) → n < wide → base s + place n ≢ base r + i) → Row b f → Row (store b r i v) f
-  row-other b f r i v a h n l = at-store-other b r i v s (place n) (a n l) ∙ h n l
-
-  -- a store to word k
-  row-put : (b : List ℕ) (f : ℕ → ℕ) (k v : ℕ) → base s + place k < length b
-      → ((n : ℕ) → n ≢ k → place n ≢ place k) → Row b f
-      → Row (store b s (place k) v) (put f k v)
-  row-put b f k v g a h n l =
-      by-cond (λ (x : ℕ). at (store b s (place k) v) s (place n) ≡ x) (eqb n k) v (f n)
-      (λ e. rw (eqb-true n k e) (at-store b s (place k) v g))
-      (λ e. at-store-other b s (place k) v s (place n) (omega (arith, a n (eqb-false n k e)))
-      ∙ h n l)
-
--- ---- the words of a client
-
--- its own words, by their numbers in `scalarAt`, and four words for each item
-pub record Words : Type 0 where
-  pub scalar : ℕ → ℕ
-  pub asked : ℕ → ℕ
-  pub values : ℕ → ℕ
-  pub lastStamps : ℕ → ℕ
-  pub lastValues : ℕ → ℕ
+-- word n of the row in a section
+abbrev pub Words : Type 0
+Words = Section → ℕ → ℕ
 
 abbrev pub wordsOf : List ℕ → ℕ → Words
-wordsOf b d =
-    record {
-      scalar = λ f. at b scalars (scalarAt d f);
-      asked = λ k. at b asked (itemAt d k);
-      values = λ k. at b values (itemAt d k);
-      lastStamps = λ k. at b lastStamps (itemAt d k);
-      lastValues = λ k. at b lastValues (itemAt d k);
-    }
+wordsOf b d s n = at b s (rowAt s d n)
 
 -- the words of client d in b are w
 pub record HasWords (d : ℕ) (b : List ℕ) (w : Words) : Type 0 where
-  pub scalar : Row scalars clientWords (scalarAt d) b (w .scalar)
-  pub asked : Row asked 64 (itemAt d) b (w .asked)
-  pub values : Row values 64 (itemAt d) b (w .values)
-  pub lastStamps : Row lastStamps 64 (itemAt d) b (w .lastStamps)
-  pub lastValues : Row lastValues 64 (itemAt d) b (w .lastValues)
+  pub row : (s : Section) (n : ℕ) → n < rowWidth s → at b s (rowAt s d n) ≡ w s n
 
 pub has-words : (d : ℕ) (b : List ℕ) → HasWords d b (wordsOf b d)
-has-words d b =
-    record {
-      scalar = λ f l. refl;
-      asked = λ k l. refl;
-      values = λ k l. refl;
-      lastStamps =
-          λ k l. refl;
-      lastValues = λ k l. refl;
-    }
+has-words d b = record { row = λ s n l. refl }
 
 -- c's words are those of b
 pub has-words-trans : {d : ℕ} {b c : List ℕ} {w : Words} → HasWords d b w
     → HasWords d c (wordsOf b d) → HasWords d c w
-has-words-trans {d} {b} {c} {w} p q =
-    record {
-      scalar = row-trans scalars clientWords (scalarAt d) b c (w .scalar) (p .scalar) (q .scalar);
-      asked = row-trans asked 64 (itemAt d) b c (w .asked) (p .asked) (q .asked);
-      values = row-trans values 64 (itemAt d) b c (w .values) (p .values) (q .values);
-      lastStamps = row-trans lastStamps 64 (itemAt d) b c (w .lastStamps) (p .lastStamps)
-          (q .lastStamps);
-      lastValues = row-trans lastValues 64 (itemAt d) b c (w .lastValues) (p .lastValues)
-          (q .lastValues);
-    }
+has-words-trans p q = record { row = λ s n l. q .row s n l ∙ p .row s n l }
 
 -- ---- a store elsewhere
 
 -- the place p of the block is none of client d's words
 pub record Beside (d p : ℕ) : Type 0 where
-  pub scalar : (f : ℕ) → f < clientWords → base scalars + scalarAt d f ≢ p
-  pub asked : (k : ℕ) → k < 64 → base asked + itemAt d k ≢ p
-  pub values : (k : ℕ) → k < 64 → base values + itemAt d k ≢ p
-  pub lastStamps : (k : ℕ) → k < 64 → base lastStamps + itemAt d k ≢ p
-  pub lastValues : (k : ℕ) → k < 64 → base lastValues + itemAt d k ≢ p
+  pub row : (s : Section) (n : ℕ) → n < rowWidth s → base s + rowAt s d n ≢ p
 
 pub has-words-beside : {d : ℕ} {b : List ℕ} {w : Words} (s : Section) (i v : ℕ)
     → Beside d (base s + i) → HasWords d b w → HasWords d (store b s i v) w
-has-words-beside {d} {b} {w} s i v n h =
-    record {
-      scalar = row-other scalars clientWords (scalarAt d) b (w .scalar) s i v (n .scalar)
-          (h .scalar);
-      asked = row-other asked 64 (itemAt d) b (w .asked) s i v (n .asked) (h .asked);
-      values = row-other values 64 (itemAt d) b (w .values) s i v (n .values) (h .values);
-      lastStamps = row-other lastStamps 64 (itemAt d) b (w .lastStamps) s i v (n .lastStamps)
-          (h .lastStamps);
-      lastValues = row-other lastValues 64 (itemAt d) b (w .lastValues) s i v (n .lastValues)
-          (h .lastValues);
-    }
+has-words-beside {d} {b} s i v a h = record {
+  row = λ r n l. at-store-other b s i v r (rowAt r d n) (a .row r n l) ∙ h .row r n l;
+}
+
+-- a place in a section that has no rows
+pub beside-rows : (d : ℕ) (s : Section) (i : ℕ) → 1 ≤ d → d ≤ 8 → rowWidth s ≡ 0 → i < size s
+    → Beside d (base s + i)
+beside-rows d s i first last none l = record {
+  row = λ r n g e.
+      let same : r ≡ s = same-section r s (rowAt r d n) i (row-in r d n first last g) l e in
+      let some : n < rowWidth s = subst (λ (q : Section). n < rowWidth q) same g in
+      omega arith;
+}
+
+-- a word of another client
+pub beside-row : (d e : ℕ) (s : Section) (k : ℕ) → 1 ≤ d → d ≤ 8 → 1 ≤ e → e ≤ 8 → e ≢ d
+    → k < rowWidth s → Beside e (base s + rowAt s d k)
+beside-row d e s k first last first′ last′ other l = record {
+  row = λ r n g same.
+      let q : r ≡ s = same-section r s (rowAt r e n) (rowAt s d k) (row-in r e n first′ last′ g)
+      (row-in s d k first last l) same in
+      other (same-row s e d n k first′ first (subst (λ (x : Section). n < rowWidth x) q g) l
+      (omega (arith, subst (λ (x : Section). base x + rowAt x e n ≡ base s + rowAt s d k) q same)));
+}
 
 -- ---- a store to one of them
 
-abbrev pub putScalar : Words → ℕ → ℕ → Words
-putScalar w f v =
+abbrev pub putWord : Words → Section → ℕ → ℕ → Words
+putWord w s k v r = cond (isSection r s) (put (w r) k v) (w r)
+
+pub has-words-put : {d : ℕ} {b : List ℕ} {w : Words} → 1 ≤ d → d ≤ 8 → needed ≤ length b
+    → HasWords d b w → (s : Section) (k v : ℕ) → k < rowWidth s
+    → HasWords d (store b s (rowAt s d k) v) (putWord w s k v)
+has-words-put {d} {b} {w} first last long h s k v g =
     record {
-      scalar = put (w .scalar) f v;
-      asked = w .asked;
-      values = w .values;
-      lastStamps =
-          w .lastStamps;
-      lastValues = w .lastValues;
+      row = λ r n l. by-test (isSection r s)
+          (λ e. rw e (subst
+          (λ (q : Section). n < rowWidth q → at (store b s (rowAt s d k) v) q (rowAt q d n)
+          ≡ put (w q) k v n) (sym (section-true r s e)) (here n) l))
+          (λ e. rw e (at-store-other b s (rowAt s d k) v r (rowAt r d n) (other r n l e)
+          ∙ h .row r n l));
     }
+  where
+    here : (n : ℕ) → n < rowWidth s → at (store b s (rowAt s d k) v) s (rowAt s d n)
+        ≡ put (w s) k v n
+    here n l =
+        by-cond (λ (x : ℕ). at (store b s (rowAt s d k) v) s (rowAt s d n) ≡ x) (eqb n k) v (w s n)
+        (λ e. rw (eqb-true n k e) (at-store b s (rowAt s d k) v
+        (omega (arith, row-in s d k first last g, section-end s))))
+        (λ e. at-store-other b s (rowAt s d k) v s (rowAt s d n)
+        (omega (arith, eqb-false n k e)) ∙ h .row s n l)
 
-abbrev pub putAsked : Words → ℕ → ℕ → Words
-putAsked w k v =
-    record {
-      scalar = w .scalar;
-      asked = put (w .asked) k v;
-      values = w .values;
-      lastStamps =
-          w .lastStamps;
-      lastValues = w .lastValues;
-    }
+    other : (r : Section) (n : ℕ) → n < rowWidth r → isSection r s ≡ false
+        → base r + rowAt r d n ≢ base s + rowAt s d k
+    other r n l e same =
+        eqb-false (base r) (base s) e
+        (ap base (same-section r s (rowAt r d n) (rowAt s d k) (row-in r d n first last l)
+        (row-in s d k first last g) same))
 
-abbrev pub putValue : Words → ℕ → ℕ → Words
-putValue w k v =
-    record {
-      scalar = w .scalar;
-      asked = w .asked;
-      values = put (w .values) k v;
-      lastStamps =
-          w .lastStamps;
-      lastValues = w .lastValues;
-    }
+-- ---- a row of them
 
-abbrev pub putLastStamp : Words → ℕ → ℕ → Words
-putLastStamp w k v =
-    record {
-      scalar = w .scalar;
-      asked = w .asked;
-      values = w .values;
-      lastStamps =
-          put (w .lastStamps) k v;
-      lastValues = w .lastValues;
-    }
+-- w with f for its row in s
+abbrev pub withRow : Words → Section → (ℕ → ℕ) → Words
+withRow w s f r = cond (isSection r s) f (w r)
 
-abbrev pub putLastValue : Words → ℕ → ℕ → Words
-putLastValue w k v =
-    record {
-      scalar = w .scalar;
-      asked = w .asked;
-      values = w .values;
-      lastStamps =
-          w .lastStamps;
-      lastValues = put (w .lastValues) k v;
-    }
+pub row-same : (w : Words) (s : Section) → withRow w s (w s) ≡ w
+row-same w s = λ i r. by-test {P = withRow w s (w s) r ≡ w r} (isSection r s)
+    (λ e. rw (e, section-true r s e) refl) (λ e. rw e refl) i
 
-module _ {d : ℕ} {b : List ℕ} {w : Words} (first : 1 ≤ d) (last : d ≤ 8) (long : needed ≤ length b)
-    (h : HasWords d b w) where
-  pub has-words-scalar : (f v : ℕ) → f < clientWords
-      → HasWords d (store b scalars (scalarAt d f) v) (putScalar w f v)
-  has-words-scalar f v g =
-      record {
-        scalar = row-put scalars clientWords (scalarAt d) b (w .scalar) f v (omega arith)
-            (λ n a. omega arith)
-            (h .scalar);
-        asked = row-other asked 64 (itemAt d) b (w .asked) scalars (scalarAt d f) v (omega arith)
-            (h .asked);
-        values = row-other values 64 (itemAt d) b (w .values) scalars (scalarAt d f) v (omega arith)
-            (h .values);
-        lastStamps = row-other lastStamps 64 (itemAt d) b (w .lastStamps) scalars (scalarAt d f) v
-            (omega arith) (h .lastStamps);
-        lastValues = row-other lastValues 64 (itemAt d) b (w .lastValues) scalars (scalarAt d f) v
-            (omega arith) (h .lastValues);
-      }
+pub rows-same : (w : Words) (s r : Section) → withRow (withRow w s (w s)) r (w r) ≡ w
+rows-same w s r = ap (λ (x : Words). withRow x r (w r)) (row-same w s) ∙ row-same w r
 
-  pub has-words-asked : (k v : ℕ) → k < 64
-      → HasWords d (store b asked (itemAt d k) v) (putAsked w k v)
-  has-words-asked k v g =
-      record {
-        scalar = row-other scalars clientWords (scalarAt d) b (w .scalar) asked (itemAt d k) v
-            (omega arith)
-            (h .scalar);
-        asked = row-put asked 64 (itemAt d) b (w .asked) k v (omega arith) (λ n a. omega arith)
-            (h .asked);
-        values = row-other values 64 (itemAt d) b (w .values) asked (itemAt d k) v (omega arith)
-            (h .values);
-        lastStamps = row-other lastStamps 64 (itemAt d) b (w .lastStamps) asked (itemAt d k) v
-            (omega arith) (h .lastStamps);
-        lastValues = row-other lastValues 64 (itemAt d) b (w .lastValues) asked (itemAt d k) v
-            (omega arith) (h .lastValues);
-      }
+pub put-row : (w : Words) (s : Section) (f : ℕ → ℕ) (k v : ℕ)
+    → putWord (withRow w s f) s k v ≡ withRow w s (put f k v)
+put-row w s f k v = λ i r.
+    by-test {P = putWord (withRow w s f) s k v r ≡ withRow w s (put f k v) r} (isSection r s)
+    (λ e. rw e refl) (λ e. rw e refl) i
 
-  pub has-words-value : (k v : ℕ) → k < 64
-      → HasWords d (store b values (itemAt d k) v) (putValue w k v)
-  has-words-value k v g =
-      record {
-        scalar = row-other scalars clientWords (scalarAt d) b (w .scalar) values (itemAt d k) v
-            (omega arith)
-            (h .scalar);
-        asked = row-other asked 64 (itemAt d) b (w .asked) values (itemAt d k) v (omega arith)
-            (h .asked);
-        values = row-put values 64 (itemAt d) b (w .values) k v (omega arith) (λ n a. omega arith)
-            (h .values);
-        lastStamps = row-other lastStamps 64 (itemAt d) b (w .lastStamps) values (itemAt d k) v
-            (omega arith) (h .lastStamps);
-        lastValues = row-other lastValues 64 (itemAt d) b (w .lastValues) values (itemAt d k) v
-            (omega arith) (h .lastValues);
-      }
-
-  pub has-words-last-stamp : (k v : ℕ) → k < 64
-      → HasWords d (store b lastStamps (itemAt d k) v) (putLastStamp w k v)
-  has-words-last-stamp k v g =
-      record {
-        scalar = row-other scalars clientWords (scalarAt d) b (w .scalar) lastStamps (itemAt d k) v
-            (omega arith) (h .scalar);
-        asked = row-other asked 64 (itemAt d) b (w .asked) lastStamps (itemAt d k) v (omega arith)
-            (h .asked);
-        values = row-other values 64 (itemAt d) b (w .values) lastStamps (itemAt d k) v
-            (omega arith) (h .values);
-        lastStamps = row-put lastStamps 64 (itemAt d) b (w .lastStamps) k v (omega arith)
-            (λ n a. omega arith) (h .lastStamps);
-        lastValues = row-other lastValues 64 (itemAt d) b (w .lastValues) lastStamps (itemAt d k) v
-            (omega arith) (h .lastValues);
-      }
-
-  pub has-words-last-value : (k v : ℕ) → k < 64
-      → HasWords d (store b lastValues (itemAt d k) v) (putLastValue w k v)
-  has-words-last-value k v g =
-      record {
-        scalar = row-other scalars clientWords (scalarAt d) b (w .scalar) lastValues (itemAt d k) v
-            (omega arith) (h .scalar);
-        asked = row-other asked 64 (itemAt d) b (w .asked) lastValues (itemAt d k) v (omega arith)
-            (h .asked);
-        values = row-other values 64 (itemAt d) b (w .values) lastValues (itemAt d k) v
-            (omega arith) (h .values);
-        lastStamps = row-other lastStamps 64 (itemAt d) b (w .lastStamps) lastValues (itemAt d k) v
-            (omega arith) (h .lastStamps);
-        lastValues = row-put lastValues 64 (itemAt d) b (w .lastValues) k v (omega arith)
-            (λ n a. omega arith) (h .lastValues);
-      }
+-- a word of another row
+pub put-row-other : (w : Words) (s : Section) (f : ℕ → ℕ) (r : Section) (k v : ℕ)
+    → isSection r s ≡ false → putWord (withRow w s f) r k v ≡ withRow (putWord w r k v) s f
+put-row-other w s f r k v n = λ i q.
+    by-test {P = putWord (withRow w s f) r k v q ≡ withRow (putWord w r k v) s f q} (isSection q s)
+    (λ e. by-test (isSection q r)
+    (λ x. not-both (rw (section-true q r x) at e) n)
+    (λ x. rw (e, x) refl))
+    (λ e. rw e refl) i
 
 -- ---- the same words in two blocks
 

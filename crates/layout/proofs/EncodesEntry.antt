@@ -2,7 +2,7 @@
 -- of a client's view.
 use mathlib.Core.List.{List}
 use mathlib.Core.Logic.{_≢_}
-use mathlib.Core.Path.{_≡_, _∙_}
+use mathlib.Core.Path.{_≡_, refl, _∙_}
 use Prim.Native.Nat.{ℕ, _+_, _≤_, _<_}
 use native.Mathlib.Omega.{arith}
 use lib.Dec.{eqb}
@@ -20,7 +20,8 @@ use Rattle.layout.specs.Encodes.{Encodes, HoldsEntry}
 use Rattle.layout.proofs.At.{length-store, at-store, at-store-other}
 use Rattle.layout.proofs.Room.{HasRoom}
 use Rattle.layout.proofs.Kept.{Kept, kept-version, kept-message}
-use Rattle.layout.proofs.ClientWords.{has-words, Beside, has-words-beside, KeptClient}
+use Rattle.layout.proofs.Sections.{rowWidth}
+use Rattle.layout.proofs.ClientWords.{has-words, has-words-beside, beside-rows, KeptClient}
 use Rattle.layout.proofs.ClientHolds.{kept-client}
 
 -- ---- a stored entry
@@ -70,10 +71,11 @@ holds-entry-other {b} s i e {r} {j} {o} a h =
     }
 
 pub kept-client-store-entry : (d : ℕ) (b : List ℕ) (s : Section) (i : ℕ) (e : Entry)
-    → Beside d (base s + i) → Beside d (base s + (i + 1))
-    → KeptClient d b (storeEntry b s i e)
-kept-client-store-entry d b s i e n m =
-    has-words-beside s (i + 1) (e .set) m (has-words-beside s i (e .stamp) n (has-words d b))
+    → 1 ≤ d → d ≤ 8 → rowWidth s ≡ 0 → i + 1 < size s → KeptClient d b (storeEntry b s i e)
+kept-client-store-entry d b s i e first last none l =
+    has-words-beside s (i + 1) (e .set) (beside-rows d s (i + 1) first last none l)
+    (has-words-beside s i (e .stamp) (beside-rows d s i first last none (omega arith))
+    (has-words d b))
 
 -- ---- what is read
 
@@ -124,11 +126,14 @@ encodes-entries {b} {b′} {t} entries view n r same f g =
       messageCount = same .header messagesAt (omega arith) ∙ n .messageCount;
       latest = f;
       view = g;
-      client = λ d l h. kept-client (same .client d l (omega (arith, r .clients))) (r .client d l h) (n .client d l h);
+      client = λ d l h. kept-client (same .client d l (omega (arith, r .clients)))
+          (r .client d l h) (n .client d l h);
       versions =
-          λ i l none. kept-version (same .versions) (omega (arith, r .versions)) (n .versions i l none);
+          λ i l none. kept-version (same .versions) (omega (arith, r .versions))
+          (n .versions i l none);
       messages =
-          λ i l none. kept-message b b′ i (getD (t .messages) i none) (same .messages) (omega (arith, r .messages)) (n .messages i l none);
+          λ i l none. kept-message b b′ i (getD (t .messages) i none) (same .messages)
+          (omega (arith, r .messages)) (n .messages i l none);
     }
 
 -- ---- latest
@@ -140,7 +145,7 @@ same-but-latest b k e l =
       header = kept-store-entry header b latest (latestAt k) e (omega arith);
       versions = kept-store-entry versions b latest (latestAt k) e (omega arith);
       messages = kept-store-entry messages b latest (latestAt k) e (omega arith);
-      client = λ d p q. kept-client-store-entry d b latest (latestAt k) e (omega arith) (omega arith);
+      client = λ d p q. kept-client-store-entry d b latest (latestAt k) e p q refl (omega arith);
     }
 
 pub encodes-latest : {b : List ℕ} {t : Tables} (k : ℕ) (e : Entry) → Encodes b t → HasRoom t
@@ -167,7 +172,7 @@ same-but-view b d k e p q l =
       header = kept-store-entry header b views (viewAt d k) e (omega arith);
       versions = kept-store-entry versions b views (viewAt d k) e (omega arith);
       messages = kept-store-entry messages b views (viewAt d k) e (omega arith);
-      client = λ c u v. kept-client-store-entry c b views (viewAt d k) e (omega arith) (omega arith);
+      client = λ c u v. kept-client-store-entry c b views (viewAt d k) e u v refl (omega arith);
     }
 
 pub encodes-view : {b : List ℕ} {t : Tables} (d k : ℕ) (e : Entry) → Encodes b t → HasRoom t → 1 ≤ d

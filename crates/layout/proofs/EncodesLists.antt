@@ -2,7 +2,7 @@
 -- tables with other lists, if it holds these.
 use mathlib.Core.List.{List}
 use mathlib.Core.Path.{_≡_, _∙_}
-use Prim.Native.Nat.{ℕ, _≤_, _<_}
+use Prim.Native.Nat.{ℕ, _+_, _≤_, _<_}
 use native.Mathlib.Omega.{arith}
 use lib.Dec.{lit<}
 use lib.ListN.{length, getD}
@@ -10,11 +10,11 @@ use Rattle.protocol.specs.declared.Version.{Version}
 use Rattle.protocol.specs.declared.Message.{Message}
 use Rattle.protocol.specs.Tables.{Tables}
 use Rattle.layout.specs.Layout.{header, latest, base, at, clientsAt, partitionsAt, itemsAt}
-use Rattle.layout.specs.Layout.{versionsAt, messagesAt, scalars, versions, asked, values}
-use Rattle.layout.specs.Layout.{lastStamps, lastValues}
+use Rattle.layout.specs.Layout.{versionsAt, messagesAt, scalars, versions}
 use Rattle.layout.specs.Encodes.{Encodes, HoldsVersion, HoldsMessage}
 use Rattle.layout.proofs.Room.{HasRoom}
 use Rattle.layout.proofs.Kept.{kept-entry}
+use Rattle.layout.proofs.Sections.{rowAt, row-in, rows-fixed}
 use Rattle.layout.proofs.ClientWords.{KeptClient}
 use Rattle.layout.proofs.ClientHolds.{kept-client}
 
@@ -25,14 +25,10 @@ pub record SameButLists (b b′ : List ℕ) : Type 0 where
   pub fixed : (p : ℕ) → base scalars ≤ p → p < base versions → getD b′ p 0 ≡ getD b p 0
 
 same-client : {b b′ : List ℕ} → SameButLists b b′ → (d : ℕ) → 1 ≤ d → d ≤ 8 → KeptClient d b b′
-same-client same d l h =
-    record {
-      scalar = λ f g. same .fixed _ (omega arith) (omega arith);
-      asked = λ k g. same .fixed _ (omega arith) (omega arith);
-      values = λ k g. same .fixed _ (omega arith) (omega arith);
-      lastStamps = λ k g. same .fixed _ (omega arith) (omega arith);
-      lastValues = λ k g. same .fixed _ (omega arith) (omega arith);
-    }
+same-client same d l h = record {
+  row = λ s n g. same .fixed (base s + rowAt s d n) (omega (arith, rows-fixed s n g .0))
+      (omega (arith, row-in s d n l h g, rows-fixed s n g .1));
+}
 
 pub encodes-lists : {b b′ : List ℕ} {t : Tables} (vs : List Version) (ms : List Message)
     → Encodes b t → HasRoom t → SameButLists b b′
@@ -56,9 +52,12 @@ encodes-lists {b} {b′} {t} vs ms n r same p q f g =
       items = same .sizes itemsAt (lit< tt) ∙ n .items;
       versionCount = p;
       messageCount = q;
-      latest = λ k l. kept-entry (λ i h. same .fixed _ (omega arith) (omega arith)) (omega (arith, r .items)) (n .latest k l);
-      view = λ d u v k l. kept-entry (λ i h. same .fixed _ (omega arith) (omega arith)) (omega (arith, r .clients, r .items)) (n .view d u v k l);
-      client = λ d u v. kept-client (same-client same d u (omega (arith, r .clients))) (r .client d u v) (n .client d u v);
+      latest = λ k l. kept-entry (λ i h. same .fixed _ (omega arith) (omega arith))
+          (omega (arith, r .items)) (n .latest k l);
+      view = λ d u v k l. kept-entry (λ i h. same .fixed _ (omega arith) (omega arith))
+          (omega (arith, r .clients, r .items)) (n .view d u v k l);
+      client = λ d u v. kept-client (same-client same d u (omega (arith, r .clients)))
+          (r .client d u v) (n .client d u v);
       versions = f;
       messages = g;
     }

@@ -1,6 +1,5 @@
 -- Words that two blocks share: what one holds there, the other holds too.
 use mathlib.Core.List.{List}
-use mathlib.Core.Logic.{_≢_}
 use mathlib.Core.Path.{_≡_, _∙_}
 use Prim.Native.Nat.{ℕ, _+_, _<_}
 use native.Mathlib.Omega.{arith}
@@ -10,9 +9,8 @@ use Rattle.protocol.specs.declared.Entry.{Entry}
 use Rattle.protocol.specs.declared.Message.{Message}
 use Rattle.protocol.specs.declared.Message.the-variants.{Prepare, Prepared, Commit, Get, Got}
 use Rattle.layout.specs.Layout.{mostVersions, mostMessages, messageWords, Section, versions}
-use Rattle.layout.specs.Layout.{messages, base, size, at, store, versionAt, messageAt}
+use Rattle.layout.specs.Layout.{messages, size, at, versionAt, messageAt}
 use Rattle.layout.specs.Encodes.{HoldsEntry, HoldsVersion, HoldsMessage}
-use Rattle.layout.proofs.At.{at-store-other}
 
 -- ---- a whole section
 
@@ -21,11 +19,6 @@ Kept s b b′ = (i : ℕ) → i < size s → at b′ s i ≡ at b s i
 
 pub kept-trans : (s : Section) (a b c : List ℕ) → Kept s a b → Kept s b c → Kept s a c
 kept-trans s a b c p q i l = q i l ∙ p i l
-
--- a store outside the section
-pub kept-store : (r : Section) (b : List ℕ) (s : Section) (i v : ℕ)
-    → ((j : ℕ) → j < size r → base r + j ≢ base s + i) → Kept r b (store b s i v)
-kept-store r b s i v n j l = at-store-other b s i v r j (n j l)
 
 pub kept-entry : {s : Section} {b b′ : List ℕ} {i : ℕ} {e : Entry} → Kept s b b′ → i + 1 < size s
     → HoldsEntry b s i e → HoldsEntry b′ s i e

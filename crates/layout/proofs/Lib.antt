@@ -1,6 +1,7 @@
 -- The laws of the block: a word after a store, what a block must have room for, and that the
 -- changes of a block are those of the tables.
 pub mod At
+pub mod Sections
 pub mod Room
 pub mod Parts
 pub mod Kept

@@ -1,16 +1,16 @@
 -- The pass that asks: each item of the set gets the stamp chosen from the view, and no value.
 use mathlib.Core.List.{List}
-use mathlib.Core.Path.{_≡_}
+use mathlib.Core.Path.{_≡_, refl, sym, subst}
 use Prim.Native.Nat.{ℕ, _+_, _≤_, _<_}
 use native.Mathlib.Omega.{arith}
 use lib.ListN.{length}
 use Rattle.basics.specs.Fold.{upTo}
 use Rattle.protocol.specs.Steps.{choice}
-use Rattle.layout.specs.Layout.{views, needed, viewAt}
+use Rattle.layout.specs.Layout.{views, asked, values, needed, viewAt}
 use Rattle.layout.specs.Decode.{viewIn}
 use Rattle.layout.proofs.Kept.{Kept}
-use Rattle.layout.proofs.ClientWords.{Words, wordsOf}
-use Rattle.layout.proofs.Changed.{Changed, changed-none, changed-asked, changed-value}
+use Rattle.layout.proofs.ClientWords.{Words, wordsOf, withRow, rows-same}
+use Rattle.layout.proofs.Changed.{Changed, changed-none, changed-rows}
 use Rattle.start.specs.Start.{askItem}
 use Rattle.start.proofs.Choice.{choice-ext}
 use Rattle.itemset.proofs.Pass.{filled, pass-fills-two}
@@ -29,29 +29,20 @@ kept-choice b x d k items h l g r m =
     choice-ext (viewIn x d) (viewIn b d) k items (kept-view b x d k h l g r)
     (λ i n. kept-view b x d i h l g (omega arith))
 
--- the words of client d in b, but for what is asked for and the values
-abbrev pub withRows : List ℕ → ℕ → (ℕ → ℕ) → (ℕ → ℕ) → Words
-withRows b d asked values =
-    record {
-      scalar = wordsOf b d .scalar;
-      asked = asked;
-      values = values;
-      lastStamps = wordsOf b d .lastStamps;
-      lastValues = wordsOf b d .lastValues;
-    }
-
 abbrev pub askedWords : List ℕ → ℕ → ℕ → ℕ → Words
 askedWords b d s items =
-    withRows b d (filled s items (wordsOf b d .asked) (λ k. choice (viewIn b d) k items))
-    (filled s items (wordsOf b d .values) (λ k. 0))
+    let w = wordsOf b d in
+    withRow (withRow w asked (filled s items (w asked) (λ k. choice (viewIn b d) k items))) values
+    (filled s items (w values) (λ k. 0))
 
 pub asked-changed : (b : List ℕ) (d s items : ℕ) → 1 ≤ d → d ≤ 8 → items ≤ 64 → needed ≤ length b
     → Changed d b (upTo (askItem d s items) b items) (askedWords b d s items)
 asked-changed b d s items first last narrow long =
-    pass-fills-two s items (λ asked values x. Changed d b x (withRows b d asked values)) _ b
-    (wordsOf b d .asked) (λ k. choice (viewIn b d) k items) (wordsOf b d .values) (λ k. 0)
-    (changed-none d b first last long)
-    (λ k x asked values l e c.
-    rw (← kept-choice b x d k items (c .same .views) first last (omega arith) narrow)
-    (changed-value (changed-asked c k (choice (viewIn x d) k items) (omega arith)) k 0
+    let w = wordsOf b d in
+    pass-fills-two s items (λ row row′ x. Changed d b x (withRow (withRow w asked row) values row′))
+    _ b (w asked) (λ k. choice (viewIn b d) k items) (w values) (λ k. 0)
+    (subst (Changed d b b) (sym (rows-same w asked values)) (changed-none d b first last long))
+    (λ k x row row′ l e c.
+    rw (← kept-choice b x d k items (c .same .kept views refl) first last (omega arith) narrow)
+    (changed-rows w asked row values row′ refl c k (choice (viewIn x d) k items) 0 (omega arith)
     (omega arith)))

@@ -19,13 +19,13 @@ use Rattle.protocol.specs.Range.{capacities, load}
 use Rattle.protocol.specs.Steps.{choice, asks, reader, startedRead}
 use Rattle.protocol.proofs.Put.{put-same}
 use Rattle.protocol.proofs.Refusals.{AcceptedStart}
-use Rattle.layout.specs.Layout.{asked, at, itemAt}
+use Rattle.layout.specs.Layout.{scalars, asked, at, itemAt}
 use Rattle.layout.specs.Decode.{viewIn}
 use Rattle.layout.specs.Encodes.{Encodes, HoldsClient}
 use Rattle.layout.proofs.Room.{HasRoom, NarrowClient, narrow-below, room-valid, room-client}
-use Rattle.layout.proofs.ClientWords.{Words, putScalar}
+use Rattle.layout.proofs.ClientWords.{Words, putWord}
 use Rattle.layout.proofs.ClientHolds.{WordsHold, words-hold}
-use Rattle.layout.proofs.Changed.{Changed, changed-scalar, encodes-changed}
+use Rattle.layout.proofs.Changed.{Changed, changed-put, encodes-changed}
 use Rattle.layout.proofs.EncodesEntry.{view-held}
 use Rattle.start.specs.Start.{busy, askItem, readStarted}
 use Rattle.start.proofs.Choice.{choice-ext}
@@ -52,14 +52,15 @@ module _ (b : List ℕ) (t : Tables) (d s : ℕ) (n : Encodes b t)
   askedBlock = upTo (askItem d s items) b items
 
   abbrev readerWords : Words
-  readerWords = putScalar (putScalar (putScalar (askedWords b d s items) 0 1) 2 s) 3 s
+  readerWords = putWord (putWord (putWord (askedWords b d s items) scalars 0 1) scalars 2 s)
+      scalars 3 s
 
   reader-changed : Changed d b (busy askedBlock d 1 s) readerWords
   reader-changed =
-      let asked = asked-changed b d s items (a .client .0)
+      let filled = asked-changed b d s items (a .client .0)
       (omega (arith, a .client .1, room .clients)) (room .items) (n .long) in
-      changed-scalar (changed-scalar (changed-scalar asked 0 1 (lit< tt)) 2 s (lit< tt)) 3 s
-      (lit< tt)
+      changed-put (changed-put (changed-put filled scalars 0 1 (lit< tt)) scalars 2 s (lit< tt))
+      scalars 3 s (lit< tt)
 
   reader-hold : WordsHold readerWords (reader t d s)
   reader-hold =

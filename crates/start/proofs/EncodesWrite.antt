@@ -22,9 +22,9 @@ use Rattle.protocol.proofs.Refusals.{AcceptedStart, AcceptedWrite}
 use Rattle.layout.specs.Layout.{scalars, values, at, store, countAt, stampAt, itemAt}
 use Rattle.layout.specs.Encodes.{Encodes, HoldsClient}
 use Rattle.layout.proofs.Room.{HasRoom, NarrowClient, narrow-below, room-valid, room-client}
-use Rattle.layout.proofs.ClientWords.{Words, putScalar}
+use Rattle.layout.proofs.ClientWords.{Words, putWord}
 use Rattle.layout.proofs.ClientHolds.{WordsHold, words-hold}
-use Rattle.layout.proofs.Changed.{Changed, changed-scalar, encodes-changed}
+use Rattle.layout.proofs.Changed.{Changed, changed-put, encodes-changed}
 use Rattle.start.specs.Start.{busy, valueItem, writeStarted}
 use Rattle.itemset.proofs.Pass.{filled-at}
 use Rattle.start.proofs.Valued.{bytesOf, valuedWords, valued-changed}
@@ -58,9 +58,9 @@ module _ (b : List ℕ) (t : Tables) (d s : ℕ) (bytes : List ℕ) (n : Encodes
   valuedBlock = upTo (valueItem d s bytes) b items
 
   abbrev writerWords : Words
-  writerWords = putScalar (putScalar (putScalar (putScalar
-      (putScalar (valuedWords b d s bytes items) 0 2) 2 s) 3 s)
-      1 number) 4 (nextStamp t d)
+  writerWords = putWord (putWord (putWord (putWord
+      (putWord (valuedWords b d s bytes items) scalars 0 2) scalars 2 s) scalars 3 s)
+      scalars 1 number) scalars 4 (nextStamp t d)
 
   abbrev writerBlock : List ℕ
   writerBlock = store (store (busy valuedBlock d 2 s) scalars (countAt d) number) scalars
@@ -70,12 +70,12 @@ module _ (b : List ℕ) (t : Tables) (d s : ℕ) (bytes : List ℕ) (n : Encodes
   writer-changed =
       let valued = valued-changed b d s bytes items (a .client .0)
       (omega (arith, a .client .1, room .clients)) (room .items) (n .long) in
-      changed-scalar
-      (changed-scalar
-      (changed-scalar (changed-scalar (changed-scalar valued 0 2 (lit< tt)) 2 s
-      (lit< tt)) 3 s (lit< tt))
-      1 number (lit< tt))
-      4 (nextStamp t d) (lit< tt)
+      changed-put
+      (changed-put
+      (changed-put (changed-put (changed-put valued scalars 0 2 (lit< tt)) scalars 2 s
+      (lit< tt)) scalars 3 s (lit< tt))
+      scalars 1 number (lit< tt))
+      scalars 4 (nextStamp t d) (lit< tt)
 
   writer-hold : WordsHold writerWords (writer t d s bytes)
   writer-hold =
