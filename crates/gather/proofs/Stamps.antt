@@ -1,13 +1,13 @@
 -- The three words that a loop gathers of a stamp pass exactly when it is in range: bits 3 and 36 of
 -- one sum, bit 3 of another, and the size.
-use mathlib.Core.Bool.{Bool, true, false, not, Bool·beq, _&&_, _||_}
+use mathlib.Core.Bool.{Bool, true, false, not, cond, Bool·beq, _&&_, _||_}
 use mathlib.Core.Path.{_≡_, refl, sym, ap, ap₂, _∙_}
 use Prim.Native.Nat.{ℕ, _+_, _-_, _*_, _/_, _%_, _^_, _≤_, _<_}
 use native.Mathlib.Nat.{div-div-eq-div-mul, div-eq-of-lt, div-eq-of-lt-le, mod-eq-of-lt}
 use native.Mathlib.Omega.{arith}
 use lib.Dec.{eqb, ltb, leb}
 use borrow.Author.Tests.{ltb-true, lt-ltb, leb-true, leb-false, le-leb, lt-leb, eqb-true, eqb-false}
-use borrow.Author.Tests.{eq-eqb}
+use borrow.Author.Tests.{eq-eqb, ltb-false}
 use Rattle.basics.proofs.Cases.{by-test, test-ext, and-left, and-right, and-both, or-left, or-right}
 use Rattle.basics.proofs.Cases.{not-true, not-false, beq-true}
 use Rattle.itemset.specs.Set.{has, allBelow}
@@ -185,13 +185,22 @@ stamp-words c items s m =
     and-both (size && plain) room (and-both size plain f
     (ap not (mixed-not s (from-parts s l c m p)))) r)
 
+-- of 8 clients any word will do for `roomed`
+no-room : (c s m r t : ℕ) → 8 ≤ c → stampsTest c s m r ≡ stampsTest c s m t
+unfolding stampsTest
+no-room c s m r t l = rw (le-leb 8 c l)
+
 -- as the code reads them
-pub stamp-read : (c items w : ℕ) {s m r : ℕ} → c ≤ 8 → s ≡ w → m ≡ mixed s → r ≡ roomed c s
+pub stamp-read : (c items w : ℕ) {s m r : ℕ} → c ≤ 8 → s ≡ w → m ≡ mixed s
+    → r ≡ cond (ltb c 8) (roomed c s) 0
     → stampsTest c s m r ≡ stampInRange (sized c items) w
-stamp-read c items w l e f g = rw (f, g, e) (stamp-words c items w l)
+stamp-read c items w {s} {m} {r} l e f g =
+    by-test (ltb c 8)
+    (λ h. rw (f, rw h at g, e) (stamp-words c items w l))
+    (λ h. no-room c s m r (roomed c s) (ltb-false c 8 h) ∙ rw (f, e) (stamp-words c items w l))
 
 pub entry-read : (c items : ℕ) (e : Entry) {s m r t : ℕ} → c ≤ 8 → s ≡ e .stamp → m ≡ mixed s
-    → r ≡ roomed c s → t ≡ e .set
+    → r ≡ cond (ltb c 8) (roomed c s) 0 → t ≡ e .set
     → entriesTest c items s m r t ≡ entryInRange (sized c items) e
 unfolding entryInRange
 entry-read c items e l f g h i = ap₂ _&&_ (stamp-read c items (e .stamp) l f g h)

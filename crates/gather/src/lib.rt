@@ -1,8 +1,9 @@
 // Stamps, entries and versions in range, on plain numbers: one at a time, or all that a loop meets, gathered by `|` and `&` into words
 // that are tested once.
-ghost use mathlib.Core.Bool.{not};
+ghost use mathlib.Core.Bool.{not, cond};
 ghost use mathlib.Core.Path.{_≡_};
 ghost use Prim.Native.Nat.{_<_, _≤_, _-_};
+ghost use lib.Dec.{ltb};
 ghost use Rattle.itemset.specs.Set.{has};
 ghost use Rattle.protocol.specs.Range.{stampInRange, entryInRange, versionInRange};
 ghost use Rattle.gather.specs.Sized.{sized};
@@ -28,7 +29,8 @@ pub fn lacks(set: u64, k: u64) -> bool
 }
 
 // What a loop gathers of a stamp by `|` beside the stamp: a word whose bit 3 is clear where number and writer are both 0, or neither
-// and the writer is at most 8, and one whose bit 3 is then clear where the writer is a client, if there are fewer than 8.
+// and the writer is at most 8, and one whose bit 3 is then clear where the writer is a client. Of 8 clients nothing has to be gathered
+// there, and the compiler makes a loop of its own for them.
 pub fn mixed(stamp: u64) -> u64
     ensures { λ r. ⌜ r ≡ mixed stamp ⌝ }
 {
@@ -44,9 +46,13 @@ pub fn room(clients: u64) -> u64
 
 pub fn roomed(stamp: u64, clients: u64, room: u64) -> u64
     requires { ⌜ room ≡ 7 - clients ⌝ }
-    ensures { λ r. ⌜ r ≡ roomed clients stamp ⌝ }
+    ensures { λ r. ⌜ r ≡ cond (ltb clients 8) (roomed clients stamp) 0 ⌝ }
 {
-    std::num::wrapping_add_u64(stamp, room)
+    if clients < 8 {
+        std::num::wrapping_add_u64(stamp, room)
+    } else {
+        0
+    }
 }
 
 // The one test of all stamps.

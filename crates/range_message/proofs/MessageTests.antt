@@ -71,6 +71,9 @@ module _ (clients partitions items : ℕ) (some : 1 ≤ partitions) (one : 1 ≤
     unfolding messageOf messageInRange entryInRange stampInRange
     commit-tests p q = rw (p, q, item-0, empty-below) (simp passed)
 
+    pub no-kind-tests : kind ≡ 0 → false ≡ whole
+    no-kind-tests q = rw q
+
     pub get-tests : {stamped : Bool} → stamped ≡ stampInRange (sized clients 0) stamp → kind ≡ 4
         → ((leb 1 who && leb who clients) && ltb k items && stamped) ≡ whole
     unfolding messageOf messageInRange entryInRange stampInRange

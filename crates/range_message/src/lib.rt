@@ -69,7 +69,8 @@ pub fn message_word(b: &[u64], i: u64, f: u64) -> u64
     b[place]
 }
 
-// The words of a message that its kind uses: 1 prepare, 2 prepared, 3 commit, 4 get, 5 got.
+// The words of a message that its kind uses: 1 prepare, 2 prepared, 3 commit, 4 get, 5 got. In two groups, since the compiler would
+// make a table of jumps of more than three kinds, which takes longer than to compare.
 fn words_in_range(
     kind: u64,
     who: u64,
@@ -85,23 +86,26 @@ fn words_in_range(
     requires { ⌜ (clients ≤ mostClients) × (1 ≤ partitions) × (1 ≤ items) ⌝ }
     ensures { λ r. ⌜ r ≡ (leb 1 kind && leb kind 5 && messageInRange (sizes clients partitions items) (messageOf kind who item value stamp set latest)) ⌝ }
 {
-    if kind == 1 {
-        return version_in_range(
-            clients,
-            items,
-            Version {
-                item: item,
-                value: value,
-                stamp: stamp,
-                set: set,
-            },
-        );
-    }
-    if kind == 2 {
-        return (item < items) & stamp_in_range(clients, stamp) & (stamp != 0);
-    }
-    if kind == 3 {
-        return (who < partitions) & stamp_in_range(clients, stamp) & (stamp != 0);
+    if kind < 4 {
+        if kind == 1 {
+            return version_in_range(
+                clients,
+                items,
+                Version {
+                    item: item,
+                    value: value,
+                    stamp: stamp,
+                    set: set,
+                },
+            );
+        }
+        if kind == 2 {
+            return (item < items) & stamp_in_range(clients, stamp) & (stamp != 0);
+        }
+        if kind == 3 {
+            return (who < partitions) & stamp_in_range(clients, stamp) & (stamp != 0);
+        }
+        return false;
     }
     if kind == 4 {
         return ((1 <= who) & (who <= clients)) & (item < items) & stamp_in_range(clients, stamp);

@@ -2,7 +2,7 @@
 use borrow.Author.Needs.{needs}
 use native.Mathlib.Omega.{arith}
 use Rattle.range_message.proofs.MessageTests.{prepare-tests, prepared-tests, commit-tests}
-use Rattle.range_message.proofs.MessageTests.{get-tests}
+use Rattle.range_message.proofs.MessageTests.{no-kind-tests, get-tests}
 use Rattle.range_message.proofs.MessageTests.{got-tests}
 use Rattle.range_message.proofs.words_in_range.Statement.{statement}
 use Rattle.range_message.proofs.words_in_range.Tie as tie
@@ -12,7 +12,7 @@ version-in-range-requires c κs = search needs
 
 returns : tie.Need-returns
 returns c =
-    let a = c .before .before .args in
+    let a = c .before .before .before .args in
     prepare-tests (a .clients) (a .partitions) (a .items) (omega arith) (omega arith) (a .kind) (a .who) (a .item) (a .value)
     (a .stamp) (a .set) (a .latest) (c .version-in-range .ensures) (omega arith)
 
@@ -21,7 +21,7 @@ stamp-in-range-requires c κs = search needs
 
 returns-2 : tie.Need-returns-2
 returns-2 c =
-    let a = c .before .before .before .args in
+    let a = c .before .before .before .before .args in
     prepared-tests (a .clients) (a .partitions) (a .items) (omega arith) (omega arith) (a .kind) (a .who) (a .item) (a .value)
     (a .stamp) (a .set) (a .latest) (c .stamp-in-range .ensures) (omega arith)
 
@@ -30,16 +30,22 @@ stamp-in-range-requires-2 c κs = search needs
 
 returns-3 : tie.Need-returns-3
 returns-3 c =
-    let a = c .before .before .before .before .args in
+    let a = c .before .before .before .before .before .args in
     commit-tests (a .clients) (a .partitions) (a .items) (omega arith) (omega arith) (a .kind) (a .who) (a .item) (a .value)
     (a .stamp) (a .set) (a .latest) (c .stamp-in-range2 .ensures) (omega arith)
+
+returns-4 : tie.Need-returns-4
+returns-4 c =
+    let a = c .before .before .before .before .args in
+    no-kind-tests (a .clients) (a .partitions) (a .items) (omega arith) (omega arith) (a .kind) (a .who) (a .item) (a .value)
+    (a .stamp) (a .set) (a .latest) (omega arith)
 
 stamp-in-range-requires-3 : tie.Need-stamp-in-range-requires-3
 stamp-in-range-requires-3 c κs = search needs
 
-returns-4 : tie.Need-returns-4
-returns-4 c =
-    let a = c .before .before .before .before .before .args in
+returns-5 : tie.Need-returns-5
+returns-5 c =
+    let a = c .before .before .before .args in
     get-tests (a .clients) (a .partitions) (a .items) (omega arith) (omega arith) (a .kind) (a .who) (a .item) (a .value)
     (a .stamp) (a .set) (a .latest) (c .stamp-in-range3 .ensures) (omega arith)
 
@@ -49,9 +55,9 @@ stamp-in-range-requires-4 c κs = search needs
 entry-in-range-requires : tie.Need-entry-in-range-requires
 entry-in-range-requires c κs = search needs
 
-returns-5 : tie.Need-returns-5
-returns-5 c =
-    let a = c .before .before .before .before .before .before .args in
+returns-6 : tie.Need-returns-6
+returns-6 c =
+    let a = c .before .before .before .before .args in
     got-tests (a .clients) (a .partitions) (a .items) (omega arith) (omega arith) (a .kind) (a .who) (a .item) (a .value)
     (a .stamp) (a .set) (a .latest) (c .before .stamp-in-range4 .ensures)
     (c .entry-in-range .ensures) (omega arith) (omega arith) (omega arith) (omega arith)
@@ -66,8 +72,9 @@ words-in-range-spec =
     returns-2
     stamp-in-range-requires-2
     returns-3
-    stamp-in-range-requires-3
     returns-4
+    stamp-in-range-requires-3
+    returns-5
     stamp-in-range-requires-4
     entry-in-range-requires
-    returns-5)
+    returns-6)
