@@ -18,8 +18,9 @@ use Rattle.layout.specs.Layout.{viewAt, itemAt, messageAt}
 use Rattle.layout.specs.Decode.{versionIn}
 use Rattle.layout.specs.Store.{takeOut}
 use Rattle.slots.proofs.Runs.{run-length, run-behind}
-use Rattle.ends.proofs.Past.{SamePast, past-none, past-trans, past-when, past-each, past-store}
-use Rattle.ends.proofs.Past.{past-entry, past-keep, past-send, past-scalar, past-read-ended}
+use Rattle.layout.proofs.Past.{SamePast, past-none, past-trans, past-when, past-each, past-store}
+use Rattle.layout.proofs.Past.{past-entry}
+use Rattle.ends.proofs.Past.{past-keep, past-send, past-scalar, past-read-ended}
 use Rattle.ends.proofs.Past.{past-write-ended}
 use Rattle.slots.specs.Room.{keep}
 use Rattle.commit.specs.Commit.{commitVersion, commitDelivered}
@@ -36,7 +37,9 @@ past-take-out b n i l h =
     let moved = take (messageWords * (n - (i + 1))) (drop (from + messageWords) b) in
     record {
       long = run-length b from moved messagesAt (n - 1) 0;
-      past = λ j g. run-behind b from moved messagesAt (n - 1) 0 j (omega (arith, length-take (messageWords * (n - (i + 1))) (drop (from + messageWords) b))) (omega arith);
+      past = λ j g. run-behind b from moved messagesAt (n - 1) 0 j
+          (omega (arith, length-take (messageWords * (n - (i + 1))) (drop (from + messageWords) b)))
+          (omega arith);
     }
 
 -- ---- messages

@@ -23,10 +23,9 @@ module _ (w : Words) (c : Client) (k : ℕ) (h : WordsHold w c) (busy : isIdle c
       let p = h .read reads in
       record {
         mode = h .mode ∙ rw (busy, more) refl;
-        count = h .count;
         read = λ x. record { set = p .set; awaited = refl; asked = p .asked; values = same };
         write = λ x. not-both x reads;
-        last = h .last;
+        rest = h .rest;
       }
 
   -- a reply to a write that goes on
@@ -36,10 +35,9 @@ module _ (w : Words) (c : Client) (k : ℕ) (h : WordsHold w c) (busy : isIdle c
       let p = h .write writes in
       record {
         mode = h .mode ∙ rw (busy, more) refl;
-        count = h .count;
         read = λ x. not-both writes x;
         write = λ x. record { set = p .set; awaited = refl; stamp = p .stamp; values = p .values };
-        last = h .last;
+        rest = h .rest;
       }
 
 -- neither makes a set wider

@@ -17,7 +17,7 @@ use Rattle.protocol.specs.declared.Entry.{Entry}
 use Rattle.protocol.specs.declared.Message.{Message}
 use Rattle.protocol.specs.declared.Message.the-variants.{Prepare, Prepared, Commit, Get, Got}
 use Rattle.protocol.specs.Tables.{Sizes, Tables, Client, ofRead, ofWrite, nothing, initial}
-use Rattle.protocol.specs.Tables.{fresh, put, laterOf, writerOf, partitionOf}
+use Rattle.protocol.specs.Tables.{fresh, resting, put, laterOf, writerOf, partitionOf}
 use Rattle.protocol.specs.Tables.{withClient, withView, withLatest, withVersions, withMessages}
 use Rattle.protocol.specs.Range.{Capacities, isClient, isItem, isWriting}
 use Rattle.protocol.specs.Steps.{asks, reader, gets, valueOf, writer, nextStamp, version, prepares}
@@ -34,7 +34,7 @@ use Rattle.protocol.proofs.Refusals.{accepted-deliver, accepted-message}
 use Rattle.layout.specs.Masked.{Only, MaskedEnded, MaskedClient, MaskedMessage, Masked}
 use Rattle.layout.proofs.Parts.{awaits-reply, awaits-answer}
 use Rattle.encoding.proofs.WellFormed.{client-test}
-use Rattle.encoding.proofs.MaskedTables.{masked-resting}
+use Rattle.encoding.proofs.MaskedTables.{masked-rested}
 
 -- ---- Changes
 
@@ -154,7 +154,7 @@ masked-prepared : (c : Client) (k : ℕ) → MaskedClient c → isWriting c ≡ 
     → MaskedClient (prepared c k)
 masked-prepared c k m w =
     by-cond MaskedClient (isLast ofWrite c k) _ _
-    (λ l. masked-resting (c .count) (ended c) (masked-ended c m))
+    (λ l. masked-rested c (ended c) (masked-ended c m))
     (λ l. masked-struck c k m w)
 
 masked-got : (c : Client) (k v : ℕ) → MaskedClient c → isWriting c ≡ false
@@ -163,7 +163,7 @@ masked-got c k v m w h =
     let o = only-put (c .read .set) (c .read .values) k v h (m .answers) in
     let a = masked-answered c k v m w o in
     by-cond MaskedClient (isLast ofRead c k) _ _
-    (λ l. masked-resting (c .count) (ended (answered c k v)) (masked-ended (answered c k v) a))
+    (λ l. masked-rested c (ended (answered c k v)) (masked-ended (answered c k v) a))
     (λ l. a)
 
 -- a set of existing items has none of those that don't exist
@@ -284,6 +284,6 @@ masked-fresh z =
       clientView = λ d k e. refl;
       itemView = λ d k e. refl;
       absent = λ d e. refl;
-      client = λ d. masked-resting 0 nothing tt;
+      client = λ d. masked-rested (resting 0 nothing) nothing tt;
       messages = λ x i. absurd i;
     }

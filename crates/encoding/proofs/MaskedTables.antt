@@ -5,7 +5,7 @@ use mathlib.Core.Path.{_≡_, refl}
 use lib.Dec.{eqb, leb}
 use Prim.Native.Nat.{ℕ, zero, suc}
 use Rattle.basics.proofs.Cases.{by-test, not-both, between}
-use Rattle.protocol.specs.Tables.{Ended, nothing, resting}
+use Rattle.protocol.specs.Tables.{Client, Ended, nothing, resting, rested}
 use Rattle.protocol.specs.Range.{isClient, isWriting}
 use Rattle.protocol.proofs.Put.{by-cond}
 use Rattle.layout.specs.Layout.{at, scalars, modeAt}
@@ -45,9 +45,8 @@ masked-client b d writes =
       last = masked-ended _ _ _ _ _;
     }
 
-pub masked-resting : (count : ℕ) (last : Ended) → MaskedEnded last
-    → MaskedClient (resting count last)
-masked-resting count last m =
+pub masked-rested : (c : Client) (last : Ended) → MaskedEnded last → MaskedClient (rested c last)
+masked-rested c last m =
     record {
       asked = λ k e. refl;
       answers = λ k e. refl;
@@ -72,6 +71,6 @@ masked-tables b v =
       itemView = λ d k e. by-test (isClient (sizesIn b) d) (λ c. rw (c, e)) (λ c. rw c);
       absent = λ d e. rw e;
       client = λ d. by-cond MaskedClient (isClient (sizesIn b) d) _ _
-          (λ c. masked-client b d (writes d c)) (λ c. masked-resting 0 nothing tt);
+          (λ c. masked-client b d (writes d c)) (λ c. masked-rested (resting 0 nothing) nothing tt);
       messages = each-table MaskedMessage _ (messageIn b) (λ i l. masked-message b i);
     }

@@ -42,7 +42,6 @@ rests : (w : Words) (count : ℕ) (last : Ended) → w scalars 0 ≡ 0 → w sca
 rests w count last mode counted set awaited ended =
     record {
       mode = mode;
-      count = counted;
       read = λ x. record {
         set = set;
         awaited = awaited;
@@ -50,7 +49,7 @@ rests w count last mode counted set awaited ended =
         values = λ k e. not-both e (has-empty k);
       };
       write = λ x. not-both x refl;
-      last = ended;
+      rest = (counted, ended);
     }
 
 pub rests-read : (w : Words) (count s : ℕ) (stamps vs : ℕ → ℕ) → w scalars 1 ≡ count

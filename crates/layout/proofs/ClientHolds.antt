@@ -39,12 +39,15 @@ pub record WordsWrite (w : Words) (p : WritePart) : Type 0 where
   pub stamp : w scalars 4 ≡ p .stamp
   pub values : (k : ℕ) → has (p .set) k ≡ true → w values k ≡ p .values k
 
+-- what a transaction under way has no part in
+abbrev pub WordsRest : Words → Client → Type 0
+WordsRest w c = (w scalars 1 ≡ c .count) × WordsEnded w (c .last)
+
 pub record WordsHold (w : Words) (c : Client) : Type 0 where
   pub mode : w scalars 0 ≡ numberOfMode c
-  pub count : w scalars 1 ≡ c .count
   pub read : isWriting c ≡ false → WordsRead w (c .read)
   pub write : isWriting c ≡ true → WordsWrite w (c .write)
-  pub last : WordsEnded w (c .last)
+  pub rest : WordsRest w c
 
 ended-hold : (d : ℕ) (b : List ℕ) (e : Ended) → HoldsEnded b d e → WordsEnded (wordsOf b d) e
 ended-hold d b nothing h = h
@@ -55,7 +58,6 @@ pub words-hold : {d : ℕ} {b : List ℕ} {c : Client} → HoldsClient b d c →
 words-hold {d} {b} {c} h =
     record {
       mode = h .mode;
-      count = h .count;
       read = λ x. let p = h .read x in record {
         set = p .set;
         awaited = p .awaited;
@@ -68,7 +70,7 @@ words-hold {d} {b} {c} h =
         stamp = p .stamp;
         values = p .values;
       };
-      last = ended-hold d b (c .last) (h .last);
+      rest = (h .count, ended-hold d b (c .last) (h .last));
     }
 
 holds-ended : (d : ℕ) (b : List ℕ) (w : Words) → HasWords d b w → (e : Ended) → NarrowEnded e
@@ -94,7 +96,7 @@ pub holds-words : {d : ℕ} {b : List ℕ} {w : Words} {c : Client} → HasWords
 holds-words {d} {b} {w} {c} k n h =
     record {
       mode = k .row scalars 0 (lit< tt) ∙ h .mode;
-      count = k .row scalars 1 (lit< tt) ∙ h .count;
+      count = k .row scalars 1 (lit< tt) ∙ h .rest .0;
       read = λ x. let p = h .read x in record {
         set = k .row scalars 2 (lit< tt) ∙ p .set;
         awaited = k .row scalars 3 (lit< tt) ∙ p .awaited;
@@ -107,7 +109,7 @@ holds-words {d} {b} {w} {c} k n h =
         stamp = k .row scalars 4 (lit< tt) ∙ p .stamp;
         values = λ j e. k .row values j (n .write j e) ∙ p .values j e;
       };
-      last = holds-ended d b w k (c .last) (n .last) (h .last);
+      last = holds-ended d b w k (c .last) (n .last) (h .rest .1);
     }
 
 pub kept-client : {d : ℕ} {b b′ : List ℕ} {c : Client} → KeptClient d b b′ → NarrowClient c

@@ -2,6 +2,7 @@
 -- changes of a block are those of the tables.
 pub mod At
 pub mod Sections
+pub mod Past
 pub mod Room
 pub mod Parts
 pub mod Kept

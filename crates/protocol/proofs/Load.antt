@@ -16,7 +16,7 @@ use Rattle.itemset.proofs.Counts.{count-empty, count-remove}
 use Rattle.itemset.proofs.Members.{length-members}
 use Rattle.protocol.specs.declared.Message.{Message}
 use Rattle.protocol.specs.declared.Message.the-variants.{Prepare, Prepared, Commit, Get, Got}
-use Rattle.protocol.specs.Tables.{Tables, Client, ofRead, ofWrite, resting, writerOf}
+use Rattle.protocol.specs.Tables.{Tables, Client, ofRead, ofWrite, rested, writerOf}
 use Rattle.protocol.specs.Tables.{withClient, withMessages}
 use Rattle.protocol.specs.Range.{Capacities, arrived, load}
 use Rattle.protocol.specs.Steps.{reader, gets, writer, prepares, isLast, ended, struck}
@@ -114,7 +114,7 @@ arrived-prepared t c k stamp h e =
     ∙ count-empty in
     rw l (omega (
       arith,
-      arrived-none (resting (c .count) (ended c)) refl,
+      arrived-none (rested c (ended c)) refl,
       arrived-of c,
       count-remove
           (c .write .awaited) k e,
@@ -142,7 +142,7 @@ arrived-got t c k value stamp h =
     ∙ count-empty in
     rw l (omega (
       arith,
-      arrived-none (resting (c .count) (ended (answered c k value))) refl,
+      arrived-none (rested c (ended (answered c k value))) refl,
       arrived-of c,
       length-commits t (c .write .set) stamp h,
     )))

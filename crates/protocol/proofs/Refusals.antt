@@ -14,7 +14,7 @@ use Rattle.itemset.proofs.Laws.{has-empty}
 use Rattle.protocol.specs.declared.Version.{Version}
 use Rattle.protocol.specs.declared.Message.{Message}
 use Rattle.protocol.specs.declared.Message.the-variants.{Prepare, Prepared, Commit, Get, Got}
-use Rattle.protocol.specs.Tables.{Sizes, Tables, Client, writerOf, Ended, resting, Side}
+use Rattle.protocol.specs.Tables.{Sizes, Tables, Client, writerOf, Ended, rested, Side}
 use Rattle.protocol.specs.Tables.{ofRead, ofWrite, awaitedOf}
 use Rattle.protocol.specs.Range.{Capacities, load, occupied}
 use Rattle.protocol.specs.Steps.{messageAt, stored}
@@ -51,8 +51,8 @@ pub record Idle (c : Client) : Type 0 where
   pub read : c .read .awaited ≡ 0
   pub write : c .write .awaited ≡ 0
 
-pub idle-resting : (c : Client) (n : ℕ) (e : Ended) → c ≡ resting n e → Idle c
-idle-resting c n e h = record {
+pub idle-rested : {c : Client} (o : Client) (e : Ended) → c ≡ rested o e → Idle c
+idle-rested o e h = record {
   read = ap (λ (x : Client). x .read .awaited) h;
   write = ap (λ (x : Client). x .write .awaited) h;
 }

@@ -12,9 +12,9 @@ use Rattle.protocol.specs.declared.Entry.{Entry}
 use Rattle.protocol.specs.declared.Message.{Message}
 use Rattle.protocol.specs.declared.Message.the-variants.{Prepare, Prepared, Commit, Get, Got}
 use Rattle.protocol.specs.Tables.{Tables, Client, Ended, read, write, Side, ofRead, ofWrite}
-use Rattle.protocol.specs.Tables.{noRead, noWrite, stampOf, writerOf, laterOf, resting}
+use Rattle.protocol.specs.Tables.{noRead, noWrite, stampOf, writerOf, laterOf, rested}
 use Rattle.protocol.specs.Tables.{partitionOf, put, withClient, withView, withLatest}
-use Rattle.protocol.specs.Tables.{withVersions, withMessages}
+use Rattle.protocol.specs.Tables.{withVersions, withMessages, withCount, withRead, withWrite}
 
 -- ---- Start a read
 
@@ -30,18 +30,12 @@ asks t d k = choice (t .view d) k (t .sizes .items)
 
 abbrev pub reader : Tables → ℕ → ℕ → Client
 reader t d s =
-    let c = t .client d in
-    record {
-      count = c .count;
-      read = record {
-        set = s;
-        awaited = s;
-        asked = λ k. cond (has s k) (asks t d k) 0;
-        values = λ k. 0;
-      };
-      write = noWrite;
-      last = c .last;
-    }
+    withWrite (withRead (t .client d) (record {
+      set = s;
+      awaited = s;
+      asked = λ k. cond (has s k) (asks t d k) 0;
+      values = λ k. 0;
+    })) noWrite
 
 -- one get for each item, ascending
 abbrev pub gets : Tables → ℕ → ℕ → List Message
@@ -64,12 +58,8 @@ valueOf s bytes k = cond (has s k) (numberAt 4 bytes (4 * rank s k) % 2 ^ 32) 0
 abbrev pub writer : Tables → ℕ → ℕ → List ℕ → Client
 writer t d s bytes =
     let c = t .client d in
-    record {
-      count = suc (c .count);
-      read = noRead;
-      write = record { set = s; awaited = s; stamp = nextStamp t d; values = valueOf s bytes };
-      last = c .last;
-    }
+    withWrite (withRead (withCount c (suc (c .count))) noRead)
+    (record { set = s; awaited = s; stamp = nextStamp t d; values = valueOf s bytes })
 
 abbrev pub version : ℕ → ℕ → ℕ → ℕ → Version
 version k value stamp s = record { item = k; value = value; stamp = stamp; set = s }
@@ -103,32 +93,22 @@ found (v ∷ vs) k stamp = cond (alike k stamp v) v (found vs k stamp)
 -- item k is struck from those that the read part awaits, and its answer is kept
 abbrev pub answered : Client → ℕ → ℕ → Client
 answered c k value =
-    record {
-      count = c .count;
-      read = record {
-        set = c .read .set;
-        awaited = remove (c .read .awaited) k;
-        asked = c .read .asked;
-        values = put (c .read .values) k value;
-      };
-      write = c .write;
-      last = c .last;
-    }
+    withRead c (record {
+      set = c .read .set;
+      awaited = remove (c .read .awaited) k;
+      asked = c .read .asked;
+      values = put (c .read .values) k value;
+    })
 
 -- item k is struck from those that the write part awaits
 abbrev pub struck : Client → ℕ → Client
 struck c k =
-    record {
-      count = c .count;
-      read = c .read;
-      write = record {
-        set = c .write .set;
-        awaited = remove (c .write .awaited) k;
-        stamp = c .write .stamp;
-        values = c .write .values;
-      };
-      last = c .last;
-    }
+    withWrite c (record {
+      set = c .write .set;
+      awaited = remove (c .write .awaited) k;
+      stamp = c .write .stamp;
+      values = c .write .values;
+    })
 
 -- item k is the last that c awaits, of either part
 abbrev pub isLast : Side → Client → ℕ → Bool
@@ -144,11 +124,11 @@ ended c =
 
 -- Prepared: with the last reply the client is idle
 abbrev pub prepared : Client → ℕ → Client
-prepared c k = cond (isLast ofWrite c k) (resting (c .count) (ended c)) (struck c k)
+prepared c k = cond (isLast ofWrite c k) (rested c (ended c)) (struck c k)
 
 -- Got: the version is kept as the answer for its item; with the last reply the client is idle
 abbrev pub got : Client → ℕ → ℕ → Client
-got c k value = cond (isLast ofRead c k) (resting (c .count) (ended (answered c k value)))
+got c k value = cond (isLast ofRead c k) (rested c (ended (answered c k value)))
     (answered c k value)
 
 -- At the end of a transaction with a write part its commits join, and each written item's view

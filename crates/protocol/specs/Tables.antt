@@ -100,7 +100,8 @@ pub record Tables : Type 0 where
 abbrev pub partitionOf : Tables → ℕ → ℕ
 partitionOf t k = k % t .sizes .partitions
 
--- a client as a fresh start or the end of a transaction leaves it: idle, with neither part
+-- a client that hasn't begun a transaction since a fresh start or the last end: idle, with neither
+-- part
 abbrev pub resting : ℕ → Ended → Client
 resting count last = record { count = count; read = noRead; write = noWrite; last = last }
 
@@ -115,6 +116,24 @@ fresh sizes =
       versions = [];
       messages = [];
     }
+
+-- ---- changes: a client with one field another
+
+abbrev pub withCount : Client → ℕ → Client
+withCount c count = record { count = count; read = c .read; write = c .write; last = c .last }
+
+abbrev pub withRead : Client → ReadPart → Client
+withRead c part = record { count = c .count; read = part; write = c .write; last = c .last }
+
+abbrev pub withWrite : Client → WritePart → Client
+withWrite c part = record { count = c .count; read = c .read; write = part; last = c .last }
+
+abbrev pub withLast : Client → Ended → Client
+withLast c last = record { count = c .count; read = c .read; write = c .write; last = last }
+
+-- as the end of its transaction leaves it: resting, with this one as its last
+abbrev pub rested : Client → Ended → Client
+rested c last = withLast (withWrite (withRead c noRead) noWrite) last
 
 -- ---- changes: the tables with one field another
 

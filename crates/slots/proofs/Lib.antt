@@ -4,6 +4,7 @@ pub mod Runs
 pub mod Each
 pub mod SameLists
 pub mod EncodesAppend
+pub mod PastLists
 pub mod Chosen
 pub mod EncodesRoom
 pub mod ReadBack

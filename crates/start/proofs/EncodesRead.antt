@@ -67,7 +67,6 @@ module _ (b : List ℕ) (t : Tables) (d s : ℕ) (n : Encodes b t)
       let held = words-hold (n .client d (a .client .0) (a .client .1)) in
       record {
         mode = rw (ne-eqb s 0 (a .some)) refl;
-        count = held .count;
         read = λ e. record {
           set = refl;
           awaited = refl;
@@ -76,7 +75,7 @@ module _ (b : List ℕ) (t : Tables) (d s : ℕ) (n : Encodes b t)
           values = λ k i. filled-at s _ _ items k (has-below s k items (a .set) i) i;
         };
         write = λ e. not-both e refl;
-        last = held .last;
+        rest = held .rest;
       }
 
   narrow-reader : NarrowClient (reader t d s)

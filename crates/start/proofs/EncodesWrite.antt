@@ -82,7 +82,6 @@ module _ (b : List ℕ) (t : Tables) (d s : ℕ) (bytes : List ℕ) (n : Encodes
       let held = words-hold (n .client d (a .client .0) (a .client .1)) in
       record {
         mode = rw some refl;
-        count = refl;
         read = λ e. not-both (rw some refl) e;
         write = λ e. record {
           set = refl;
@@ -91,7 +90,7 @@ module _ (b : List ℕ) (t : Tables) (d s : ℕ) (bytes : List ℕ) (n : Encodes
           values = λ k i.
               filled-at s _ _ items k (has-below s k items (a .set) i) i ∙ value-bytes s bytes k i;
         };
-        last = held .last;
+        rest = (refl, held .rest .1);
       }
 
   narrow-writer : NarrowClient (writer t d s bytes)

@@ -15,7 +15,7 @@ use Rattle.basics.specs.Lists.{In}
 use Rattle.basics.proofs.Lists.{in-left}
 use Rattle.itemset.specs.Set.{has, count}
 use Rattle.itemset.proofs.Laws.{has-empty, has-below}
-use Rattle.protocol.specs.Tables.{read, resting, numberOf, writerOf}
+use Rattle.protocol.specs.Tables.{read, rested, numberOf, writerOf}
 use Rattle.protocol.specs.Range.{Capacities}
 use Rattle.protocol.specs.Steps.{choice, nextStamp}
 use Rattle.protocol.specs.Calls.{Call, startRead, startWrite, show, step, written}
@@ -26,7 +26,7 @@ use Rattle.condition3.specs.Condition3.{shownNumber, shownWriter, shownV
 use Rattle.condition3.specs.Condition3.{ShownWith, ShownOlder, Shows}
 use Rattle.protocol.proofs.Stored.{choice-own}
 use Rattle.protocol.proofs.Ranges.Values.{IsClient}
-use Rattle.protocol.proofs.Refusals.{AcceptedStart, accepted-read, idle-resting}
+use Rattle.protocol.proofs.Refusals.{AcceptedStart, accepted-read, idle-rested}
 use Rattle.protocol.proofs.Refusals.{accepted-write}
 use Rattle.condition3.proofs.Link.{Inv}
 use Rattle.condition3.proofs.Link.Messages.{WriteOf}
@@ -97,11 +97,11 @@ module _ (caps : Capacities) (w : World) (inv : Inv caps w) (d s : ℕ) (before 
   inv-shown = after-inv caps w inv (before ++ startRead d s ∷ during ++ end ∷ until)
 
   -- the client keeps what it read
-  kept : x .tables .client d ≡ resting (v .tables .client d .count) (read s stamps (done .values))
+  kept : x .tables .client d ≡ rested (v .tables .client d) (read s stamps (done .values))
   kept =
       ap (λ (y : World). y .tables .client d) shown-is
       ∙ at-rest caps (moved v end) inv-ended d
-      (idle-resting (moved v end .tables .client d) _ _ (done .client)) until
+      (idle-rested (v .tables .client d) _ (done .client)) until
       (subst (λ (y : World). rests caps y d until ≡ true) ended-is quietly)
       ∙ done .client
 
@@ -119,11 +119,11 @@ module _ (caps : Capacities) (w : World) (inv : Inv caps w) (d s : ℕ) (before 
   output = step caps (x .tables) (show d room) .output
 
   number-shown : (k : ℕ) → has s k ≡ true → shownNumber s output k ≡ numberOf (stamps k)
-  number-shown k m = number-is caps x inv-shown d s (v .tables .client d .count) stamps
+  number-shown k m = number-is caps x inv-shown d s (v .tables .client d) stamps
       (done .values) room isClient below kept enough k m
 
   writer-shown : (k : ℕ) → has s k ≡ true → shownWriter s output k ≡ writerOf (stamps k)
-  writer-shown k m = writer-is caps x inv-shown d s (v .tables .client d .count) stamps
+  writer-shown k m = writer-is caps x inv-shown d s (v .tables .client d) stamps
       (done .values) room isClient below kept enough k m
 
   shown-with : (k : ℕ) → has s k ≡ true → (a : ℕ) → ShownWith s output k a → stamps k ≡ a
@@ -219,7 +219,7 @@ module _ (caps : Capacities) (w : World) (inv : Inv caps w) (d s : ℕ) (before 
       × (isReplyFor d k l ≡ true) × StoredBefore (final .stores) a (answeredAt l))
 
   value-shown : (k : ℕ) → has s k ≡ true → shownValue s output k ≡ done .values k
-  value-shown k m = value-is caps x inv-shown d s (v .tables .client d .count) stamps
+  value-shown k m = value-is caps x inv-shown d s (v .tables .client d) stamps
       (done .values) room isClient below kept enough k m
 
   -- the write that answered item k, as the whole list knows it, is the one chosen at the start
@@ -327,15 +327,16 @@ module _ (caps : Capacities) (w : World) (inv : Inv caps w) (d s : ℕ) (before 
   silent =
       rest-stays caps (after caps w (before ++ startRead d s ∷ during ++ end ∷ []))
       (after-inv caps w inv (before ++ startRead d s ∷ during ++ end ∷ [])) d
-      (idle-resting _ _ _ (ap (λ (y : World). y .tables .client d) ended-is ∙ done .client)) until
+      (idle-rested (v .tables .client d) _
+      (ap (λ (y : World). y .tables .client d) ended-is ∙ done .client)) until
       quietly
 
   pub shows : Shows caps w calls d s before during end until room
   shows =
       record {
-        shown = answer-is caps x inv-shown d s (v .tables .client d .count) stamps
+        shown = answer-is caps x inv-shown d s (v .tables .client d) stamps
             (done .values) room isClient below kept enough;
-        head = head-is caps x inv-shown d s (v .tables .client d .count) stamps
+        head = head-is caps x inv-shown d s (v .tables .client d) stamps
             (done .values) room isClient below kept enough;
         unfractured = unfractured;
         written = written-or-initial;

@@ -13,7 +13,7 @@ use Rattle.protocol.specs.declared.Version.{Version}
 use Rattle.protocol.specs.declared.Entry.{Entry}
 use Rattle.protocol.specs.declared.Message.{Message}
 use Rattle.protocol.specs.declared.Message.the-variants.{Got}
-use Rattle.protocol.specs.Tables.{Tables, Client, WritePart, ofRead, read, resting, put}
+use Rattle.protocol.specs.Tables.{Tables, Client, WritePart, ofRead, read, rested, put}
 use Rattle.protocol.specs.Message.{ownerOf}
 use Rattle.protocol.specs.Range.{Capacities}
 use Rattle.protocol.specs.Steps.{delivered, got, answered, isLast, messageAt}
@@ -26,7 +26,8 @@ use Rattle.protocol.proofs.Keeps.{keeps}
 use Rattle.condition3.proofs.Link.{Inv}
 use Rattle.condition3.proofs.Link.Messages.{placed-message, fits}
 use Rattle.condition3.proofs.Link.Grows.{moved-grows, grows-self}
-use Rattle.condition3.proofs.Runs.Touch.{refused-outcome, delivered-outcome, no-requests, Way}
+use Rattle.condition3.proofs.Runs.Touch.{refused-outcome, delivered-outcome, no-requests}
+use Rattle.condition3.proofs.Runs.Touch.{Way}
 use Rattle.condition3.proofs.Runs.Touch.{quiet, starts, answers, way, answers-owner, got-of}
 use Rattle.condition3.proofs.Runs.ReadSpan.{Answer, Reading, undisturbed, goes-on}
 use Rattle.condition3.proofs.Runs.ReadSpan.{all-answered, all-replied, once-each}
@@ -61,7 +62,7 @@ pub record Finished (caps : Capacities) (d s : ℕ) (asked : ℕ → ℕ) (v : W
   pub onceEach : (j : ℕ) → has s j ≡ true → counted (isReplyFor d j) (left ++ leaving v c) ≡ 1
   pub requests : counted (isRequest d) (joining v c) ≡ 0
   pub values : ℕ → ℕ
-  pub client : moved v c .tables .client d ≡ resting (v .tables .client d .count)
+  pub client : moved v c .tables .client d ≡ rested (v .tables .client d)
       (read s asked values)
   pub answered : (j : ℕ) → has s j ≡ true
       → Answer (moved v c) d j (asked j) (values j) (left ++ leaving v c)

@@ -13,7 +13,7 @@ use Rattle.hex.specs.Number.{numberAt, bigEndian}
 use Rattle.itemset.specs.Set.{has, count, rank}
 use Rattle.itemset.proofs.Laws.{below-le}
 use Rattle.protocol.specs.declared.Answer.the-variants.{Shown}
-use Rattle.protocol.specs.Tables.{Client, read, resting, numberOf, writerOf}
+use Rattle.protocol.specs.Tables.{Client, read, rested, numberOf, writerOf}
 use Rattle.protocol.specs.Range.{Capacities}
 use Rattle.protocol.specs.Frame.{frame}
 use Rattle.protocol.specs.Calls.{show, refusal, step, reply, written, isNothing, shownFrame}
@@ -22,17 +22,17 @@ use Rattle.condition3.specs.Condition3.{shownNumber, shownWriter, shownV
 use Rattle.protocol.proofs.Ranges.Values.{SizesInRange, IsClient}
 use Rattle.protocol.proofs.Ranges.Clients.{ReadInRange, EndedInRange}
 use Rattle.protocol.proofs.Ranges.Tables.{Valid}
-use Rattle.protocol.proofs.Refusals.{accepted-show, idle-resting}
+use Rattle.protocol.proofs.Refusals.{accepted-show, idle-rested}
 use Rattle.protocol.proofs.Shown.{length-frame-read, frame-head-client, shown-number}
 use Rattle.protocol.proofs.Shown.{shown-writer, shown-value}
 use Rattle.condition3.proofs.Link.{Inv}
 
 -- ---- a showing of a read that is the client's last transaction
 
-module _ (caps : Capacities) (x : World) (inv : Inv caps x) (d s n : ℕ) (stamps values : ℕ → ℕ)
-    (room : List ℕ)
+module _ (caps : Capacities) (x : World) (inv : Inv caps x) (d s : ℕ) (before : Client)
+    (stamps values : ℕ → ℕ) (room : List ℕ)
     (isClient : IsClient (x .tables .sizes) d) (below : s < 2 ^ x .tables .sizes .items)
-    (kept : x .tables .client d ≡ resting n (read s stamps values))
+    (kept : x .tables .client d ≡ rested before (read s stamps values))
     (enough : 10 + 9 * count s ≤ length room) where
   valid-here : Valid caps (x .tables)
   valid-here = inv .sound .valid
@@ -56,7 +56,7 @@ module _ (caps : Capacities) (x : World) (inv : Inv caps x) (d s n : ℕ) (stamp
       (record {
         valid = valid-here;
         client = isClient;
-        idle = idle-resting (x .tables .client d) _ _ kept;
+        idle = idle-rested before (read s stamps values) kept;
         ended = ap (λ (c : Client). isNothing (c .last)) kept;
         room = omega (arith, frame-length, enough);
       })

@@ -13,7 +13,7 @@ use Rattle.protocol.specs.declared.Version.{Version}
 use Rattle.protocol.specs.declared.Entry.{Entry}
 use Rattle.protocol.specs.declared.Message.{Message}
 use Rattle.protocol.specs.declared.Message.the-variants.{Got}
-use Rattle.protocol.specs.Tables.{Tables, Client, Side, ofRead, ofWrite, awaitedOf, resting}
+use Rattle.protocol.specs.Tables.{Tables, Client, Side, ofRead, ofWrite, awaitedOf, rested}
 use Rattle.protocol.specs.Tables.{laterOf, put}
 use Rattle.protocol.specs.Message.{ownerOf}
 use Rattle.protocol.specs.Range.{Capacities}
@@ -24,7 +24,8 @@ use Rattle.protocol.proofs.Put.{by-cond, put-every}
 use Rattle.protocol.proofs.Ranges.Values.{IsClient}
 use Rattle.protocol.proofs.Ranges.Tables.{Valid}
 use Rattle.condition3.proofs.Sound.{Ledger, GoodEntry, Writes, Last, FitsGot, Fits, SoundBy}
-use Rattle.condition3.proofs.Sound.Carry.{later-good, owner-client, recounted, last-recounted}
+use Rattle.condition3.proofs.Sound.Carry.{later-good, owner-client, recounted}
+use Rattle.condition3.proofs.Sound.Carry.{last-recounted}
 use Rattle.condition3.proofs.Sound.End.{has-some, commits-for, ended-last, seen-good}
 use Rattle.condition3.proofs.Sound.End.{commits-fit}
 use Rattle.condition3.proofs.Sound.Delivery.{Taken, one-after, likes}
@@ -121,7 +122,7 @@ module _ (caps : Capacities) (L : Ledger) (t : Tables) (sound : SoundBy caps L t
       (last-recounted L (t .client) (put (t .client) d c′) count (c .last)
       (sound .last d is-client)))
     where
-      by-cond-true : last ≡ true → c′ ≡ resting (c .count) (ended (answered c k (v .value)))
+      by-cond-true : last ≡ true → c′ ≡ rested c (ended (answered c k (v .value)))
       by-cond-true e = rw e refl
 
       by-cond-false : last ≡ false → c′ ≡ answered c k (v .value)

@@ -14,7 +14,7 @@ use Rattle.itemset.proofs.Laws.{has-empty, has-remove-other}
 use Rattle.protocol.specs.declared.Entry.{Entry}
 use Rattle.protocol.specs.declared.Message.{Message}
 use Rattle.protocol.specs.declared.Message.the-variants.{Prepared}
-use Rattle.protocol.specs.Tables.{Tables, Client, Side, ofRead, ofWrite, awaitedOf, resting}
+use Rattle.protocol.specs.Tables.{Tables, Client, Side, ofRead, ofWrite, awaitedOf, rested}
 use Rattle.protocol.specs.Tables.{writerOf, put}
 use Rattle.protocol.specs.Message.{ownerOf}
 use Rattle.protocol.specs.Range.{Capacities}
@@ -128,7 +128,7 @@ module _ (caps : Capacities) (L : Ledger) (t : Tables) (sound : SoundBy caps L t
       (last-recounted L (t .client) (put (t .client) d c′) count (c .last)
       (sound .last d is-client)))
     where
-      by-cond-true : last ≡ true → c′ ≡ resting (c .count) (ended c)
+      by-cond-true : last ≡ true → c′ ≡ rested c (ended c)
       by-cond-true e = rw e refl
 
       by-cond-false : last ≡ false → c′ ≡ struck c k

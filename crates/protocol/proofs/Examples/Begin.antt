@@ -7,7 +7,7 @@ use Rattle.protocol.specs.declared.Entry.{Entry}
 use Rattle.protocol.specs.declared.Message.the-variants.{Prepare, Prepared, Commit, Get, Got}
 use Rattle.protocol.specs.Tables.{Sizes, Tables, Client, noRead, noWrite, nothing, fresh}
 use Rattle.protocol.specs.Tables.{initial, resting, stampOf, put, withClient, withView}
-use Rattle.protocol.specs.Tables.{withVersions, withMessages}
+use Rattle.protocol.specs.Tables.{withVersions, withMessages, withWrite}
 
 abbrev pub sizes : ℕ → ℕ → ℕ → Sizes
 sizes clients partitions items = record
@@ -43,7 +43,7 @@ writer set awaited stamp value =
 
 -- the read part of one client and the write part of another
 abbrev pub both : Client → Client → Client
-both r w = record { count = r .count; read = r .read; write = w .write; last = r .last }
+both r w = withWrite r (w .write)
 
 -- ---- Load
 

@@ -7,7 +7,7 @@ use lib.ListN.{replicate}
 use Rattle.protocol.specs.declared.Message.the-variants.{Commit, Get, Got}
 use Rattle.protocol.specs.Tables.{Tables, Client, Ended, nothing, read, write, fresh, initial}
 use Rattle.protocol.specs.Tables.{resting, stampOf, put, withClient, withLatest, withVersions}
-use Rattle.protocol.specs.Tables.{withMessages}
+use Rattle.protocol.specs.Tables.{withMessages, withLast}
 use Rattle.protocol.specs.Calls.{startRead, startWrite, deliver, show}
 use Rattle.protocol.proofs.Examples.Table.{Row, freshly, on, onEach, _⇒_, _keeping_}
 use Rattle.protocol.proofs.Examples.Table.{anything, messagesAre, entryIs}
@@ -17,10 +17,6 @@ use Rattle.protocol.proofs.Examples.Begin.{seeing, spent}
 -- an output of n bytes
 abbrev room : ℕ → List ℕ
 room n = replicate n 0xee
-
--- this client, but with this transaction as its last
-abbrev having : Client → Ended → Client
-having c last = record { count = c .count; read = c .read; write = c .write; last = last }
 
 -- fresh tables of two clients, partitions and items, with client 2 like this
 abbrev withSecond : Client → Tables
@@ -65,7 +61,7 @@ fullAndWrong =
 abbrev busyShows : Row
 busyShows =
     record {
-      start = on (withSecond (having (reader 1 1 0 0) (write 1 (stampOf 1 2) (λ k. 7))));
+      start = on (withSecond (withLast (reader 1 1 0 0) (write 1 (stampOf 1 2) (λ k. 7))));
       lines = show 2 (room 0) ⇒ "04"
           ∷ show 2 (room 18) ⇒ "04" keeping "eeeeeeeeeeeeeeeeeeeeeeeeeeeeeeeeeeee" ∷ [];
       after = anything;

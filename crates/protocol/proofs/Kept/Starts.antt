@@ -11,7 +11,8 @@ use Rattle.itemset.proofs.Laws.{has-below}
 use Rattle.protocol.specs.declared.Entry.{Entry}
 use Rattle.protocol.specs.declared.Message.{Message}
 use Rattle.protocol.specs.declared.Message.the-variants.{Prepare, Get}
-use Rattle.protocol.specs.Tables.{Sizes, Tables, Client, withClient, withMessages}
+use Rattle.protocol.specs.Tables.{Sizes, Tables, Client, noRead, noWrite, withClient}
+use Rattle.protocol.specs.Tables.{withMessages, withCount}
 use Rattle.protocol.specs.Range.{Capacities}
 use Rattle.protocol.specs.Steps.{choice, asks, reader, gets, nextStamp, valueOf, writer}
 use Rattle.protocol.specs.Steps.{version, prepares}
@@ -25,7 +26,7 @@ use Rattle.protocol.proofs.Refusals.{AcceptedStart, AcceptedWrite}
 use Rattle.protocol.proofs.Put.{by-cond}
 use Rattle.protocol.proofs.Kept.Changes.{range-client, range-messages}
 use Rattle.protocol.proofs.Kept.Values.{range-no-read, range-no-write, range-initial}
-use Rattle.protocol.proofs.Kept.Values.{range-max}
+use Rattle.protocol.proofs.Kept.Values.{range-max, range-count, range-parts}
 
 -- ---- Stamps and values
 
@@ -64,20 +65,14 @@ module _ (caps : Capacities) (t : Tables) (d s : ℕ) (a : AcceptedStart caps t 
 
   pub range-reader : ClientInRange (t .sizes) (reader t d s)
   range-reader =
-      let c = a .valid .inRange .client d (a .client) in
-      record {
-        count = c .count;
-        read = record {
-          set = a .set;
-          awaited = a .set;
-          within = λ k e. e;
-          asked = λ k e. rw e (range-asks k e);
-          values = λ k e. omega arith;
-        };
-        write = range-no-write (t .sizes);
-        alone = λ n. absurd (n refl);
-        last = c .last;
-      }
+      range-parts (t .sizes) (t .client d) (reader t d s .read) noWrite
+      (a .valid .inRange .client d (a .client)) (record {
+        set = a .set;
+        awaited = a .set;
+        within = λ k e. e;
+        asked = λ k e. rw e (range-asks k e);
+        values = λ k e. omega arith;
+      }) (range-no-write (t .sizes)) (λ n. absurd (n refl))
 
   pub range-read : InRange (effect t (startRead d s))
   unfolding effect
@@ -104,19 +99,17 @@ module _ (caps : Capacities) (t : Tables) (d s : ℕ) (bytes : List ℕ)
 
   pub range-writer : ClientInRange (t .sizes) (writer t d s bytes)
   range-writer =
-      record {
-        count = count-fits;
-        read = range-no-read (t .sizes);
-        write = record {
-          set = a .start .set;
-          awaited = a .start .set;
-          within = λ k e. e;
-          stamp = λ n. range-next;
-          values = λ k e. value-fits s bytes k;
-        };
-        alone = λ n. (refl, n);
-        last = a .start .valid .inRange .client d (a .start .client) .last;
-      }
+      let c = t .client d in
+      range-parts (t .sizes) (withCount c (suc (c .count))) noRead (writer t d s bytes .write)
+      (range-count (t .sizes) c (suc (c .count))
+      (a .start .valid .inRange .client d (a .start .client)) count-fits)
+      (range-no-read (t .sizes)) (record {
+        set = a .start .set;
+        awaited = a .start .set;
+        within = λ k e. e;
+        stamp = λ n. range-next;
+        values = λ k e. value-fits s bytes k;
+      }) (λ n. (refl, n))
 
   pub range-write : InRange (effect t (startWrite d s bytes))
   unfolding effect

@@ -17,9 +17,10 @@ use Rattle.protocol.specs.declared.Version.{Version}
 use Rattle.protocol.specs.declared.Entry.{Entry}
 use Rattle.protocol.specs.Tables.{Sizes, Tables, Client, ReadPart, Ended, read, write, ofRead}
 use Rattle.protocol.specs.Tables.{ofWrite, noRead, noWrite, laterOf, partitionOf, resting}
-use Rattle.protocol.specs.Tables.{put}
+use Rattle.protocol.specs.Tables.{WritePart, put, withCount, withRead, withWrite, withLast}
+use Rattle.protocol.specs.Tables.{rested}
 use Rattle.protocol.specs.Steps.{alike, stored, found, answered, isLast, ended, prepared, got}
-use Rattle.protocol.specs.Steps.{seen, committed}
+use Rattle.protocol.specs.Steps.{struck, seen, committed}
 use Rattle.protocol.proofs.Each.{Each}
 use Rattle.protocol.proofs.Ranges.Values.{Stamped, StampInRange, EntryInRange}
 use Rattle.protocol.proofs.Ranges.Values.{EntriesInRange, VersionInRange}
@@ -119,6 +120,44 @@ range-ended z c r w =
     (λ e. record { set = r .set; stamps = r .asked; values = r .values })
     (λ e. record { set = w .set; stamp = w .stamp; values = w .values })
 
+-- another last transaction, another count, and other parts
+pub range-last : (z : Sizes) (c : Client) (e : Ended) → ClientInRange z c → EndedInRange z e
+    → ClientInRange z (withLast c e)
+range-last z c e r h = record {
+  count = r .count;
+  read = r .read;
+  write = r .write;
+  alone = r .alone;
+  last = h;
+}
+
+pub range-count : (z : Sizes) (c : Client) (n : ℕ) → ClientInRange z c → n < 2 ^ 32
+    → ClientInRange z (withCount c n)
+range-count z c n r h = record {
+  count = h;
+  read = r .read;
+  write = r .write;
+  alone = r .alone;
+  last = r .last;
+}
+
+pub range-parts : (z : Sizes) (c : Client) (p : ReadPart) (w : WritePart) → ClientInRange z c
+    → ReadPartInRange z p → WritePartInRange z w
+    → (w .set ≢ 0 → (p .set ≡ 0) × (w .awaited ≢ 0)) → ClientInRange z (withWrite (withRead c p) w)
+range-parts z c p w r asks keeps alone = record {
+  count = r .count;
+  read = asks;
+  write = keeps;
+  alone = alone;
+  last = r .last;
+}
+
+pub range-rested : (z : Sizes) (c : Client) (e : Ended) → ClientInRange z c → EndedInRange z e
+    → ClientInRange z (rested c e)
+range-rested z c e r h =
+    range-last z (withWrite (withRead c noRead) noWrite) e
+    (range-parts z c noRead noWrite r (range-no-read z) (range-no-write z) (λ n. absurd (n refl))) h
+
 -- one item is struck
 range-left : (s k n : ℕ) → s < 2 ^ n → remove s k < 2 ^ n
 range-left s k n l = lt-of-le-of-lt (remove-le s k) l
@@ -147,20 +186,14 @@ range-prepared z c k r m =
     let last-of : c .write .set ≢ 0 → remove (c .write .awaited) k ≡ 0 → isLast ofWrite c k ≡ true =
     λ n e. rw (none-awaited z (c .read) (r .read) (r .alone n .0), e) refl in
     by-cond (ClientInRange z) (isLast ofWrite c k) _ _
-    (λ l. range-resting z (c .count) (ended c) (r .count) (range-ended z c (r .read) w))
-    (λ l. record {
-      count = r .count;
-      read = r .read;
-      write = record {
-        set = w .set;
-        awaited = range-left (c .write .awaited) k (z .items) (w .awaited);
-        within = within-left (c .write .awaited) (c .write .set) k (w .within);
-        stamp = w .stamp;
-        values = w .values;
-      };
-      alone = λ n. (r .alone n .0, λ e. not-both (last-of n e) l);
-      last = r .last;
-    })
+    (λ l. range-rested z c (ended c) r (range-ended z c (r .read) w))
+    (λ l. range-parts z c (c .read) (struck c k .write) r (r .read) (record {
+      set = w .set;
+      awaited = range-left (c .write .awaited) k (z .items) (w .awaited);
+      within = within-left (c .write .awaited) (c .write .set) k (w .within);
+      stamp = w .stamp;
+      values = w .values;
+    }) (λ n. (r .alone n .0, λ e. not-both (last-of n e) l)))
 
 pub range-got : (z : Sizes) (c : Client) (k value : ℕ) → ClientInRange z c
     → has (c .read .awaited) k ≡ true → value < 2 ^ 32
@@ -178,12 +211,6 @@ range-got z c k value r m h =
       values = fit;
     } in
     by-cond (ClientInRange z) (isLast ofRead c k) _ _
-    (λ l. range-resting z (c .count) (ended (answered c k value)) (r .count)
+    (λ l. range-rested z c (ended (answered c k value)) r
     (range-ended z (answered c k value) part (r .write)))
-    (λ l. record {
-      count = r .count;
-      read = part;
-      write = r .write;
-      alone = r .alone;
-      last = r .last;
-    })
+    (λ l. range-parts z c (answered c k value .read) (c .write) r part (r .write) (r .alone))
