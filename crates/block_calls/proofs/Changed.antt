@@ -11,7 +11,7 @@ use Rattle.protocol.specs.Range.{capacities, valid}
 use Rattle.protocol.specs.Calls.{Call, startRead, startWrite, deliver, show, refusal, effect}
 use Rattle.protocol.proofs.Refusals.{accepted-read, accepted-write, accepted-deliver}
 use Rattle.layout.specs.Encodes.{Encodes}
-use Rattle.layout.specs.Masked.{Masked}
+use Rattle.layout.proofs.Masked.{Masked}
 use Rattle.start.proofs.EncodesRead.{encodes-read}
 use Rattle.start.proofs.EncodesWrite.{encodes-write}
 use Rattle.deliver.proofs.Delivered.{encodes-deliver}

@@ -1,21 +1,19 @@
 -- The parts of every answer fit the bits that tell them.
-use mathlib.Core.Bool.{Bool, true, false, cond}
+use mathlib.Core.Bool.{Bool, true, false}
 use mathlib.Core.List.{List, [], _∷_}
 use mathlib.Core.Path.{_≡_, refl, ap, _∙_, subst}
 use Prim.Native.Nat.{ℕ, zero, suc, _%_, _≤_, _<_, _^_}
 use native.Mathlib.Omega.{arith}
-use lib.Dec.{eqb}
 use Rattle.basics.proofs.Cases.{by-test}
-use Rattle.protocol.specs.declared.Message.{Message}
-use Rattle.protocol.specs.declared.Message.the-variants.{Prepare, Prepared, Commit, Get, Got}
 use Rattle.protocol.specs.declared.Answer.{Answer}
 use Rattle.protocol.specs.declared.Answer.the-variants.{Refused, Made, Started, Delivered, Shown}
-use Rattle.protocol.specs.Tables.{Tables, Sizes, ofRead, ofWrite, writerOf}
-use Rattle.protocol.specs.Steps.{messageAt, isLast}
+use Rattle.protocol.specs.Tables.{Tables, Sizes}
+use Rattle.protocol.specs.Steps.{messageAt}
 use Rattle.protocol.specs.Calls.{Call, startRead, startWrite, deliver, show, Test, test, first}
-use Rattle.protocol.specs.Message.{kindOf}
-use Rattle.protocol.specs.Calls.{refusal, effect, reply, step, pick, outcomeOf}
+use Rattle.protocol.specs.Calls.{refusal, effect, reply, step, pick}
 use Rattle.protocol.specs.Calls.{numberOfAnswer}
+use Rattle.protocol.proofs.MessageKinds.{kind-within}
+use Rattle.protocol.proofs.Delivered.{outcome-most}
 use Rattle.protocol.proofs.Valid.{valid-kept}
 use Rattle.protocol.specs.Range.{capacities}
 use Rattle.layout.specs.Decode.{tablesOf, validBlock}
@@ -59,30 +57,6 @@ fresh-refusal-le : (b : List ℕ) (z : Sizes) → freshRefusalOn b z ≤ 14
 unfolding freshRefusalOn
 fresh-refusal-le b z = more 2 _ _ (omega arith) (more 1 _ _ (omega arith) none)
 
--- ---- kinds and outcomes
-
-kind-le : (m : Message) → kindOf m < 2 ^ 8
-kind-le (Prepare v) = omega arith
-kind-le (Prepared k stamp) = omega arith
-kind-le (Commit p stamp) = omega arith
-kind-le (Get d k stamp) = omega arith
-kind-le (Got d v latest) = omega arith
-
-either : (a : Bool) (n m k : ℕ) → n < k → m < k → cond a n m < k
-either true n m k x y = x
-either false n m k x y = y
-
-outcome-le : (t : Tables) (m : Message) → outcomeOf t m < 2 ^ 8
-unfolding outcomeOf
-outcome-le t (Prepare v) = omega arith
-outcome-le t (Prepared k stamp) = either (isLast ofWrite (t .client (writerOf stamp)) k) 2 0
-    (2 ^ 8)
-    (omega arith) (omega arith)
-outcome-le t (Commit p stamp) = omega arith
-outcome-le t (Get d k stamp) = omega arith
-outcome-le t (Got d v latest) = either (isLast ofRead (t .client d) (v .item)) _ 0 (2 ^ 8)
-    (either (eqb (t .client d .write .set) 0) 1 2 (2 ^ 8) (omega arith) (omega arith)) (omega arith)
-
 -- ---- answers
 
 -- the refusal that an answer tells, 0 for none
@@ -104,10 +78,10 @@ reply-fits t (startWrite d s bytes) e =
           (valid-kept capacities t (startWrite d s bytes) e),
     )
 reply-fits t (deliver i) e = (
-  kind-le (messageAt t i),
+  omega (arith, kind-within (messageAt t i)),
   omega
       (arith, few-messages (effect t (deliver i)) (valid-kept capacities t (deliver i) e)),
-  outcome-le t (messageAt t i),
+  omega (arith, outcome-most t (messageAt t i)),
 )
 reply-fits t (show d output) e = omega (arith, length-frame-le d (t .client d .last))
 

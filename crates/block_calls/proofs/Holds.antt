@@ -12,7 +12,7 @@ use Rattle.protocol.proofs.Ranges.Tables.{Valid, valid-facts}
 use Rattle.protocol.proofs.Valid.{valid-step}
 use Rattle.layout.specs.Decode.{tablesOf, validBlock}
 use Rattle.layout.specs.Encodes.{Encodes}
-use Rattle.layout.specs.Masked.{Masked}
+use Rattle.layout.proofs.Masked.{Masked}
 use Rattle.encoding.proofs.ValidIff.{valid-iff}
 use Rattle.encoding.proofs.Decoded.{tables-of}
 use Rattle.encoding.proofs.MaskedStep.{masked-step}

@@ -3,7 +3,7 @@
 use mathlib.Core.Bool.{true}
 use mathlib.Core.List.{List, [], _∷_}
 use mathlib.Core.Path.{_≡_, refl, sym, ap, _∙_}
-use Prim.Native.Nat.{ℕ, zero, suc, _≤_, _<_}
+use Prim.Native.Nat.{ℕ, _≤_, _<_}
 use native.Mathlib.Omega.{arith}
 use lib.Dec.{leb}
 use lib.ListN.{length}
@@ -13,7 +13,6 @@ use Rattle.basics.proofs.Lists.{in-getD}
 use Rattle.protocol.specs.declared.Message.{Message}
 use Rattle.protocol.specs.declared.Message.the-variants.{Commit}
 use Rattle.protocol.specs.declared.Answer.the-variants.{Delivered}
-use Rattle.protocol.specs.declared.Entry.{Entry}
 use Rattle.protocol.specs.Tables.{Tables}
 use Rattle.protocol.specs.Steps.{messageAt}
 use Rattle.protocol.specs.Message.{kindOf}
@@ -26,8 +25,9 @@ use Rattle.protocol.specs.Range.{capacities}
 use Rattle.layout.specs.Store.{takeOut}
 use Rattle.layout.specs.Layout.{mostVersions, mostMessages, header, needed, at, partitionsAt}
 use Rattle.layout.specs.Layout.{itemsAt, versionsAt, messagesAt}
-use Rattle.layout.specs.Decode.{messageOf, kindIn, messageIn, tablesOf, validBlock}
+use Rattle.layout.specs.Decode.{kindIn, messageIn, tablesOf, validBlock}
 use Rattle.layout.specs.Encodes.{Encodes}
+use Rattle.layout.proofs.Held.{kind-read as kind-of-read}
 use Rattle.slots.proofs.ReadBack.{read-message}
 use Rattle.encoding.proofs.WellFormed.{WellFormed, tells-valid-block}
 use Rattle.deliver_tests.specs.declared.Tested.{Tested}
@@ -37,21 +37,9 @@ use Rattle.deliver_tests.proofs.Bounds.{bounded}
 use Rattle.deliver.proofs.Delivered.{delivered-block}
 use Rattle.deliver_tests.proofs.TestedTables.{Tells, tested-tables}
 use Rattle.block_calls.specs.Calls.{refusalOn, answerOn, changed, blockAfter}
-use Rattle.block_calls.proofs.Accepted.{valid-tables, holds-tables, refusal-valid, accepted-valid}
-use Rattle.block_calls.proofs.Accepted.{answer-accepted}
+use Rattle.block_calls.proofs.Accepted.{valid-tables, holds-tables, refusal-valid}
+use Rattle.block_calls.proofs.Accepted.{accepted-valid, answer-accepted}
 use Rattle.block_calls.proofs.Given.{block-given, count-given}
-
--- ---- kinds
-
-kind-number : (kind who k v stamp s : ℕ) (e : Entry) → 1 ≤ kind → kind ≤ 5
-    → kindOf (messageOf kind who k v stamp s e) ≡ kind
-unfolding messageOf
-kind-number zero who k v stamp s e l h = absurd (omega arith)
-kind-number (suc zero) who k v stamp s e l h = refl
-kind-number (suc (suc zero)) who k v stamp s e l h = refl
-kind-number (suc (suc (suc zero))) who k v stamp s e l h = refl
-kind-number (suc (suc (suc (suc zero)))) who k v stamp s e l h = refl
-kind-number (suc (suc (suc (suc (suc n))))) who k v stamp s e l h = omega arith
 
 -- ---- the message at place i
 
@@ -122,8 +110,7 @@ module _ (b : List ℕ) (i : ℕ) (v : validBlock b ≡ true) where
     outcome-told = told-tables .outcome
 
     pub kind-read : kindIn b i ≡ kindOf (messageAt t i)
-    unfolding messageIn
-    kind-read = sym (kind-number (kindIn b i) _ _ _ _ _ _ (words .someKind i l) (words .kind i l))
+    kind-read = sym (kind-of-read b i (words .someKind i l) (words .kind i l))
         ∙ ap kindOf message-read
 
 -- ---- a delivery that is accepted

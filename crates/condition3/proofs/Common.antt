@@ -1,24 +1,23 @@
 -- Small laws of messages, clients and labels that the invariant's files share.
 use mathlib.Core.Bool.{Bool, true, false, cond, not, _&&_}
 use mathlib.Core.List.{List, [], _∷_, map}
-use mathlib.Core.Logic.{_≢_, inl}
+use mathlib.Core.Logic.{_≢_, ⊎-elim}
 use mathlib.Core.Path.{_≡_, refl, sym, ap, _∙_, subst}
 use Prim.Native.Nat.{ℕ, zero, suc, _+_, _^_, _≤_, _<_}
 use native.Mathlib.Nat.{not-suc-le-zero}
 use native.Mathlib.Omega.{arith}
 use lib.Dec.{eqb, ltb, leb}
-use borrow.Author.Tests.{eqb-true, eqb-false, ne-eqb, ltb-true, ltb-false}
-use Rattle.basics.proofs.Cases.{by-test, not-both, and-left, and-right}
+use borrow.Author.Tests.{eqb-true, eqb-false, ne-eqb, ltb-true, ltb-false, leb-false, le-leb}
+use Rattle.basics.proofs.Cases.{by-test, and-left, and-right, not-true}
 use Rattle.basics.specs.Lists.{In, counted}
-use Rattle.basics.proofs.Lists.{counted-append, in-map}
+use Rattle.basics.proofs.Lists.{counted-append}
 use Rattle.itemset.specs.Set.{has, remove, upto, only, members}
 use Rattle.itemset.proofs.Laws.{has-empty, has-above}
 use Rattle.protocol.specs.declared.Message.{Message}
-use Rattle.protocol.specs.declared.Message.the-variants.{Prepare, Prepared, Commit, Get, Got}
 use Rattle.protocol.specs.Tables.{Tables, Client, Side, ofRead, ofWrite, writerOf}
 use Rattle.protocol.specs.Message.{kindOf, isCommit, itemOf, namesClient, ownerOf}
-use Rattle.protocol.specs.Steps.{joined, commits, isLast, touches}
-use Rattle.protocol.proofs.Commits.{no-commits}
+use Rattle.protocol.specs.Steps.{joined, isLast}
+use Rattle.protocol.proofs.Delivered.{joined-each}
 use Rattle.condition3.specs.World.{Write, labelled}
 
 -- ---- a message about item k of client d: any kind but a commit
@@ -41,11 +40,16 @@ by-side P r w ofWrite = w
 
 -- a message about an item is of one of the sides
 pub side-of : (m : Message) → hasItem m ≡ true → (σ : Side) × (ofSide σ m ≡ true)
-side-of (Prepare v) e = (ofWrite, refl)
-side-of (Prepared k s) e = (ofWrite, refl)
-side-of (Commit p s) e = not-both e refl
-side-of (Get d k s) e = (ofRead, refl)
-side-of (Got d v x) e = (ofRead, refl)
+side-of m e =
+    by-test (leb (kindOf m) 2) (λ l. (ofWrite, l))
+    (λ l. (
+      ofRead,
+      le-leb 4 (kindOf m) (omega (
+        arith,
+        leb-false (kindOf m) 2 l,
+        eqb-false (kindOf m) 3 (not-true (isCommit m) e),
+      )),
+    ))
 
 -- c′ has the same transaction as c, as far as a message looks at it
 pub record Like (c c′ : Client) : Type 0 where
@@ -85,34 +89,15 @@ struck-last ofWrite c k e ofWrite j =
 
 -- ---- what joins is of the client of what is taken out
 
-commits-owner : (t : Tables) (s stamp : ℕ) (j : Message) → In j (commits t s stamp)
-    → ownerOf j ≡ writerOf stamp
-commits-owner t s stamp j i =
-    let x = in-map (λ p. Commit p stamp) j
-    (upto (t .sizes .partitions) (λ p. touches t s p (t .sizes .items))) i in
-    ap ownerOf (x .2)
-
 -- where a write part that a got ends is of the got's client
 pub joined-owner : (t : Tables) (m j : Message)
     → ((d : ℕ) → ownerOf m ≡ d → t .client d .write .set ≢ 0
     → writerOf (t .client d .write .stamp) ≡ d)
     → In j (joined t m) → ownerOf j ≡ ownerOf m
-unfolding joined
-joined-owner t (Prepare v) j own (inl e) = ap ownerOf e
-joined-owner t (Prepared k stamp) j own i =
-    by-test (isLast ofWrite (t .client (writerOf stamp)) k)
-    (λ e. commits-owner t (t .client (writerOf stamp) .write .set) stamp j (rw e at i))
-    (λ e. absurd (rw e at i))
-joined-owner t (Commit p stamp) j own i = absurd i
-joined-owner t (Get d k stamp) j own (inl e) = ap ownerOf e
-joined-owner t (Got d v latest) j own i =
-    let c = t .client d in
-    by-test (isLast ofRead c (v .item))
-    (λ e. by-test (eqb (c .write .set) 0)
-    (λ z. absurd (rw (eqb-true (c .write .set) 0 z, no-commits t (c .write .stamp)) at (rw e at i)))
-    (λ z. commits-owner t (c .write .set) (c .write .stamp) j (rw e at i)
-    ∙ own d refl (eqb-false (c .write .set) 0 z)))
-    (λ e. absurd (rw e at i))
+joined-owner t m j own =
+    joined-each (λ x. ownerOf x ≡ ownerOf m) t m (λ x r. r .owner)
+    (λ p stamp some o. ⊎-elim (λ e. e)
+    (λ e. ap writerOf e ∙ own (ownerOf m) refl some) o) j
 
 -- ---- one message to an item
 

@@ -16,9 +16,8 @@ use Rattle.basics.specs.Lists.{In}
 use Rattle.itemset.specs.Set.{has}
 use Rattle.protocol.specs.declared.Version.{Version}
 use Rattle.protocol.specs.declared.Message.{Message}
-use Rattle.protocol.specs.declared.Message.the-variants.{Prepare, Prepared, Commit, Get, Got}
 use Rattle.protocol.specs.Tables.{Client}
-use Rattle.protocol.specs.Message.{ownerOf}
+use Rattle.protocol.specs.Message.{partsOf, isPrepare, isGot, ownerOf}
 use Rattle.protocol.specs.Range.{Capacities}
 use Rattle.condition3.specs.World.{World, Label, Labelled, Write, Store}
 use Rattle.condition3.proofs.Sound.{Ledger, Counted, SoundBy}
@@ -56,12 +55,10 @@ pub record FromAnswer (writes : List Write) (stores : List Store) (l : Label) (s
   pub same : write .stamp ≡ s
   pub landed : (j : ℕ) → has (write .set) j ≡ true → LandedBefore stores write j (l .since)
 
-unfoldable pub Comes : List Write → List Store → Label → Message → Type 0
-Comes writes stores l (Prepare v) = FromStart writes l (v .stamp)
-Comes writes stores l (Prepared k s) = Unit
-Comes writes stores l (Commit p s) = Unit
-Comes writes stores l (Get d k s) = Unit
-Comes writes stores l (Got d v e) = FromAnswer writes stores l (v .stamp)
+pub record Comes (writes : List Write) (stores : List Store) (l : Label)
+    (m : Message) : Type 0 where
+  pub prepare : isPrepare m ≡ true → FromStart writes l (partsOf m .stamp)
+  pub got : isGot m ≡ true → FromAnswer writes stores l (partsOf m .stamp)
 
 pub record Inv (caps : Capacities) (w : World) : Type 0 where
   pub ledger : Ledger

@@ -1,7 +1,7 @@
 -- A delivery on the block is the delivery in the tables: the message is taken out, does its work,
 -- and its new messages join at the end.
 use mathlib.Core.List.{List}
-use mathlib.Core.Path.{_≡_, refl, sym, ap, subst}
+use mathlib.Core.Path.{_≡_, refl, sym, subst}
 use Prim.Native.Nat.{ℕ}
 use native.Mathlib.Omega.{arith}
 use Rattle.basics.specs.Lists.{without}
@@ -18,12 +18,11 @@ use Rattle.layout.specs.Layout.{header, at, messagesAt, versionsAt}
 use Rattle.layout.specs.Decode.{messageIn}
 use Rattle.layout.specs.Store.{takeOut}
 use Rattle.layout.specs.Encodes.{Encodes}
-use Rattle.layout.specs.Masked.{MaskedMessage}
+use Rattle.layout.proofs.Masked.{MaskedMessage}
 use Rattle.layout.proofs.Room.{HasRoom, room-valid}
 use Rattle.layout.proofs.Held.{message-held}
 use Rattle.messages.proofs.EncodesTakeOut.{encodes-take-out}
 use Rattle.deliver.specs.declared.Counts.{Counts}
-use Rattle.deliver_tests.specs.declared.Tested.{Tested}
 use Rattle.deliver_tests.specs.Tests.{testedIn}
 use Rattle.deliver.specs.Deliver.{messageDelivered, countsIn, deliveredBlock}
 use Rattle.deliver.proofs.Worked.{countsOf, encodes-work}

@@ -17,7 +17,8 @@ use Rattle.protocol.specs.Steps.{version, found, delivered, joined, isLast, com
 use Rattle.protocol.proofs.Ranges.Values.{MessageInRange}
 use Rattle.protocol.proofs.Ranges.Tables.{InRange}
 use Rattle.protocol.proofs.Ranges.Clients.{ClientInRange}
-use Rattle.protocol.proofs.Refusals.{Expected}
+use Rattle.protocol.specs.Message.{partsOf, isGet, itemOf}
+use Rattle.protocol.proofs.Refusals.{Expected, tells-prepared, tells-got}
 use Rattle.protocol.proofs.Commits.{no-commits}
 use Rattle.layout.specs.Decode.{latestIn}
 use Rattle.layout.specs.Encodes.{Encodes}
@@ -103,9 +104,10 @@ module _ {b : List ℕ} (t : Tables) (ms : List Message) (n : Encodes b (withMes
   unfolding messageDelivered delivered joined answerOf
   encodes-work (Prepare v) value z i e same versions messages = encodes-prepare v versions messages
   encodes-work (Prepared k stamp) value z i e same versions messages =
-      let w = i .stamp .writer in
+      let w = i .written (omega arith) .writer in
+      let x = tells-prepared t k stamp .0 e in
       encodes-prepared t ms k stamp n r (z .sizes .somePartition) (z .sizes .partitions) (w .0)
-      (w .1) (z .client _ w) (e .awaited) (e .stamp) messages
+      (w .1) (z .client _ w) (x .awaited) (x .stamp) messages
   encodes-work (Commit p stamp) value z i e same versions messages =
       subst (λ (x : List Message). Encodes
       (commitDelivered b (t .sizes .partitions) (length (t .versions)) p stamp)
@@ -126,10 +128,11 @@ module _ {b : List ℕ} (t : Tables) (ms : List Message) (n : Encodes b (withMes
                 (t .latest k) ∷ []),
           )
   encodes-work (Got d v latest) value z i e same versions messages =
+      let w = i .client (omega arith) in
+      let awaited = tells-got t d v latest .0 e .awaited in
       subst (λ (x : List Message). Encodes (gotDelivered b (t .sizes .items) d v latest)
       (withMessages (delivered t (Got d v latest)) x))
       (sym (ap (λ (x : List Message). ms ++ x)
-      (got-joins d v (z .client d (i .client)) (e .awaited))
+      (got-joins d v (z .client d w) awaited)
       ∙ append-nil ms))
-      (encodes-got d v latest n r (i .client .0) (i .client .1) (i .item) (z .client d (i .client))
-      (e .awaited))
+      (encodes-got d v latest n r (w .0) (w .1) (i .item) (z .client d w) awaited)

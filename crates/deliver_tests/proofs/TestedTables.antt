@@ -4,6 +4,7 @@ use mathlib.Core.Bool.{Bool, true, false, cond, not, _&&_, _||_, and-true, and-f
 use mathlib.Core.List.{List, [], _∷_}
 use mathlib.Core.Path.{_≡_, refl, sym, ap, _∙_}
 use Prim.Native.Nat.{ℕ}
+use native.Mathlib.Omega.{arith}
 use lib.Dec.{eqb}
 use borrow.Author.Tests.{eqb-true}
 use Rattle.basics.proofs.Cases.{by-test, not-both}
@@ -14,13 +15,14 @@ use Rattle.protocol.specs.declared.Version.{Version}
 use Rattle.protocol.specs.declared.Message.{Message}
 use Rattle.protocol.specs.declared.Message.the-variants.{Prepare, Prepared, Commit, Get, Got}
 use Rattle.protocol.specs.Tables.{Sizes, Tables, Client, ofRead, ofWrite, writerOf}
+use Rattle.protocol.specs.Message.{partsOf, isGet, itemOf}
 use Rattle.protocol.specs.Range.{isWriting}
 use Rattle.protocol.specs.Steps.{stored, found, isLast}
 use Rattle.protocol.specs.Calls.{test, first, unexpected, missing, outcomeOf}
 use Rattle.protocol.proofs.Ranges.Values.{MessageInRange}
 use Rattle.protocol.proofs.Ranges.Clients.{ClientInRange}
 use Rattle.protocol.proofs.Ranges.Tables.{InRange}
-use Rattle.protocol.proofs.Refusals.{Expected}
+use Rattle.protocol.proofs.Refusals.{Expected, tells-prepared, tells-got}
 use Rattle.layout.specs.Layout.{header, scalars, asked, at, versionsAt, modeAt, awaitedAt}
 use Rattle.layout.specs.Layout.{stampAt, itemAt}
 use Rattle.layout.specs.Decode.{versionIn}
@@ -33,11 +35,7 @@ use Rattle.deliver_tests.specs.Tests.{testedIn}
 
 -- the value that answers a get; no other message has one
 unfoldable pub answerOf : Tables → Message → ℕ
-answerOf t (Prepare v) = 0
-answerOf t (Prepared k stamp) = 0
-answerOf t (Commit p stamp) = 0
-answerOf t (Get d k stamp) = found (t .versions) k stamp .value
-answerOf t (Got d v latest) = 0
+answerOf t m = cond (isGet m) (found (t .versions) (itemOf m) (partsOf m .stamp) .value) 0
 
 -- ---- the tests
 
@@ -117,7 +115,7 @@ tested-tables {b} {t} (Prepare v) n z i = record {
   value = refl;
 }
 tested-tables {b} {t} (Prepared k stamp) n z i =
-    let w = i .stamp .writer in
+    let w = i .written (omega arith) .writer in
     let d = writerOf stamp in
     let c = t .client d in
     let h = n .client d (w .0) (w .1) in
@@ -125,7 +123,8 @@ tested-tables {b} {t} (Prepared k stamp) n z i =
       refusal = rw (prepared-awaited (t .sizes) d k stamp c h (z .client d w))
           (unless-awaited (has (c .write .awaited) k && eqb (c .write .stamp) stamp));
       outcome = λ e. ap (λ (x : Bool). cond x 2 0)
-          (prepared-last (t .sizes) d k stamp c h (z .client d w) (e .awaited));
+          (prepared-last (t .sizes) d k stamp c h (z .client d w)
+          (tells-prepared t k stamp .0 e .awaited));
       value = refl;
     }
 tested-tables {b} {t} (Commit p stamp) n z i = record {
@@ -141,16 +140,18 @@ tested-tables {b} {t} (Get d k stamp) n z i = record {
   value = ap (λ (vs : List Version). found vs k stamp .value) (read-back n);
 }
 tested-tables {b} {t} (Got d v latest) n z i =
-    let w = i .client in
+    let w = i .client (omega arith) in
     let c = t .client d in
     let k = v .item in
     let h = n .client d (w .0) (w .1) in
     record {
       refusal = rw (got-awaited (t .sizes) d k (v .stamp) c h (z .client d w))
           (unless-awaited (has (c .read .awaited) k && eqb (c .read .asked k) (v .stamp)));
-      outcome = λ e. let reads = awaits-answer (t .sizes) c (z .client d w) k (e .awaited) in
+      outcome = λ e.
+          let awaited = tells-got t d v latest .0 e .awaited in
+          let reads = awaits-answer (t .sizes) c (z .client d w) k awaited in
           rw (writes-nothing (t .sizes) c (z .client d w) reads)
           (ap (λ (x : Bool). cond x 1 0)
-          (got-last (t .sizes) d k (v .stamp) c h (z .client d w) (e .awaited)));
+          (got-last (t .sizes) d k (v .stamp) c h (z .client d w) awaited));
       value = refl;
     }

@@ -9,6 +9,7 @@ use Rattle.itemset.specs.Set.{has, remove}
 use Rattle.protocol.specs.declared.Message.{Message}
 use Rattle.protocol.specs.declared.Message.the-variants.{Prepare, Prepared, Commit, Get, Got}
 use Rattle.protocol.specs.Tables.{writerOf}
+use Rattle.protocol.specs.Message.{itemOf, ownerOf}
 use Rattle.protocol.specs.Steps.{stored, found}
 use Rattle.layout.specs.Layout.{scalars, asked, at, modeAt, awaitedAt, stampAt, itemAt}
 use Rattle.layout.specs.Decode.{versionIn}
@@ -17,13 +18,9 @@ use Rattle.deliver_tests.specs.declared.Tested.{Tested}
 abbrev pub told : ℕ → ℕ → ℕ → Tested
 told refusal outcome value = record { refusal = refusal; outcome = outcome; value = value }
 
--- the clients and items that a message names have words in a block
+-- a message's client and item have words in a block
 abbrev pub Bounded : Message → Type 0
-Bounded (Prepare v) = Unit
-Bounded (Prepared k stamp) = (1 ≤ writerOf stamp) × (writerOf stamp ≤ 8)
-Bounded (Commit p stamp) = Unit
-Bounded (Get d k stamp) = k < 64
-Bounded (Got d v latest) = (1 ≤ d) × (d ≤ 8) × (v .item < 64)
+Bounded m = (1 ≤ ownerOf m) × (ownerOf m ≤ 8) × (itemOf m < 64)
 
 -- a reply for item k to client d, in this mode (1 reading, 2 writing), with the right stamp or not:
 -- 11 unless it is awaited; with the last one a read (1) or a write (2) ends

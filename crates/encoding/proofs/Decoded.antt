@@ -30,7 +30,7 @@ use Rattle.layout.specs.Decode.{clientIn}
 use Rattle.layout.specs.Decode.{versionIn, messageIn, tablesOf}
 use Rattle.layout.specs.Encodes.{numberOfMode, HoldsEntry, HoldsEnded, HoldsRead, HoldsWrite}
 use Rattle.layout.specs.Encodes.{HoldsClient, Encodes}
-use Rattle.layout.specs.Masked.{Only, MaskedEnded, MaskedClient, Masked}
+use Rattle.layout.proofs.Masked.{Only, MaskedEnded, MaskedClient, Masked}
 use Rattle.layout.proofs.Parts.{mode-writing}
 use Rattle.layout.proofs.Held.{version-held, message-held}
 use Rattle.encoding.proofs.Folds.{table-of}

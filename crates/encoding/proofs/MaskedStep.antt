@@ -6,6 +6,7 @@ use mathlib.Core.List.{List, [], _∷_, _++_}
 use mathlib.Core.Logic.{_≢_}
 use mathlib.Core.Path.{_≡_, refl, ap, _∙_, subst}
 use Prim.Native.Nat.{ℕ, _^_, _<_}
+use native.Mathlib.Omega.{arith}
 use lib.Dec.{eqb}
 use borrow.Author.Tests.{lt-ltb, ne-eqb}
 use Rattle.basics.proofs.Cases.{by-test, not-both, and-right}
@@ -30,8 +31,9 @@ use Rattle.protocol.proofs.Stored.{found-held}
 use Rattle.protocol.proofs.Ranges.Values.{IsClient, MessageInRange}
 use Rattle.protocol.proofs.Ranges.Tables.{InRange}
 use Rattle.protocol.proofs.Refusals.{AcceptedDeliver, Expected, accepted-read, accepted-write}
-use Rattle.protocol.proofs.Refusals.{accepted-deliver, accepted-message}
-use Rattle.layout.specs.Masked.{Only, MaskedEnded, MaskedClient, MaskedMessage, Masked}
+use Rattle.protocol.proofs.Refusals.{accepted-deliver, accepted-message, tells-prepared, tells-got}
+use Rattle.layout.specs.Decode.{messageOf}
+use Rattle.layout.proofs.Masked.{Only, MaskedEnded, MaskedClient, MaskedMessage, Masked}
 use Rattle.layout.proofs.Parts.{awaits-reply, awaits-answer}
 use Rattle.encoding.proofs.WellFormed.{client-test}
 use Rattle.encoding.proofs.MaskedTables.{masked-rested}
@@ -70,7 +72,8 @@ module _ (t : Tables) (m : Masked t) where
             λ e k g. ap (λ (view : ℕ → Entry). view k) (put-absent (t .sizes) (t .view) d f e i g)
             ∙ m .clientView e k g;
         itemView =
-            λ e k g. put-all (λ (view : ℕ → Entry). view k ≡ initial) (t .view) d f e (h k g) (m .itemView e k g);
+            λ e k g. put-all (λ (view : ℕ → Entry). view k ≡ initial) (t .view) d f e (h k g)
+            (m .itemView e k g);
         absent = m .absent;
         client = m .client;
         messages = m .messages;
@@ -196,10 +199,10 @@ masked-delivered t (Prepare v) m r h x = masked-versions t m (t .versions ++ v �
 masked-delivered t (Prepared k stamp) m r h x =
     let d = writerOf stamp in
     let c = t .client d in
-    let one : IsClient (t .sizes) d = h .stamp .writer in
+    let one : IsClient (t .sizes) d = h .written (omega arith) .writer in
     masked-view (withClient t d (prepared c k))
     (masked-client t m d (prepared c k) one (masked-prepared c k (m .client d)
-    (awaits-reply (t .sizes) c (r .client d one) k (x .awaited)))) d
+    (awaits-reply (t .sizes) c (r .client d one) k (tells-prepared t k stamp .0 x .awaited)))) d
     (cond (isLast ofWrite c k) (seen (t .view d) (c .write .set) stamp) (t .view d)) one
     (by-cond (MaskedEntries (t .sizes)) (isLast ofWrite c k) _ _
     (λ l. masked-seen (t .sizes) (t .view d) (c .write .set) stamp (r .client d one .write .set)
@@ -211,14 +214,16 @@ masked-delivered t (Get d k stamp) m r h x = m
 masked-delivered t (Got d v latest) m r h x =
     let c = t .client d in
     let k = v .item in
-    let one : IsClient (t .sizes) d = h .client in
+    let one : IsClient (t .sizes) d = h .client (omega arith) in
     let range = r .client d one in
-    let own = range .read .within k (x .awaited) in
-    let reads = awaits-answer (t .sizes) c range k (x .awaited) in
+    let awaited = tells-got t d v latest .0 x .awaited in
+    let own = range .read .within k awaited in
+    let reads = awaits-answer (t .sizes) c range k awaited in
     let view = put (t .view d) k (laterOf (t .view d k) latest) in
     let entries : MaskedEntries (t .sizes) view = λ j f.
     let other : j ≢ k =
-    λ p. not-both (lt-ltb k (t .sizes .items) (h .item)) (subst (λ (y : ℕ). isItem (t .sizes) y ≡ false) p f) in
+    λ p. not-both (lt-ltb k (t .sizes .items) (h .item))
+    (subst (λ (y : ℕ). isItem (t .sizes) y ≡ false) p f) in
     put-other (t .view d) k (laterOf (t .view d k) latest) j other ∙ m .itemView d j f in
     masked-view (withClient t d (got c k (v .value)))
     (masked-client t m d (got c k (v .value)) one
@@ -229,13 +234,14 @@ masked-delivered t (Got d v latest) m r h x =
     (λ l. entries))
 
 masked-commits : (t : Tables) (s stamp : ℕ) → Each MaskedMessage (commits t s stamp)
+unfolding messageOf
 masked-commits t s stamp =
     each-upto MaskedMessage (λ p. Commit p stamp) (t .sizes .partitions)
-    (λ p. touches t s p (t .sizes .items)) (λ p b e. tt)
+    (λ p. touches t s p (t .sizes .items)) (λ p b e. refl)
 
 masked-joined : (t : Tables) (x : Message) → Each MaskedMessage (joined t x)
-unfolding joined
-masked-joined t (Prepare v) = each-one MaskedMessage (Prepared (v .item) (v .stamp)) tt
+unfolding joined messageOf
+masked-joined t (Prepare v) = each-one MaskedMessage (Prepared (v .item) (v .stamp)) refl
 masked-joined t (Prepared k stamp) =
     let c = t .client (writerOf stamp) in
     by-cond (Each MaskedMessage) (isLast ofWrite c k) _ _
@@ -263,17 +269,17 @@ masked-deliver caps t m i a =
 
 pub masked-step : (caps : Capacities) (t : Tables) (c : Call) → refusal caps t c ≡ 0 → Masked t
     → Masked (effect t c)
-unfolding effect
+unfolding effect messageOf
 masked-step caps t (startRead d s) e m =
     let a = accepted-read caps t d s .0 e in
     masked-start t m d (reader t d s) (gets t d s) (a .client) (masked-reader t m d s)
-    (each-upto MaskedMessage (λ k. Get d k (asks t d k)) (t .sizes .items) (has s) (λ k l h. tt))
+    (each-upto MaskedMessage (λ k. Get d k (asks t d k)) (t .sizes .items) (has s) (λ k l h. refl))
 masked-step caps t (startWrite d s bytes) e m =
     let a = accepted-write caps t d s bytes .0 e in
     masked-start t m d (writer t d s bytes) (prepares t d s bytes) (a .start .client)
     (masked-writer t m d s bytes (a .start .some))
     (each-upto MaskedMessage (λ k. Prepare (version k (valueOf s bytes k) (nextStamp t d) s))
-    (t .sizes .items) (has s) (λ k l h. tt))
+    (t .sizes .items) (has s) (λ k l h. refl))
 masked-step caps t (deliver i) e m = masked-deliver caps t m i (accepted-deliver caps t i .0 e)
 masked-step caps t (show d output) e m = m
 

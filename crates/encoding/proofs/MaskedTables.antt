@@ -2,7 +2,8 @@
 use mathlib.Core.List.{List}
 use mathlib.Core.Bool.{true}
 use mathlib.Core.Path.{_≡_, refl}
-use lib.Dec.{eqb, leb}
+use lib.Dec.{leb}
+use native.Mathlib.Omega.{arith}
 use Prim.Native.Nat.{ℕ, zero, suc}
 use Rattle.basics.proofs.Cases.{by-test, not-both, between}
 use Rattle.protocol.specs.Tables.{Client, Ended, nothing, resting, rested}
@@ -11,7 +12,7 @@ use Rattle.protocol.proofs.Put.{by-cond}
 use Rattle.layout.specs.Layout.{at, scalars, modeAt}
 use Rattle.layout.specs.Decode.{sizesIn, within, endedOf, clientIn, messageIn, tablesOf}
 use Rattle.layout.specs.Decode.{validBlock}
-use Rattle.layout.specs.Masked.{Only, MaskedEnded, MaskedClient, MaskedMessage, Masked}
+use Rattle.layout.proofs.Masked.{Only, MaskedEnded, MaskedClient, MaskedMessage, Masked}
 use Rattle.layout.proofs.Held.{masked-message}
 use Rattle.encoding.proofs.Folds.{each-table}
 use Rattle.encoding.proofs.WellFormed.{client-range, tells-valid-block}
@@ -72,5 +73,7 @@ masked-tables b v =
       absent = λ d e. rw e;
       client = λ d. by-cond MaskedClient (isClient (sizesIn b) d) _ _
           (λ c. masked-client b d (writes d c)) (λ c. masked-rested (resting 0 nothing) nothing tt);
-      messages = each-table MaskedMessage _ (messageIn b) (λ i l. masked-message b i);
+      messages = each-table MaskedMessage _ (messageIn b) (λ i l.
+          masked-message b i (f .wellFormed .someKind i (omega arith))
+          (f .wellFormed .kind i (omega arith)));
     }

@@ -12,14 +12,15 @@ use Rattle.basics.proofs.Cases.{by-test, not-true}
 use Rattle.basics.proofs.Lists.{in-getD}
 use Rattle.protocol.specs.declared.Entry.{Entry}
 use Rattle.protocol.specs.declared.Message.{Message}
-use Rattle.protocol.specs.declared.Message.the-variants.{Prepare, Prepared, Commit, Get, Got}
+use Rattle.protocol.specs.declared.Message.the-variants.{Commit}
 use Rattle.protocol.specs.Tables.{Sizes, Tables, Client, Ended, nothing, read, write}
 use Rattle.protocol.specs.Steps.{version}
-use Rattle.protocol.specs.Message.{isPrepare}
+use Rattle.protocol.specs.Message.{Parts, kindOf, isPrepare}
+use Rattle.protocol.proofs.MessageKinds.{kind-within}
 use Rattle.protocol.specs.Range.{capacities, isIdle, isWriting, arrived, load}
 use Rattle.protocol.specs.Range.{occupied, valid}
 use Rattle.protocol.proofs.Ranges.Values.{SizesInRange, IsClient, EntryInRange, VersionInRange}
-use Rattle.protocol.proofs.Ranges.Values.{MessageInRange}
+use Rattle.protocol.proofs.Ranges.Values.{PartsInRange, MessageInRange}
 use Rattle.protocol.proofs.Ranges.Clients.{EndedInRange, ClientInRange}
 use Rattle.protocol.proofs.Kept.Values.{range-no-read, range-no-write}
 use Rattle.protocol.proofs.Ranges.Tables.{InRange, Valid, valid-facts, facts-valid}
@@ -28,7 +29,7 @@ use Rattle.layout.specs.Layout.{lastValues, at}
 use Rattle.layout.specs.Layout.{messagesAt, modeAt, awaitedAt, lastKindAt, lastSetAt, lastStampAt}
 use Rattle.layout.specs.Layout.{itemAt}
 use Rattle.layout.specs.Layout.{latestAt, viewAt}
-use Rattle.layout.specs.Decode.{sizesIn, kindIn, within, endedOf, messageOf, clientIn}
+use Rattle.layout.specs.Decode.{sizesIn, kindIn, within, endedOf, clientIn}
 use Rattle.layout.specs.Decode.{versionIn, messageIn, tablesOf, validBlock}
 use Rattle.layout.specs.Encodes.{numberOfMode, HoldsEntry, HoldsMessage, HoldsEnded, HoldsClient}
 use Rattle.layout.specs.Encodes.{Encodes}
@@ -39,7 +40,7 @@ use Rattle.encoding.proofs.WellFormed.{tells-valid-block}
 use Rattle.encoding.proofs.Capacity.{load-words, occupied-words}
 use Rattle.encoding.proofs.Encoded.{encodes-tables}
 use Rattle.layout.proofs.Parts.{mode-writing, mode-other, writes-nothing, no-reply-awaited}
-use Rattle.layout.proofs.Held.{version-held}
+use Rattle.layout.proofs.Held.{version-held, kind-held, parts-held}
 use Rattle.encoding.proofs.Decoded.{mode-others, entry-of, few-versions, few-messages}
 
 -- ---- The numbers are those of some mode, ended transaction or kind
@@ -53,14 +54,6 @@ ended-below : (b : List ℕ) (d : ℕ) (x : Ended) → HoldsEnded b d x → at b
 ended-below b d nothing h = omega arith
 ended-below b d (read s stamps vs) h = omega (arith, h .0)
 ended-below b d (write s stamp vs) h = omega (arith, h .0)
-
-kind-within : (b : List ℕ) (i : ℕ) (m : Message) → HoldsMessage b i m → (1 ≤ kindIn b i)
-    × (kindIn b i ≤ 5)
-kind-within b i (Prepare v) h = omega (arith, h .0)
-kind-within b i (Prepared k stamp) h = omega (arith, h .0)
-kind-within b i (Commit p stamp) h = omega (arith, h .0)
-kind-within b i (Get d k stamp) h = omega (arith, h .0)
-kind-within b i (Got d v e) h = omega (arith, h .0)
 
 -- ---- Fields that a block holds are in range where those of the tables are
 
@@ -123,21 +116,7 @@ module _ (b : List ℕ) (z : Sizes) where
 
   message-range : (i : ℕ) (m : Message) → HoldsMessage b i m → MessageInRange z m
       → MessageInRange z (messageIn b i)
-  unfolding messageIn messageOf
-  message-range i (Prepare v) h r = rw (h .0, h .1, h .2, h .3, h .4) r
-  message-range i (Prepared k stamp) h r = rw (h .0, h .1, h .2) r
-  message-range i (Commit p stamp) h r = rw (h .0, h .1, h .2) r
-  message-range i (Get d k stamp) h r = rw (h .0, h .1, h .2, h .3) r
-  message-range i (Got d v e) h r =
-      rw (h .0, h .1, h .2, h .3, h .4, h .5, h .6)
-      (record {
-        client = r .client;
-        item = r .item;
-        value = r .value;
-        stamp = r .stamp;
-        latest =
-            r .latest;
-      })
+  message-range i m h r = subst (PartsInRange z) (sym (parts-held b i m h)) r
 
 -- ---- and the load and the versions in use are the same
 
@@ -151,12 +130,7 @@ arrived-same b z d c h r =
 
 prepare-same : (b : List ℕ) (i : ℕ) (m : Message) → HoldsMessage b i m
     → isPrepare (messageIn b i) ≡ isPrepare m
-unfolding messageIn messageOf
-prepare-same b i (Prepare v) h = rw (h .0)
-prepare-same b i (Prepared k stamp) h = rw (h .0)
-prepare-same b i (Commit p stamp) h = rw (h .0)
-prepare-same b i (Get d k stamp) h = rw (h .0)
-prepare-same b i (Got d v e) h = rw (h .0)
+prepare-same b i m h = ap (λ (p : Parts). eqb (p .kind) 1) (parts-held b i m h)
 
 -- the mode is 0 exactly if no item is awaited
 idle-word : (b : List ℕ) (z : Sizes) (d : ℕ) (c : Client) → HoldsClient b d c → ClientInRange z c
@@ -193,8 +167,8 @@ module _ (b : List ℕ) (t : Tables) (e : Encodes b t) (v : Valid capacities t) 
 
   well-formed : WellFormed b
   well-formed =
-      let kind : (i : ℕ) → i < at b header messagesAt → (1 ≤ kindIn b i) × (kindIn b i ≤ 5) =
-      λ i l. kind-within b i (message i) (holds-message i (omega (arith, e .messageCount))) in
+      let kind : (i : ℕ) → i < at b header messagesAt → kindIn b i ≡ kindOf (message i) =
+      λ i l. kind-held b i (message i) (holds-message i (omega (arith, e .messageCount))) in
       record {
         long = e .long;
         sizes = subst SizesInRange sizes-same (v .inRange .sizes);
@@ -204,8 +178,8 @@ module _ (b : List ℕ) (t : Tables) (e : Encodes b t) (v : Valid capacities t) 
         idle = λ d c. idle-word b (t .sizes) d (t .client d) (holds-client d c)
             (v .inRange .client d (c .0, omega (arith, e .clients)));
         lastKind = λ d c. ended-below b d (t .client d .last) (holds-client d c .last);
-        someKind = λ i l. kind i l .0;
-        kind = λ i l. kind i l .1;
+        someKind = λ i l. rw (kind i l) (kind-within (message i) .0);
+        kind = λ i l. rw (kind i l) (kind-within (message i) .1);
       }
 
   entry-range : (s : Section) (i : ℕ) (x : Entry) → HoldsEntry b s i x → EntryInRange (t .sizes) x

@@ -9,6 +9,7 @@ use lib.ListN.{length}
 use borrow.Author.Tests.{le-leb}
 use Rattle.basics.proofs.Cases.{and-both}
 use Rattle.protocol.specs.Tables.{Sizes, nothing, resting}
+use Rattle.protocol.specs.Message.{kinds}
 use Rattle.protocol.specs.Range.{capacities, isClient}
 use Rattle.protocol.proofs.Tells.{tells, tells-and}
 use Rattle.protocol.proofs.Ranges.Values.{SizesInRange, IsClient, tells-sizes}
@@ -34,7 +35,7 @@ pub record WellFormed (b : List ℕ) : Type 0 where
       → eqb (at b scalars (modeAt d)) 0 ≡ eqb (at b scalars (awaitedAt d)) 0
   pub lastKind : (d : ℕ) → IsClient (sizesIn b) d → at b scalars (lastKindAt d) < 3
   pub someKind : (i : ℕ) → i < at b header messagesAt → 1 ≤ kindIn b i
-  pub kind : (i : ℕ) → i < at b header messagesAt → kindIn b i ≤ 5
+  pub kind : (i : ℕ) → i < at b header messagesAt → kindIn b i ≤ kinds
 
 pub tells-well-formed : (b : List ℕ) → (wellFormed b ≡ true) ↔ WellFormed b
 unfolding wellFormed
@@ -53,7 +54,7 @@ tells-well-formed b = (
       let lastKind : (d : ℕ) → IsClient (sizesIn b) d → at b scalars (lastKindAt d) < 3 =
       λ d c. client d c .1 in
       let someKind : (i : ℕ) → i < at b header messagesAt → 1 ≤ kindIn b i = λ i l. f .1 i l .0 in
-      let kind : (i : ℕ) → i < at b header messagesAt → kindIn b i ≤ 5 = λ i l. f .1 i l .1 in
+      let kind : (i : ℕ) → i < at b header messagesAt → kindIn b i ≤ kinds = λ i l. f .1 i l .1 in
       search,
   λ r. simp (tells, tells-sizes) (search (r .mode, r .idle, r .lastKind, r .someKind, r .kind, is-client)),
 )

@@ -7,7 +7,6 @@ use lib.Dec.{lit<}
 use Rattle.protocol.specs.declared.Version.{Version}
 use Rattle.protocol.specs.declared.Entry.{Entry}
 use Rattle.protocol.specs.declared.Message.{Message}
-use Rattle.protocol.specs.declared.Message.the-variants.{Prepare, Prepared, Commit, Get, Got}
 use Rattle.layout.specs.Layout.{mostVersions, mostMessages, messageWords, Section, versions}
 use Rattle.layout.specs.Layout.{messages, size, at, versionAt, messageAt}
 use Rattle.layout.specs.Encodes.{HoldsEntry, HoldsVersion, HoldsMessage}
@@ -45,30 +44,7 @@ moved-version w h =
 pub moved-message : (b b′ : List ℕ) (i j : ℕ) (m : Message)
     → ((f : ℕ) → f < messageWords → at b′ messages (messageAt j f) ≡ at b messages (messageAt i f))
     → HoldsMessage b i m → HoldsMessage b′ j m
-moved-message b b′ i j (Prepare v) w h = (
-  w 0 (lit< tt) ∙ h .0,
-  w 2 (lit< tt) ∙ h .1,
-  w 3 (lit< tt) ∙ h .2,
-  w 4 (lit< tt)
-      ∙ h .3,
-  w 5 (lit< tt) ∙ h .4,
-)
-moved-message b b′ i j (Prepared k stamp) w h =
-    (w 0 (lit< tt) ∙ h .0, w 2 (lit< tt) ∙ h .1, w 4 (lit< tt) ∙ h .2)
-moved-message b b′ i j (Commit p stamp) w h =
-    (w 0 (lit< tt) ∙ h .0, w 1 (lit< tt) ∙ h .1, w 4 (lit< tt) ∙ h .2)
-moved-message b b′ i j (Get d k stamp) w h =
-    (w 0 (lit< tt) ∙ h .0, w 1 (lit< tt) ∙ h .1, w 2 (lit< tt) ∙ h .2, w 4 (lit< tt) ∙ h .3)
-moved-message b b′ i j (Got d v e) w h = (
-  w 0 (lit< tt) ∙ h .0,
-  w 1 (lit< tt) ∙ h .1,
-  w 2 (lit< tt) ∙ h .2,
-  w 3 (lit< tt)
-      ∙ h .3,
-  w 4 (lit< tt) ∙ h .4,
-  w 6 (lit< tt) ∙ h .5,
-  w 7 (lit< tt) ∙ h .6,
-)
+moved-message b b′ i j m w h f l u = w f l ∙ h f l u
 
 pub kept-version : {b b′ : List ℕ} {i : ℕ} {v : Version} → Kept versions b b′ → i < mostVersions
     → HoldsVersion b i v → HoldsVersion b′ i v

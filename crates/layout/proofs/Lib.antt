@@ -14,6 +14,7 @@ pub mod EncodesEntry
 pub mod EncodesLists
 pub mod Same
 pub mod Changed
+pub mod Masked
 pub mod Held
 pub mod Blank
 pub mod Fresh

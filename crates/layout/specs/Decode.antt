@@ -14,6 +14,7 @@ use Rattle.protocol.specs.declared.Message.the-variants.{Prepare, Prepared, Com
 use Rattle.protocol.specs.Tables.{Sizes, Tables, Client, ReadPart, WritePart, noRead, noWrite}
 use Rattle.protocol.specs.Tables.{Ended, nothing, read, write, initial, resting}
 use Rattle.protocol.specs.Steps.{version}
+use Rattle.protocol.specs.Message.{kinds}
 use Rattle.protocol.specs.Range.{capacities, valid, sizesInRange, isClient, isItem, everyClient}
 use Rattle.layout.specs.Layout.{mostVersions, mostMessages, header, scalars, latest, views}
 use Rattle.layout.specs.Layout.{asked, values, lastStamps, lastValues, versions, messages}
@@ -100,12 +101,13 @@ versionIn b i =
 abbrev pub kindIn : List ℕ → ℕ → ℕ
 kindIn b i = at b messages (messageAt i 0)
 
+-- the message whose words these are
+abbrev pub messageFrom : (ℕ → ℕ) → Message
+messageFrom w =
+    messageOf (w 0) (w 1) (w 2) (w 3) (w 4) (w 5) (record { stamp = w 6; set = w 7 })
+
 unfoldable pub messageIn : List ℕ → ℕ → Message
-messageIn b i =
-    messageOf (kindIn b i) (at b messages (messageAt i 1)) (at b messages (messageAt i 2))
-    (at b messages (messageAt i 3))
-    (at b messages (messageAt i 4)) (at b messages (messageAt i 5))
-    (record { stamp = at b messages (messageAt i 6); set = at b messages (messageAt i 7) })
+messageIn b i = messageFrom (λ f. at b messages (messageAt i f))
 
 -- ---- the whole
 
@@ -133,7 +135,7 @@ wellFormed b =
     leb needed (length b) && sizesInRange (sizesIn b) && leb (at b header versionsAt) mostVersions
     && leb (at b header messagesAt) mostMessages
     && everyClient (sizesIn b) (λ d. modeFits b d && ltb (at b scalars (lastKindAt d)) 3)
-    && every (at b header messagesAt) (λ i. leb 1 (kindIn b i) && leb (kindIn b i) 5)
+    && every (at b header messagesAt) (λ i. leb 1 (kindIn b i) && leb (kindIn b i) kinds)
 
 -- not refused by 1: the words are those of tables that are in range and within the capacities
 unfoldable pub validBlock : List ℕ → Bool

@@ -2,21 +2,22 @@
 use mathlib.Core.Bool.{Bool, true, false, cond}
 use mathlib.Core.List.{List, [], _∷_}
 use mathlib.Core.Path.{_≡_}
-use Prim.Native.Nat.{ℕ, _+_, _≤_, _<_}
+use Prim.Native.Nat.{ℕ, zero, suc, _+_, _^_, _≤_, _<_}
 use lib.ListN.{length, getD}
 use Rattle.itemset.specs.Set.{has}
 use Rattle.protocol.specs.declared.Version.{Version}
 use Rattle.protocol.specs.declared.Entry.{Entry}
 use Rattle.protocol.specs.declared.Message.{Message}
-use Rattle.protocol.specs.declared.Message.the-variants.{Prepare, Prepared, Commit, Get, Got}
 use Rattle.protocol.specs.Tables.{Tables, Client, ReadPart, WritePart, Ended, nothing, read, write}
+use Rattle.protocol.specs.Message.{kindOf}
 use Rattle.protocol.specs.Range.{isIdle, isWriting}
 use Rattle.layout.specs.Layout.{Section, header, scalars, latest, views, asked, values}
 use Rattle.layout.specs.Layout.{lastStamps, lastValues, versions, messages, needed, at}
 use Rattle.layout.specs.Layout.{clientsAt, partitionsAt, itemsAt, versionsAt, messagesAt}
 use Rattle.layout.specs.Layout.{modeAt, countAt, setAt, awaitedAt, stampAt, lastKindAt}
 use Rattle.layout.specs.Layout.{lastSetAt, lastStampAt, latestAt, viewAt, itemAt, versionAt}
-use Rattle.layout.specs.Layout.{messageAt}
+use Rattle.layout.specs.Layout.{messageWords, messageAt}
+use Rattle.layout.specs.Store.{wordOf}
 
 -- ---- the numbers
 
@@ -40,22 +41,23 @@ pub record HoldsVersion (b : List ℕ) (i : ℕ) (v : Version) : Type 0 where
   pub stamp : at b versions (versionAt i 2) ≡ v .stamp
   pub set : at b versions (versionAt i 3) ≡ v .set
 
--- the words of message i that its kind uses
 abbrev pub word : List ℕ → ℕ → ℕ → ℕ
 word b i f = at b messages (messageAt i f)
 
+-- the words of a message that its kind uses, as a set, one row a kind: 0 is its kind, 1 the client
+-- or partition, 2 the item, 3 the value, 4 the stamp, 5 the set, 6 and 7 the latest's stamp and set
+unfoldable pub used : ℕ → ℕ
+used zero = 0
+used (suc zero) = 2 ^ 0 + 2 ^ 2 + 2 ^ 3 + 2 ^ 4 + 2 ^ 5
+used (suc (suc zero)) = 2 ^ 0 + 2 ^ 2 + 2 ^ 4
+used (suc (suc (suc zero))) = 2 ^ 0 + 2 ^ 1 + 2 ^ 4
+used (suc (suc (suc (suc zero)))) = 2 ^ 0 + 2 ^ 1 + 2 ^ 2 + 2 ^ 4
+used (suc (suc (suc (suc (suc n))))) = 2 ^ 0 + 2 ^ 1 + 2 ^ 2 + 2 ^ 3 + 2 ^ 4 + 2 ^ 6 + 2 ^ 7
+
+-- message i has the words of m that m's kind uses
 abbrev pub HoldsMessage : List ℕ → ℕ → Message → Type 0
-HoldsMessage b i (Prepare v) =
-    (word b i 0 ≡ 1) × (word b i 2 ≡ v .item) × (word b i 3 ≡ v .value) × (word b i 4 ≡ v .stamp)
-    × (word b i 5 ≡ v .set)
-HoldsMessage b i (Prepared k stamp) = (word b i 0 ≡ 2) × (word b i 2 ≡ k) × (word b i 4 ≡ stamp)
-HoldsMessage b i (Commit p stamp) = (word b i 0 ≡ 3) × (word b i 1 ≡ p) × (word b i 4 ≡ stamp)
-HoldsMessage b i (Get d k stamp) =
-    (word b i 0 ≡ 4) × (word b i 1 ≡ d) × (word b i 2 ≡ k) × (word b i 4 ≡ stamp)
-HoldsMessage b i (Got d v e) =
-    (word b i 0 ≡ 5) × (word b i 1 ≡ d) × (word b i 2 ≡ v .item) × (word b i 3 ≡ v .value)
-    × (word b i 4 ≡ v .stamp)
-    × (word b i 6 ≡ e .stamp) × (word b i 7 ≡ e .set)
+HoldsMessage b i m = (f : ℕ) → f < messageWords → has (used (kindOf m)) f ≡ true
+    → word b i f ≡ wordOf m f
 
 -- the last ended transaction of client d: its set's items, and no others
 abbrev pub HoldsEnded : List ℕ → ℕ → Ended → Type 0

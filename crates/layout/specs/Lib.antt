@@ -3,4 +3,3 @@ pub mod Layout
 pub mod Decode
 pub mod Encodes
 pub mod Store
-pub mod Masked

@@ -3,7 +3,7 @@
 use mathlib.Core.Bool.{cond}
 use mathlib.Core.List.{List, [], _∷_, _++_}
 use Prim.Native.Nat.{ℕ, zero, suc, _+_, _-_, _*_}
-use lib.ListN.{take, drop, replicate}
+use lib.ListN.{getD, take, drop, replicate}
 use lib.Seq.{sets}
 use Rattle.protocol.specs.declared.Version.{Version}
 use Rattle.protocol.specs.declared.Entry.{Entry}
@@ -50,6 +50,9 @@ wordsOfMessage m =
     let p = partsOf m in
     p .kind ∷ p .place ∷ p .item ∷ p .value ∷ p .stamp ∷ p .set
     ∷ p .latest .stamp ∷ p .latest .set ∷ []
+
+abbrev pub wordOf : Message → ℕ → ℕ
+wordOf m f = getD (wordsOfMessage m) f 0
 
 unfoldable pub storeVersion : List ℕ → ℕ → Version → List ℕ
 storeVersion b i v = sets b (base versions + versionAt i 0) (wordsOfVersion v)

@@ -1,22 +1,237 @@
--- What a delivery leaves as it is, whatever the message.
-use mathlib.Core.Path.{_≡_, refl}
+-- What a delivery does, sorted: what it changes beside the messages in flight, which messages join,
+-- and its outcome. Said once for each kind; what holds of every delivery goes by the sorts.
+use mathlib.Core.Bool.{Bool, true, false, cond, _&&_, _||_}
+use mathlib.Core.List.{List, [], _∷_, _++_}
+use mathlib.Core.Logic.{_⊎_, _≢_, inl, inr, ⊎-elim}
+use mathlib.Core.Path.{_≡_, refl, sym, ap, _∙_, subst}
+use Prim.Native.Nat.{ℕ, _+_, _≤_}
+use native.Mathlib.Nat.{le-refl, le-trans}
+use native.Mathlib.Omega.{arith}
+use lib.Dec.{eqb}
+use lib.ListN.{length, length-append}
+use borrow.Author.Tests.{eqb-true, eqb-false}
+use Rattle.basics.proofs.Cases.{by-test, not-both}
+use Rattle.basics.specs.Lists.{In}
+use Rattle.basics.proofs.Lists.{in-append}
+use Rattle.itemset.specs.Set.{has}
+use Rattle.protocol.specs.declared.Version.{Version}
+use Rattle.protocol.specs.declared.Entry.{Entry}
 use Rattle.protocol.specs.declared.Message.{Message}
 use Rattle.protocol.specs.declared.Message.the-variants.{Prepare, Prepared, Commit, Get, Got}
-use Rattle.protocol.specs.Tables.{Tables}
-use Rattle.protocol.specs.Steps.{delivered}
+use Rattle.protocol.specs.Tables.{Tables, Client, laterOf, put, ofRead, ofWrite, writerOf}
+use Rattle.protocol.specs.Tables.{withClient, withView, withLatest, withVersions}
+use Rattle.protocol.specs.Message.{partsOf, kindOf, isPrepare, isPrepared, isGet, isGot}
+use Rattle.protocol.specs.Message.{ownerOf}
+use Rattle.protocol.specs.Steps.{isLast, prepared, got, seen, committed, commits, Delivery}
+use Rattle.protocol.specs.Steps.{deliveryOf, delivered, joined, touches}
+use Rattle.protocol.specs.Calls.{outcomeOf}
+use Rattle.protocol.proofs.Behaviour.{later-one}
+use Rattle.protocol.proofs.Put.{by-cond, put-other, put-every}
+use Rattle.protocol.proofs.Each.{Each, each-none, each-one, each-upto}
+use Rattle.protocol.proofs.Commits.{no-commits}
 
-pub delivered-sizes : (t : Tables) (m : Message) → delivered t m .sizes ≡ t .sizes
-unfolding delivered
-delivered-sizes t (Prepare v) = refl
-delivered-sizes t (Prepared k stamp) = refl
-delivered-sizes t (Commit p stamp) = refl
-delivered-sizes t (Get d k stamp) = refl
-delivered-sizes t (Got d v latest) = refl
+-- a prepared reply or a got
+abbrev pub isAnswer : Message → Bool
+isAnswer m = isPrepared m || isGot m
 
-pub delivered-messages : (t : Tables) (m : Message) → delivered t m .messages ≡ t .messages
+-- ---- the sorts
+
+-- what changes beside the messages: the sizes stay, counts rise, views grow, only the client of an
+-- answer changes, and only a prepare's version is stored
+pub record Work (t : Tables) (m : Message) (u : Tables) : Type 0 where
+  pub sizes : u .sizes ≡ t .sizes
+  pub messages : u .messages ≡ t .messages
+  pub rises : (d : ℕ) → t .client d .count ≤ u .client d .count
+  pub view : (d k : ℕ) → t .view d k .stamp ≤ u .view d k .stamp
+  pub client : (d : ℕ) → (isAnswer m && eqb (ownerOf m) d) ≡ false → u .client d ≡ t .client d
+  pub versions : length (u .versions) ≡ length (t .versions) + cond (isPrepare m) 1 0
+  pub stores : (v : Version) → In v (u .versions) → In v (t .versions) ⊎ (m ≡ Prepare v)
+
+-- j replies to m: a prepared reply to a prepare, a got to a get
+pub record Reply (m j : Message) : Type 0 where
+  pub answer : isAnswer j ≡ true
+  pub owner : ownerOf j ≡ ownerOf m
+  pub stamp : partsOf j .stamp ≡ partsOf m .stamp
+  pub got : isGot j ≡ isGet m
+
+-- which messages join
+pub data Joins (t : Tables) (m : Message) : List Message → Type 0 where
+  none : Joins t m []
+  reply : (j : Message) → Reply m j → Joins t m (j ∷ [])
+  -- where its client's transaction ends, the commits of the write part
+  ends : (last : Bool) (stamp : ℕ)
+      → (writerOf stamp ≡ ownerOf m) ⊎ (stamp ≡ t .client (ownerOf m) .write .stamp)
+      → Joins t m (cond last (commits t (t .client (ownerOf m) .write .set) stamp) [])
+
+-- only an answer ends a transaction
+pub record DeliverySort (t : Tables) (m : Message) (x : Delivery) : Type 0 where
+  pub work : Work t m (x .tables)
+  pub joins : Joins t m (x .joins)
+  pub outcome : (x .outcome ≡ 0) ⊎ ((isAnswer m ≡ true) × (x .outcome ≤ 2))
+
+-- ---- the work of a request or commit, and of an answer
+
+-- an answer is no prepare
+pub answer-kind : (m : Message) → isAnswer m ≡ true → isPrepare m ≡ false
+answer-kind m e = by-test (isPrepare m)
+    (λ p. not-both e (rw (eqb-true (kindOf m) 1 p) refl)) (λ p. p)
+
+pub put-rises : (client : ℕ → Client) (d : ℕ) (c′ : Client) → client d .count ≤ c′ .count → (e : ℕ)
+    → client e .count ≤ put client d c′ e .count
+put-rises client d c′ h = put-every
+    (λ (e : ℕ) (x : Client). client e .count ≤ x .count) client d c′ h
+    (λ e n. le-refl (client e .count))
+
+module _ (t : Tables) (m : Message) where
+  -- no client changes
+  stored-work : (vs : List Version) (f : ℕ → Entry)
+      → length vs ≡ length (t .versions) + cond (isPrepare m) 1 0
+      → ((v : Version) → In v vs → In v (t .versions) ⊎ (m ≡ Prepare v))
+      → Work t m (withLatest (withVersions t vs) f)
+  stored-work vs f n s =
+      record {
+        sizes = refl;
+        messages = refl;
+        rises = λ d. le-refl (t .client d .count);
+        view = λ d k. le-refl (t .view d k .stamp);
+        client = λ d e. refl;
+        versions = n;
+        stores = s;
+      }
+
+  -- one client changes, and its view
+  answer-work : (c : Client) (view : ℕ → Entry) → isAnswer m ≡ true
+      → t .client (ownerOf m) .count ≤ c .count
+      → ((k : ℕ) → t .view (ownerOf m) k .stamp ≤ view k .stamp)
+      → Work t m (withView (withClient t (ownerOf m) c) (ownerOf m) view)
+  answer-work c view a n g =
+      record {
+        sizes = refl;
+        messages = refl;
+        rises = put-rises (t .client) (ownerOf m) c n;
+        view = put-every (λ (e : ℕ) (f : ℕ → Entry). (k : ℕ) → t .view e k .stamp ≤ f k .stamp)
+            (t .view) (ownerOf m) view g (λ e n k. le-refl (t .view e k .stamp));
+        client = λ d e. put-other (t .client) (ownerOf m) c d
+            (λ q. eqb-false (ownerOf m) d (rw a at e) (sym q));
+        versions = rw (answer-kind m a) (omega arith);
+        stores = λ v i. inl i;
+      }
+
+-- ---- the sort of each delivery
+
+-- the view, the client and the outcome at the end of a transaction
+
+end-ge : (last : Bool) (view : ℕ → Entry) (s stamp k : ℕ)
+    → view k .stamp ≤ cond last (seen view s stamp) view k .stamp
+end-ge true view s stamp k =
+    by-test (has s k) (λ e. rw e (later-one (view k) (record { stamp = stamp; set = s })))
+    (λ e. rw e (le-refl (view k .stamp)))
+end-ge false view s stamp k = le-refl (view k .stamp)
+
+end-count : (last : Bool) (n : ℕ) (c c′ : Client) → c .count ≡ n → c′ .count ≡ n
+    → n ≤ cond last c c′ .count
+end-count true n c c′ e e′ = omega arith
+end-count false n c c′ e e′ = omega arith
+
+end-outcome : (last : Bool) (n : ℕ) → n ≤ 2 → cond last n 0 ≤ 2
+end-outcome true n l = l
+end-outcome false n l = omega arith
+
+pub delivery-sort : (t : Tables) (m : Message) → DeliverySort t m (deliveryOf t m)
+delivery-sort t (Prepare v) =
+    record {
+      work = stored-work t (Prepare v) (t .versions ++ v ∷ []) (t .latest)
+          (length-append (t .versions) (v ∷ []))
+          (λ u i. ⊎-elim (λ p. inl p)
+          (⊎-elim (λ e. inr (ap Prepare (sym e))) (λ z. absurd z))
+          (in-append u (t .versions) (v ∷ []) i));
+      joins = reply _ (record { answer = refl; owner = refl; stamp = refl; got = refl });
+      outcome = inl refl;
+    }
+delivery-sort t (Prepared k stamp) =
+    let d = writerOf stamp in
+    let c = t .client d in
+    let last = isLast ofWrite c k in
+    record {
+      work = answer-work t (Prepared k stamp) (prepared c k) _ refl
+          (end-count last (c .count) _ _ refl refl)
+          (end-ge last (t .view d) (c .write .set) stamp);
+      joins = ends last stamp (inl refl);
+      outcome = inr (refl, end-outcome last 2 (omega arith));
+    }
+delivery-sort t (Commit p stamp) =
+    record {
+      work = stored-work t (Commit p stamp) (t .versions) (committed t p stamp) (omega arith)
+          (λ v i. inl i);
+      joins = none;
+      outcome = inl refl;
+    }
+delivery-sort t (Get d k stamp) =
+    record {
+      work = stored-work t (Get d k stamp) (t .versions) (t .latest) (omega arith) (λ v i. inl i);
+      joins = reply _ (record { answer = refl; owner = refl; stamp = refl; got = refl });
+      outcome = inl refl;
+    }
+delivery-sort t (Got d v e) =
+    let c = t .client d in
+    let k = v .item in
+    let last = isLast ofRead c k in
+    let offered : ℕ → Entry = put (t .view d) k (laterOf (t .view d k) e) in
+    let grown : (j : ℕ) → t .view d j .stamp ≤ offered j .stamp =
+    put-every (λ (j : ℕ) (x : Entry). t .view d j .stamp ≤ x .stamp) (t .view d) k
+    (laterOf (t .view d k) e) (later-one (t .view d k) e) (λ j n. le-refl (t .view d j .stamp)) in
+    record {
+      work = answer-work t (Got d v e) (got c k (v .value)) _ refl
+          (end-count last (c .count) _ _ refl refl)
+          (λ j. le-trans (grown j) (end-ge last offered (c .write .set) (c .write .stamp) j));
+      joins = ends last (c .write .stamp) (inr refl);
+      outcome = inr (
+        refl,
+        end-outcome last (cond (eqb (c .write .set) 0) 1 2)
+            (by-cond (λ (n : ℕ). n ≤ 2) (eqb (c .write .set) 0) 1 2 (λ e. omega arith)
+            (λ e. omega arith)),
+      );
+    }
+
+-- ---- what holds of every delivery
+
+pub delivered-work : (t : Tables) (m : Message) → Work t m (delivered t m)
 unfolding delivered
-delivered-messages t (Prepare v) = refl
-delivered-messages t (Prepared k stamp) = refl
-delivered-messages t (Commit p stamp) = refl
-delivered-messages t (Get d k stamp) = refl
-delivered-messages t (Got d v latest) = refl
+delivered-work t m = delivery-sort t m .work
+
+pub outcome-none : (t : Tables) (m : Message) → isAnswer m ≡ false → outcomeOf t m ≡ 0
+unfolding outcomeOf
+outcome-none t m f = ⊎-elim (λ e. e) (λ e. not-both (e .0) f) (delivery-sort t m .outcome)
+
+pub outcome-most : (t : Tables) (m : Message) → outcomeOf t m ≤ 2
+unfolding outcomeOf
+outcome-most t m = ⊎-elim (λ e. omega arith) (λ e. e .1) (delivery-sort t m .outcome)
+
+-- what holds of each reply and of each commit of the client's write part holds of what joins
+pub joined-each : (P : Message → Type 0) (t : Tables) (m : Message)
+    → ((j : Message) → Reply m j → P j)
+    → ((p stamp : ℕ) → t .client (ownerOf m) .write .set ≢ 0
+    → (writerOf stamp ≡ ownerOf m) ⊎ (stamp ≡ t .client (ownerOf m) .write .stamp)
+    → P (Commit p stamp))
+    → Each P (joined t m)
+unfolding joined
+joined-each P t m r c = go (delivery-sort t m .joins)
+  where
+    go : {js : List Message} → Joins t m js → Each P js
+    go none = each-none P
+    go (reply j x) = each-one P j (r j x)
+    go (ends last stamp o) =
+        let s = t .client (ownerOf m) .write .set in
+        by-cond (Each P) last _ _
+        (λ l. by-test (eqb s 0)
+        (λ e. subst (Each P) (sym (ap (λ (x : ℕ). commits t x stamp) (eqb-true s 0 e)
+        ∙ no-commits t stamp)) (each-none P))
+        (λ e. each-upto P (λ p. Commit p stamp) (t .sizes .partitions)
+        (λ p. touches t s p (t .sizes .items)) (λ p l u. c p stamp (eqb-false s 0 e) o)))
+        (λ l. each-none P)
+
+-- none of them is a prepare
+pub joined-prepare : (t : Tables) (m j : Message) → In j (joined t m) → isPrepare j ≡ false
+joined-prepare t m =
+    joined-each (λ j. isPrepare j ≡ false) t m (λ j r. answer-kind j (r .answer))
+    (λ p stamp s o. refl)

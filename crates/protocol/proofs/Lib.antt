@@ -11,6 +11,7 @@ pub mod Shown
 pub mod Ranges
 pub mod Refusals
 pub mod Delivered
+pub mod MessageKinds
 pub mod Touched
 pub mod Load
 pub mod Occupied

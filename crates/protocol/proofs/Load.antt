@@ -26,8 +26,8 @@ use Rattle.protocol.specs.Calls.{startRead, startWrite, deliver, effect}
 use Rattle.protocol.proofs.Ranges.Values.{IsClient, MessageInRange}
 use Rattle.protocol.proofs.Ranges.Tables.{InRange}
 use Rattle.protocol.proofs.Refusals.{AcceptedStart, AcceptedDeliver, Expected}
-use Rattle.protocol.proofs.Refusals.{accepted-message}
-use Rattle.protocol.proofs.Delivered.{delivered-messages}
+use Rattle.protocol.proofs.Refusals.{accepted-message, tells-prepared}
+use Rattle.protocol.proofs.Delivered.{delivered-work}
 use Rattle.protocol.proofs.Put.{total-put}
 use Rattle.protocol.proofs.Touched.{length-commits}
 
@@ -156,22 +156,22 @@ load-delivered t (Prepare v) r h x = omega arith
 load-delivered t (Prepared k stamp) r h x =
     let d = writerOf stamp in
     let c = t .client d in
-    let one : IsClient (t .sizes) d = h .stamp .writer in
+    let one : IsClient (t .sizes) d = h .written (omega arith) .writer in
     omega (
       arith,
       load-client t d (prepared c k) one,
-      arrived-prepared t c k stamp
-          (r .client d one .write .set) (x .awaited),
+      arrived-prepared t c k stamp (r .client d one .write .set)
+          (tells-prepared t k stamp .0 x .awaited),
     )
 load-delivered t (Commit p stamp) r h x = omega arith
 load-delivered t (Get d k stamp) r h x = omega arith
 load-delivered t (Got d v latest) r h x =
     let c = t .client d in
+    let one : IsClient (t .sizes) d = h .client (omega arith) in
     omega (
       arith,
-      load-client t d (got c (v .item) (v .value)) (h .client),
-      arrived-got t c
-          (v .item) (v .value) (c .write .stamp) (r .client d (h .client) .write .set),
+      load-client t d (got c (v .item) (v .value)) one,
+      arrived-got t c (v .item) (v .value) (c .write .stamp) (r .client d one .write .set),
     )
 
 pub load-deliver : (caps : Capacities) (t : Tables) (i : ℕ) → AcceptedDeliver caps t i
@@ -182,7 +182,7 @@ load-deliver caps t i a =
     omega (
       arith,
       load-messages (delivered t m) (without i (t .messages) ++ joined t m),
-      ap length (delivered-messages t m),
+      ap length (delivered-work t m .messages),
       length-append (without i (t .messages)) (joined t m),
       length-without i (t .messages) (a .place),
       load-delivered t m (a .valid .inRange) (accepted-message caps t i a) (a .expected),

@@ -5,21 +5,21 @@ use mathlib.Core.List.{List, [], _∷_, map}
 use mathlib.Core.Path.{_≡_, refl}
 use Prim.Native.Nat.{ℕ, _+_}
 use native.Mathlib.Omega.{arith}
-use lib.ListN.{length, length-append}
-use Rattle.basics.proofs.Cases.{by-test}
+use lib.ListN.{length}
 use Rattle.basics.specs.Lists.{counted, without}
-use Rattle.basics.proofs.Lists.{counted-append, counted-without}
-use Rattle.itemset.specs.Set.{count, members, upto}
+use Rattle.basics.proofs.Lists.{counted-append, counted-without, none-counted}
+use Rattle.itemset.specs.Set.{count, members}
 use Rattle.itemset.proofs.Members.{length-members}
 use Rattle.protocol.specs.declared.Message.{Message}
-use Rattle.protocol.specs.declared.Message.the-variants.{Prepare, Prepared, Commit, Get, Got}
-use Rattle.protocol.specs.Tables.{Tables, ofRead, ofWrite, writerOf}
+use Rattle.protocol.specs.declared.Message.the-variants.{Prepare, Commit, Get}
+use Rattle.protocol.specs.Tables.{Tables}
 use Rattle.protocol.specs.Message.{isPrepare}
 use Rattle.protocol.specs.Range.{Capacities, occupied}
-use Rattle.protocol.specs.Steps.{asks, gets, valueOf, nextStamp, version, prepares, isLast}
-use Rattle.protocol.specs.Steps.{commits, touches, delivered, joined, messageAt}
+use Rattle.protocol.specs.Steps.{asks, gets, valueOf, nextStamp, version, prepares, joined}
+use Rattle.protocol.specs.Steps.{messageAt}
 use Rattle.protocol.specs.Calls.{startRead, startWrite, deliver, effect}
 use Rattle.protocol.proofs.Refusals.{AcceptedStart, AcceptedDeliver}
+use Rattle.protocol.proofs.Delivered.{delivered-work, joined-prepare}
 
 -- ---- Prepares among the messages of one kind
 
@@ -58,29 +58,6 @@ module _ (caps : Capacities) (t : Tables) (d s : ℕ) (a : AcceptedStart caps t 
 
 -- ---- Deliveries
 
-commits-none : (t : Tables) (s stamp : ℕ) → counted isPrepare (commits t s stamp) ≡ 0
-commits-none t s stamp =
-    counted-each (λ p. Commit p stamp) false
-    (upto (t .sizes .partitions) (λ p. touches t s p (t .sizes .items))) (λ p. refl)
-
-occupied-delivered : (t : Tables) (m : Message)
-    → length (delivered t m .versions) + counted isPrepare (joined t m) ≡ length
-    (t .versions) + cond (isPrepare m) 1 0
-unfolding delivered joined counted
-occupied-delivered t (Prepare v) = omega (arith, length-append (t .versions) (v ∷ []))
-occupied-delivered t (Prepared k stamp) =
-    let c = t .client (writerOf stamp) in
-    by-test (isLast ofWrite c k)
-    (λ l. rw l (omega (arith, commits-none t (c .write .set) stamp)))
-    (λ l. rw l (omega arith))
-occupied-delivered t (Commit p stamp) = omega arith
-occupied-delivered t (Get d k stamp) = omega arith
-occupied-delivered t (Got d v latest) =
-    let c = t .client d in
-    by-test (isLast ofRead c (v .item))
-    (λ l. rw l (omega (arith, commits-none t (c .write .set) (c .write .stamp))))
-    (λ l. rw l (omega arith))
-
 pub occupied-deliver : (caps : Capacities) (t : Tables) (i : ℕ) → AcceptedDeliver caps t i
     → occupied (effect t (deliver i)) ≡ occupied t
 unfolding effect occupied
@@ -89,5 +66,6 @@ occupied-deliver caps t i a =
       arith,
       counted-append isPrepare (without i (t .messages)) (joined t (messageAt t i)),
       counted-without isPrepare i (t .messages) (Commit 0 0) (a .place),
-      occupied-delivered t (messageAt t i),
+      delivered-work t (messageAt t i) .versions,
+      none-counted isPrepare (joined t (messageAt t i)) (joined-prepare t (messageAt t i)),
     )

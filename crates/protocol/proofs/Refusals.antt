@@ -12,12 +12,13 @@ use Rattle.basics.proofs.Lists.{in-getD}
 use Rattle.itemset.specs.Set.{has, count}
 use Rattle.itemset.proofs.Laws.{has-empty}
 use Rattle.protocol.specs.declared.Version.{Version}
+use Rattle.protocol.specs.declared.Entry.{Entry}
 use Rattle.protocol.specs.declared.Message.{Message}
-use Rattle.protocol.specs.declared.Message.the-variants.{Prepare, Prepared, Commit, Get, Got}
+use Rattle.protocol.specs.declared.Message.the-variants.{Prepared, Commit, Got}
 use Rattle.protocol.specs.Tables.{Sizes, Tables, Client, writerOf, Ended, rested, Side}
 use Rattle.protocol.specs.Tables.{ofRead, ofWrite, awaitedOf}
 use Rattle.protocol.specs.Range.{Capacities, load, occupied}
-use Rattle.protocol.specs.Steps.{messageAt, stored}
+use Rattle.protocol.specs.Steps.{messageAt}
 use Rattle.protocol.specs.Calls.{startRead, startWrite, deliver, show, Test, test, first}
 use Rattle.protocol.specs.Calls.{unexpected, missing, isNothing, refusal, freshRefusal}
 use Rattle.protocol.specs.Calls.{shownFrame}
@@ -110,23 +111,26 @@ pub record AwaitedGot (t : Tables) (d : ℕ) (v : Version) : Type 0 where
   pub stamp : t .client d .read .asked (v .item) ≡ v .stamp
 
 -- neither unexpected nor missing
-abbrev pub Expected : Tables → Message → Type 0
-Expected t (Prepare v) = stored (t .versions) (v .item) (v .stamp) ≡ false
-Expected t (Prepared k stamp) = AwaitedPrepared t k stamp
-Expected t (Commit p stamp) = Unit
-Expected t (Get d k stamp) = stamp ≢ 0 → stored (t .versions) k stamp ≡ true
-Expected t (Got d v latest) = AwaitedGot t d v
+pub record Expected (t : Tables) (m : Message) : Type 0 where
+  pub expected : unexpected t m ≡ false
+  pub found : missing t m ≡ false
 
-pub tells-expected : (t : Tables) (m : Message) → ((unexpected t m ≡ false) × (missing t m ≡ false))
-    ↔ Expected t m
+-- what that tells of a reply
+pub tells-prepared : (t : Tables) (k stamp : ℕ) → Expected t (Prepared k stamp)
+    ↔ AwaitedPrepared t k stamp
 unfolding unexpected missing
-tells-expected t (Prepare v) = (λ p. p .0, λ r. (r, refl))
-tells-expected t (Prepared k stamp) =
-    (λ p. let f = simp tests at (p .0) in search, λ r. (simp tests search, refl))
-tells-expected t (Commit p stamp) = (λ p. tt, λ r. (refl, refl))
-tells-expected t (Get d k stamp) = (λ p. simp tests at (p .1), λ r. (refl, simp tests r))
-tells-expected t (Got d v latest) =
-    (λ p. let f = simp tests at (p .0) in search, λ r. (simp tests search, refl))
+tells-prepared t k stamp = (
+  λ x. let f = simp tests at (x .expected) in search,
+  λ r. record { expected = simp tests search; found = refl },
+)
+
+pub tells-got : (t : Tables) (d : ℕ) (v : Version) (e : Entry) → Expected t (Got d v e)
+    ↔ AwaitedGot t d v
+unfolding unexpected missing
+tells-got t d v e = (
+  λ x. let f = simp tests at (x .expected) in search,
+  λ r. record { expected = simp tests search; found = refl },
+)
 
 pub record AcceptedDeliver (caps : Capacities) (t : Tables) (i : ℕ) : Type 0 where
   pub valid : Valid caps t
@@ -137,13 +141,9 @@ pub accepted-deliver : (caps : Capacities) (t : Tables) (i : ℕ) → (refusal c
     ↔ AcceptedDeliver caps t i
 unfolding refusal
 accepted-deliver caps t i = (
-  λ e.
-      let f = simp tests at e in
-      let expected = tells-expected t (messageAt t i) .0 (f .1 .1 .0, f .1 .1 .1 .0) in
+  λ e. let f = simp tests at e in
       search,
-  λ a.
-      let p = tells-expected t (messageAt t i) .1 (a .expected) in
-      simp tests (search first-empty),
+  λ a. simp tests (search first-empty),
 )
 
 -- the message delivered is in range

@@ -38,6 +38,10 @@ partsOf (Commit p stamp) = parts 3 p 0 0 stamp 0 initial
 partsOf (Get d k stamp) = parts 4 d k 0 stamp 0 initial
 partsOf (Got d v e) = parts 5 d (v .item) (v .value) (v .stamp) 0 e
 
+-- the kinds are 1 to 5
+abbrev pub kinds : ℕ
+kinds = 5
+
 abbrev pub kindOf : Message → ℕ
 kindOf m = partsOf m .kind
 

@@ -13,7 +13,7 @@ use Rattle.protocol.specs.Tables.{Sizes, initial, resting, nothing}
 use Rattle.protocol.specs.Range.{sizesInRange, entryInRange, versionInRange, messageInRange}
 use Rattle.protocol.specs.Range.{clientInRange, inRange, valid}
 use Rattle.protocol.specs.Range.{isClient, isItem, everyClient, arrived, total, load}
-use Rattle.protocol.specs.Message.{isPrepare}
+use Rattle.protocol.specs.Message.{kinds, isPrepare}
 use Rattle.protocol.specs.Range.{occupied}
 use Rattle.protocol.proofs.Tells.{tells-and, tells-le}
 use Rattle.protocol.proofs.Ranges.Values.{tells-sizes}
@@ -92,11 +92,11 @@ module _ (b : List ℕ) where
 
   messages-same : ms ≤ mostMessages
       → every ms (λ i. messageTest b i (z .clients) (z .partitions) (z .items))
-      ≡ (every ms (λ i. leb 1 (kindIn b i) && leb (kindIn b i) 5)
+      ≡ (every ms (λ i. leb 1 (kindIn b i) && leb (kindIn b i) kinds)
       && all (messageInRange z) (table (min ms mostMessages) (messageIn b)))
   messages-same l =
       let few : min ms mostMessages ≡ ms = omega arith in
-      sym (every-both ms (λ i. leb 1 (kindIn b i) && leb (kindIn b i) 5)
+      sym (every-both ms (λ i. leb 1 (kindIn b i) && leb (kindIn b i) kinds)
       (λ i. messageInRange z (messageIn b i)))
       ∙ rw (few, all-table (messageInRange z) ms (messageIn b))
 
@@ -120,7 +120,7 @@ module _ (b : List ℕ) where
       (everyClient z (λ d. modeFits b d && ltb (at b scalars (lastKindAt d)) 3))
       (everyClient z (λ d. clientInRange z (t .client d)))
       (all (versionInRange z) (t .versions))
-      (every ms (λ i. leb 1 (kindIn b i) && leb (kindIn b i) 5))
+      (every ms (λ i. leb 1 (kindIn b i) && leb (kindIn b i) kinds))
       (all (messageInRange z) (t .messages))
       (leb (load t) mostMessages)
       (leb (occupied t) mostVersions)

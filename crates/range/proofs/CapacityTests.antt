@@ -3,19 +3,20 @@
 use mathlib.Core.Bool.{cond}
 use mathlib.Core.List.{List}
 use mathlib.Core.Logic.{_≢_}
-use mathlib.Core.Path.{_≡_, refl, sym}
-use Prim.Native.Nat.{ℕ, zero, suc, _-_, _≤_, _<_}
+use mathlib.Core.Path.{_≡_, refl, sym, ap, _∙_}
+use Prim.Native.Nat.{ℕ, _-_, _≤_, _<_}
 use native.Mathlib.Omega.{arith}
-use lib.Dec.{eqb}
-use borrow.Author.Tests.{le-leb, lt-leb, ne-eqb}
+use lib.Dec.{eqb, leb}
+use borrow.Author.Tests.{le-leb, lt-leb, leb-true, leb-false, eqb-true, eqb-false, ne-eqb}
+use Rattle.basics.proofs.Cases.{by-test}
 use Rattle.itemset.specs.Set.{count}
 use Rattle.itemset.proofs.Counts.{count-empty}
-use Rattle.protocol.specs.declared.Entry.{Entry}
-use Rattle.protocol.specs.Message.{isPrepare}
+use Rattle.protocol.specs.Message.{kinds, isPrepare}
 use Rattle.protocol.specs.Range.{arrived}
 use Rattle.layout.specs.Layout.{at, scalars, modeAt, setAt}
 use Rattle.layout.specs.Layout.{awaitedAt}
 use Rattle.layout.specs.Decode.{clientIn, kindIn, messageOf, messageIn}
+use Rattle.layout.proofs.Held.{kind-read, last-kind}
 
 module _ (b : List ℕ) (d : ℕ) where
   arrived-none : at b scalars (modeAt d) < 2 → arrived (clientIn b d) ≡ 0
@@ -31,20 +32,16 @@ module _ (b : List ℕ) (d : ℕ) where
   unfolding arrived clientIn
   arrived-write s a p q h = rw (le-leb 2 (at b scalars (modeAt d)) h, p, q) refl
 
-prepare-number : (n who k v stamp s : ℕ) (e : Entry)
-    → isPrepare (messageOf n who k v stamp s e) ≡ eqb n 1
-unfolding messageOf
-prepare-number zero who k v stamp s e = refl
-prepare-number (suc zero) who k v stamp s e = refl
-prepare-number (suc (suc zero)) who k v stamp s e = refl
-prepare-number (suc (suc (suc zero))) who k v stamp s e = refl
-prepare-number (suc (suc (suc (suc zero)))) who k v stamp s e = refl
-prepare-number (suc (suc (suc (suc (suc n))))) who k v stamp s e =
-    sym (ne-eqb (suc (suc (suc (suc (suc n))))) 1 (omega arith))
-
 pub prepare-kind : (b : List ℕ) (i : ℕ) → isPrepare (messageIn b i) ≡ eqb (kindIn b i) 1
-unfolding messageIn
-prepare-kind b i = prepare-number (kindIn b i) _ _ _ _ _ _
+unfolding messageIn messageOf
+prepare-kind b i =
+    let n = kindIn b i in
+    by-test (eqb n 0) (λ z. rw (eqb-true n 0 z) refl)
+    (λ z. by-test (leb n kinds)
+    (λ l. ap (λ (kind : ℕ). eqb kind 1)
+    (kind-read b i (omega (arith, eqb-false n 0 z)) (leb-true n kinds l)))
+    (λ l. let past : kinds < n = leb-false n kinds l in
+    ap isPrepare (last-kind n _ _ _ _ _ _ (omega arith)) ∙ sym (ne-eqb n 1 (omega arith))))
 
 pub prepare-one : (b : List ℕ) (i : ℕ) → kindIn b i ≡ 1
     → _≡_ {A = ℕ} 1 (cond (isPrepare (messageIn b i)) 1 0)

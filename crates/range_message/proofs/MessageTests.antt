@@ -4,16 +4,17 @@ use mathlib.Core.Bool.{Bool, true, false, not, _&&_, _||_}
 use mathlib.Core.List.{List}
 use mathlib.Core.Logic.{_≢_}
 use mathlib.Core.Path.{_≡_, refl, _∙_}
-use Prim.Native.Nat.{ℕ, zero, suc, _^_, _≤_}
+use Prim.Native.Nat.{ℕ, _^_, _≤_, _<_}
 use native.Mathlib.Omega.{arith}
 use lib.Dec.{eqb, ltb, leb}
 use lib.Pow.{pow-pos}
-use borrow.Author.Tests.{le-leb, lt-leb, lt-ltb, ne-eqb}
-use Rattle.basics.proofs.Cases.{test-ext}
+use borrow.Author.Tests.{le-leb, lt-leb, lt-ltb, eqb-true, eqb-false}
+use Rattle.basics.proofs.Cases.{by-test, test-ext}
 use Rattle.itemset.specs.Set.{has}
 use Rattle.protocol.proofs.Tells.{tells-and}
 use Rattle.protocol.specs.declared.Entry.{Entry}
 use Rattle.protocol.specs.declared.Message.{Message}
+use Rattle.protocol.specs.Message.{kinds}
 use Rattle.protocol.specs.Range.{stampInRange, entryInRange, versionInRange, messageInRange}
 use Rattle.layout.specs.Decode.{messageOf, messageIn}
 use Rattle.layout.specs.Encodes.{word}
@@ -35,7 +36,8 @@ passed false = refl
 
 module _ (clients partitions items : ℕ) (some : 1 ≤ partitions) (one : 1 ≤ items) where
   abbrev numberTest : ℕ → Message → Bool
-  numberTest kind m = leb 1 kind && leb kind 5 && messageInRange (sizes clients partitions items) m
+  numberTest kind m =
+      leb 1 kind && leb kind kinds && messageInRange (sizes clients partitions items) m
 
   partition-0 : ltb 0 partitions ≡ true
   partition-0 = lt-ltb 0 partitions some
@@ -86,19 +88,13 @@ module _ (clients partitions items : ℕ) (some : 1 ≤ partitions) (one : 1 ≤
       && entry))
       ≡ numberTest kind (messageOf kind who k v stamp s e)
   unfolding messageOf messageInRange entryInRange stampInRange
-  got-tests zero who k v stamp s e p q n₁ n₂ n₃ n₄ = refl
-  got-tests (suc zero) who k v stamp s e p q n₁ n₂ n₃ n₄ = absurd (n₁ refl)
-  got-tests (suc (suc zero)) who k v stamp s e p q n₁ n₂ n₃ n₄ = absurd (n₂ refl)
-  got-tests (suc (suc (suc zero))) who k v stamp s e p q n₁ n₂ n₃ n₄ = absurd (n₃ refl)
-  got-tests (suc (suc (suc (suc zero)))) who k v stamp s e p q n₁ n₂ n₃ n₄ = absurd (n₄ refl)
-  got-tests (suc (suc (suc (suc (suc zero))))) who k v stamp s e p q n₁ n₂ n₃ n₄ =
-      rw (p, q, empty-below) (simp passed)
-  got-tests (suc (suc (suc (suc (suc (suc kind)))))) who k v stamp s e p q n₁ n₂ n₃ n₄ =
-      rw (
-        ne-eqb (suc (suc (suc (suc (suc (suc kind)))))) 5 (omega arith),
-        le-leb 1 (suc (suc (suc (suc (suc (suc kind)))))) (omega arith),
-        lt-leb (suc (suc (suc (suc (suc (suc kind)))))) 5 (omega arith),
-      )
+  got-tests kind who k v stamp s e p q n₁ n₂ n₃ n₄ =
+      by-test (eqb kind 0) (λ z. rw (eqb-true kind 0 z) refl)
+      (λ z. by-test (eqb kind kinds)
+      (λ f. rw (eqb-true kind kinds f, p, q, empty-below) (simp passed))
+      (λ f.
+      let past : kinds < kind = omega (arith, eqb-false kind 0 z, eqb-false kind kinds f) in
+      rw (f, le-leb 1 kind (omega arith), lt-leb kind kinds past) refl))
 
   -- read off the block
   pub message-words : (b : List ℕ) (i : ℕ) {r : Bool} {kind who k v stamp s : ℕ} {e : Entry}

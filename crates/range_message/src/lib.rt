@@ -5,6 +5,7 @@ ghost use Prim.Native.Nat.{_≤_, _<_};
 ghost use lib.ListN.{length};
 ghost use lib.Dec.{leb};
 ghost use Rattle.basics.specs.Lists.{every};
+ghost use Rattle.protocol.specs.Message.{kinds};
 ghost use Rattle.protocol.specs.Range.{versionInRange, messageInRange};
 ghost use Rattle.layout.specs.Layout.{mostClients, mostItems, mostVersions, mostMessages, versionWords, messageWords, needed};
 ghost use Rattle.layout.specs.Layout.{at, versions, messages, versionAt, messageAt};
@@ -84,7 +85,7 @@ fn words_in_range(
     items: u64,
 ) -> bool
     requires { ⌜ (clients ≤ mostClients) × (1 ≤ partitions) × (1 ≤ items) ⌝ }
-    ensures { λ r. ⌜ r ≡ (leb 1 kind && leb kind 5 && messageInRange (sizes clients partitions items) (messageOf kind who item value stamp set latest)) ⌝ }
+    ensures { λ r. ⌜ r ≡ (leb 1 kind && leb kind kinds && messageInRange (sizes clients partitions items) (messageOf kind who item value stamp set latest)) ⌝ }
 {
     if kind < 4 {
         if kind == 1 {

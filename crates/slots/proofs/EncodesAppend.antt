@@ -3,11 +3,9 @@ use mathlib.Core.List.{List, [], _∷_, _++_}
 use mathlib.Core.Path.{_≡_, refl, _∙_, subst}
 use Prim.Native.Nat.{ℕ, _+_, _<_, _≤_}
 use native.Mathlib.Omega.{arith}
-use lib.Dec.{lit<}
 use lib.ListN.{length, getD, length-append}
 use Rattle.protocol.specs.declared.Version.{Version}
 use Rattle.protocol.specs.declared.Message.{Message}
-use Rattle.protocol.specs.declared.Message.the-variants.{Prepare, Prepared, Commit, Get, Got}
 use Rattle.protocol.specs.Tables.{Tables, withVersions, withMessages}
 use Rattle.layout.specs.Layout.{mostVersions, mostMessages, messageWords, versions, messages, base}
 use Rattle.layout.specs.Layout.{needed, at, versionsAt, messagesAt, versionAt, messageAt}
@@ -69,11 +67,7 @@ encodes-append-version {b} {t} n v e r k h =
 -- ---- messages
 
 pub length-words : (m : Message) → length (wordsOfMessage m) ≡ messageWords
-length-words (Prepare v) = refl
-length-words (Prepared k stamp) = refl
-length-words (Commit p stamp) = refl
-length-words (Get d k stamp) = refl
-length-words (Got d v e) = refl
+length-words m = refl
 
 module _ (b : List ℕ) (n : ℕ) (long : needed ≤ length b) (room : n < mostMessages) where
   appended-word : (m : Message) (f : ℕ) → f < messageWords
@@ -85,25 +79,7 @@ module _ (b : List ℕ) (n : ℕ) (long : needed ≤ length b) (room : n < mostM
       (omega arith) (omega (arith, length-words m)) (omega (arith, length-words m)) (omega arith)
 
   appended-message : (m : Message) → HoldsMessage (appendMessage b n m) n m
-  appended-message (Prepare v) = let w = appended-word (Prepare v) in
-      (w 0 (lit< tt), w 2 (lit< tt), w 3 (lit< tt), w 4 (lit< tt), w 5 (lit< tt))
-  appended-message (Prepared k stamp) = let w = appended-word (Prepared k stamp) in
-      (w 0 (lit< tt), w 2 (lit< tt), w 4 (lit< tt))
-  appended-message (Commit p stamp) = let w = appended-word (Commit p stamp) in
-      (w 0 (lit< tt), w 1 (lit< tt), w 4 (lit< tt))
-  appended-message (Get d k stamp) = let w = appended-word (Get d k stamp) in
-      (w 0 (lit< tt), w 1 (lit< tt), w 2 (lit< tt), w 4 (lit< tt))
-  appended-message (Got d v e) =
-      let w = appended-word (Got d v e) in (
-        w 0 (lit< tt),
-        w 1 (lit< tt),
-        w 2 (lit< tt),
-        w 3 (lit< tt),
-        w 4 (lit< tt),
-        w 6 (lit< tt),
-        w 7
-            (lit< tt),
-      )
+  appended-message m f l u = appended-word m f l
 
 pub encodes-append-message : {b : List ℕ} {t : Tables} (n : ℕ) (m : Message) → Encodes b t
     → HasRoom t → n ≡ length (t .messages) → n < mostMessages

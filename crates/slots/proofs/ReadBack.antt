@@ -9,7 +9,7 @@ use Rattle.protocol.specs.declared.Version.{Version}
 use Rattle.protocol.specs.declared.Message.{Message}
 use Rattle.protocol.specs.Tables.{Tables}
 use Rattle.layout.specs.Decode.{versionIn, messageIn}
-use Rattle.layout.specs.Masked.{MaskedMessage}
+use Rattle.layout.proofs.Masked.{MaskedMessage}
 use Rattle.layout.specs.Encodes.{Encodes}
 use Rattle.layout.proofs.Held.{version-held, message-held}
 use Rattle.slots.proofs.Each.{table-each}

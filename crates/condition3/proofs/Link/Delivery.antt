@@ -6,26 +6,25 @@ use mathlib.Core.Logic.{_⊎_, inl, inr, ⊎-elim, _≢_}
 use mathlib.Core.Path.{_≡_, refl, sym, ap, _∙_, subst}
 use Prim.Native.Nat.{ℕ, suc, _+_, _<_}
 use native.Mathlib.Omega.{arith}
-use Rattle.basics.proofs.Cases.{by-test}
+use Rattle.basics.proofs.Cases.{not-both}
 use Rattle.basics.specs.Lists.{In, without}
-use Rattle.basics.proofs.Lists.{in-left, in-right, in-append, in-map, map-without, in-without}
-use Rattle.itemset.specs.Set.{upto}
+use Rattle.basics.proofs.Lists.{in-left, in-right, in-map, map-without, in-without}
 use Rattle.protocol.specs.declared.Version.{Version}
 use Rattle.protocol.specs.declared.Message.{Message}
-use Rattle.protocol.specs.declared.Message.the-variants.{Prepare, Prepared, Commit, Get, Got}
-use Rattle.protocol.specs.Tables.{writerOf, ofRead, ofWrite}
-use Rattle.protocol.specs.Message.{isPrepare, itemOf, ownerOf}
+use Rattle.protocol.specs.Tables.{writerOf}
+use Rattle.protocol.specs.Message.{partsOf, isPrepare, itemOf, ownerOf}
 use Rattle.protocol.specs.Range.{Capacities}
-use Rattle.protocol.specs.Steps.{delivered, joined, messageAt, stored, isLast, touches}
+use Rattle.protocol.specs.Steps.{delivered, joined, messageAt}
 use Rattle.protocol.specs.Calls.{deliver, effect}
-use Rattle.condition3.specs.World.{World, Label, Labelled, Store, placed, labelled, withoutAll}
-use Rattle.condition3.specs.World.{joining, staying, begun, storing}
+use Rattle.condition3.specs.World.{World, Label, Labelled, Store, placed, labelled}
+use Rattle.condition3.specs.World.{withoutAll, joining, staying, begun, storing}
 use Rattle.protocol.proofs.Ranges.Values.{IsClient}
-use Rattle.protocol.proofs.Keeps.{delivered-rises}
-use Rattle.condition3.proofs.Sound.{Ledger, Fits}
+use Rattle.protocol.proofs.Delivered.{delivered-work, joined-each, answer-kind}
+use Rattle.condition3.proofs.Sound.{Ledger}
 use Rattle.condition3.proofs.Sound.Carry.{owner-client}
 use Rattle.condition3.proofs.Sound.StartWrite.{entered}
-use Rattle.condition3.proofs.Link.{Landed, Comes, Inv}
+use Rattle.condition3.proofs.Sound.Counts.{stamps}
+use Rattle.condition3.proofs.Link.{FromStart, Landed, Comes, Inv}
 use Rattle.condition3.proofs.Link.Messages.{placed-message, in-message, WriteOf, write-of}
 use Rattle.condition3.proofs.Link.Owes.{Owes, same-unique, same-entered, joining-messages}
 use Rattle.condition3.proofs.Common.{known, joined-owner}
@@ -44,73 +43,52 @@ module _ (caps : Capacities) (w : World) (inv : Inv caps w) where
       → In v (w .tables .versions)
       ⊎ Landed (w .writes ++ []) (w .stores ++ landed l m) (suc (w .time)) (v .stamp)
       (v .item)
-  unfolding delivered Comes
-  stored-after l (Prepare u) x v i =
+  stored-after l m x v i =
       ⊎-elim (λ p. inl p)
-      (⊎-elim
       (λ e.
-      let σ : Store = record { start = l .start; item = u .item; time = w .time } in
-      inr (subst (λ (y : Version). Landed (w .writes ++ []) (w .stores ++ σ ∷ []) (suc (w .time))
-      (y .stamp) (y .item)) (sym e)
+      let σ : Store = record { start = l .start; item = v .item; time = w .time } in
+      let y : FromStart (w .writes) l (v .stamp) =
+      subst (λ (u : Message). FromStart (w .writes) l (partsOf u .stamp)) e
+      (x .prepare (ap isPrepare e)) in
+      inr (subst (λ (u : Message). Landed (w .writes ++ []) (w .stores ++ landed l u)
+      (suc (w .time)) (v .stamp) (v .item)) (sym e)
       (record {
-        write = x .write;
-        isIn = in-left (x .write) (w .writes) [] (x .isIn);
-        same = x .same;
+        write = y .write;
+        isIn = in-left (y .write) (w .writes) [] (y .isIn);
+        same = y .same;
         before = (
           σ,
           in-right σ (w .stores) (σ ∷ []) (inl refl),
-          sym
-              (x .started),
+          sym (y .started),
           refl,
           omega arith,
         );
       })))
-      (λ z. absurd z))
-      (in-append v (w .tables .versions) (u ∷ []) i)
-  stored-after l (Prepared k s) x v i = inl i
-  stored-after l (Commit p s) x v i = inl i
-  stored-after l (Get d k s) x v i = inl i
-  stored-after l (Got d u e) x v i = inl i
+      (delivered-work (w .tables) m .stores v i)
 
-  joins-come : (l : Label) (m : Message)
-      → Fits L (w .tables .versions) (w .tables .client (ownerOf m)) m → (σs : List Store)
+  -- a got joins where a get is delivered, and its write has landed
+  joins-come : (l : Label) (m : Message) → In m (w .tables .messages) → (σs : List Store)
       → (j : Message) → In j (joined (w .tables) m)
       → Comes (w .writes ++ []) (w .stores ++ σs)
       (record { client = l .client; start = l .start; since = w .time }) j
-  unfolding joined Comes Fits
-  joins-come l (Prepare v) here σs j (inl e) =
-      subst (λ (x : Message). Comes (w .writes ++ []) (w .stores ++ σs)
-      (record { client = l .client; start = l .start; since = w .time }) x) (sym e) tt
-  joins-come l (Prepared k s) here σs j i =
-      by-test (isLast ofWrite (w .tables .client (writerOf s)) k)
-      (λ e. let q = in-map (λ p. Commit p s) j
-      (upto (w .tables .sizes .partitions)
-      (λ p. touches (w .tables) (w .tables .client (writerOf s) .write .set) p
-      (w .tables .sizes .items))) (rw e at i) in
-      subst (λ (x : Message). Comes (w .writes ++ []) (w .stores ++ σs)
-      (record { client = l .client; start = l .start; since = w .time }) x) (sym (q .2)) tt)
-      (λ e. absurd (rw e at i))
-  joins-come l (Commit p s) here σs j i = absurd i
-  joins-come l (Get d k s) here σs j (inl e) =
-      let x : WriteOf caps w inv k s = write-of caps w inv k s (here .good) in
-      subst (λ (x : Message). Comes (w .writes ++ []) (w .stores ++ σs)
-      (record { client = l .client; start = l .start; since = w .time }) x) (sym e)
-      (record {
-        write = x .write;
-        isKnown = in-left (x .write) (known (w .writes)) [] (x .isKnown);
-        same = x .same;
-        landed = λ j f. let σ = x .landed j f in
-            (σ .0, in-left (σ .0) (w .stores) σs (σ .1), σ .2, σ .3, σ .4);
+  joins-come l m here σs =
+      joined-each (Comes (w .writes ++ []) (w .stores ++ σs)
+      (record { client = l .client; start = l .start; since = w .time })) (w .tables) m
+      (λ j r. record {
+        prepare = λ e. not-both e (answer-kind j (r .answer));
+        got = λ e.
+            let s = partsOf m .stamp in
+            let x : WriteOf caps w inv (itemOf m) s = write-of caps w inv (itemOf m) s
+            (stamps caps L (w .tables) (inv .sound) m here .asked (sym (r .got) ∙ e)) in
+            record {
+              write = x .write;
+              isKnown = in-left (x .write) (known (w .writes)) [] (x .isKnown);
+              same = x .same ∙ sym (r .stamp);
+              landed = λ k f. let σ = x .landed k f in
+                  (σ .0, in-left (σ .0) (w .stores) σs (σ .1), σ .2, σ .3, σ .4);
+            };
       })
-  joins-come l (Got d v e) here σs j i =
-      let c = w .tables .client d in
-      by-test (isLast ofRead c (v .item))
-      (λ f. let q = in-map (λ p. Commit p (c .write .stamp)) j
-      (upto (w .tables .sizes .partitions)
-      (λ p. touches (w .tables) (c .write .set) p (w .tables .sizes .items))) (rw f at i) in
-      subst (λ (x : Message). Comes (w .writes ++ []) (w .stores ++ σs)
-      (record { client = l .client; start = l .start; since = w .time }) x) (sym (q .2)) tt)
-      (λ f. absurd (rw f at i))
+      (λ p s some o. record { prepare = λ e. not-both e refl; got = λ e. not-both e refl })
 
   -- a write part under way is stamped by its client
   own-stamp : (m : Message) → In m (w .tables .messages) → (d : ℕ) → ownerOf m ≡ d
@@ -145,7 +123,7 @@ module _ (caps : Capacities) (w : World) (inv : Inv caps w) where
             ∙ sym (ap (λ (z : Labelled). ownerOf (z .message)) (y .2));
         unique = same-unique caps w inv;
         entered = same-entered caps w inv (effect (w .tables) (deliver i) .client)
-            (delivered-rises (w .tables) m);
+            (delivered-work (w .tables) m .rises);
         stored = λ v p. stored-after l m
             (subst (λ (x : Message). Comes (w .writes) (w .stores) l x) same
             (inv .comes (placed w i) here)) v p;
@@ -153,5 +131,5 @@ module _ (caps : Capacities) (w : World) (inv : Inv caps w) where
             let y = in-map (labelled (l .client) (l .start) (w .time)) x (joined (w .tables) m) p in
             subst (λ (z : Labelled). Comes (w .writes ++ []) (w .stores ++ landed l m) (z .label)
             (z .message)) (sym (y .2))
-            (joins-come l m (inv .sound .fits m in-flight) (landed l m) (y .0) (y .1));
+            (joins-come l m in-flight (landed l m) (y .0) (y .1));
       }

@@ -5,7 +5,6 @@ use native.Mathlib.Nat.{le-suc, lt-of-lt-of-le}
 use Rattle.basics.specs.Lists.{In}
 use Rattle.basics.proofs.Lists.{in-left}
 use Rattle.protocol.specs.declared.Message.{Message}
-use Rattle.protocol.specs.declared.Message.the-variants.{Prepare, Prepared, Commit, Get, Got}
 use Rattle.protocol.specs.Calls.{Call}
 use Rattle.condition3.specs.World.{World, Label, Write, Store, begun, storing, moved, passed}
 use Rattle.protocol.proofs.Sorts.{writes}
@@ -46,23 +45,20 @@ grow-stored w w′ g s k x =
 
 pub grow-comes : (w w′ : World) → Grows w w′ → (l : Label) (m : Message)
     → Comes (w .writes) (w .stores) l m → Comes (w′ .writes) (w′ .stores) l m
-unfolding Comes
-grow-comes w w′ g l (Prepare v) x =
+grow-comes w w′ g l m x =
     record {
-      write = x .write;
-      isIn = g .writes (x .write) (x .isIn);
-      same = x .same;
-      started = x .started;
-    }
-grow-comes w w′ g l (Prepared k s) x = tt
-grow-comes w w′ g l (Commit p s) x = tt
-grow-comes w w′ g l (Get d k s) x = tt
-grow-comes w w′ g l (Got d v e) x =
-    record {
-      write = x .write;
-      isKnown = grow-known w w′ g (x .write) (x .isKnown);
-      same = x .same;
-      landed = λ j e. grow-landed w w′ g (x .write) j (l .since) (x .landed j e);
+      prepare = λ e. let y = x .prepare e in record {
+        write = y .write;
+        isIn = g .writes (y .write) (y .isIn);
+        same = y .same;
+        started = y .started;
+      };
+      got = λ e. let y = x .got e in record {
+        write = y .write;
+        isKnown = grow-known w w′ g (y .write) (y .isKnown);
+        same = y .same;
+        landed = λ j h. grow-landed w w′ g (y .write) j (l .since) (y .landed j h);
+      };
     }
 
 pub moved-grows : (w : World) (c : Call) → Grows w (moved w c)

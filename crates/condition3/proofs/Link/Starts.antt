@@ -8,7 +8,7 @@ use Prim.Native.Nat.{ℕ, _+_, _<_}
 use native.Mathlib.Nat.{le-refl, le-trans, le-suc}
 use native.Mathlib.Omega.{arith}
 use lib.Dec.{eqb}
-use Rattle.basics.proofs.Cases.{or-right}
+use Rattle.basics.proofs.Cases.{not-both, or-right}
 use Rattle.basics.specs.Lists.{In}
 use Rattle.basics.proofs.Lists.{in-right, in-append, in-map}
 use Rattle.itemset.specs.Set.{has}
@@ -26,7 +26,7 @@ use Rattle.protocol.proofs.Each.{each-upto}
 use Rattle.protocol.proofs.Put.{put-same}
 use Rattle.protocol.proofs.Ranges.Values.{IsClient}
 use Rattle.protocol.proofs.Sorts.{Apart}
-use Rattle.protocol.proofs.Keeps.{put-rises}
+use Rattle.protocol.proofs.Delivered.{put-rises}
 use Rattle.condition3.proofs.Sound.{Ledger}
 use Rattle.condition3.proofs.Sound.StartWrite.{entered, stamp-new, carries}
 use Rattle.condition3.proofs.Link.{Entered, Comes, Inv}
@@ -41,7 +41,7 @@ module _ (caps : Capacities) (w : World) (inv : Inv caps w) where
   L = inv .ledger
 
   pub read-owes : (d s : ℕ) → Owes caps w inv (startRead d s)
-  unfolding effect joining staying withoutAll begun storing Comes
+  unfolding effect joining staying withoutAll begun storing
   read-owes d s =
       record {
         inFlight = joining-messages d (w .time) (w .time) (w .inFlight) (gets (w .tables) d s)
@@ -61,7 +61,8 @@ module _ (caps : Capacities) (w : World) (inv : Inv caps w) where
             (x .message)) (sym (y .2))
             (each-upto (λ m. Comes (w .writes ++ []) (w .stores ++ [])
             (record { client = d; start = w .time; since = w .time }) m)
-            (λ k. Get d k (asks (w .tables) d k)) (w .tables .sizes .items) (has s) (λ k l e. tt)
+            (λ k. Get d k (asks (w .tables) d k)) (w .tables .sizes .items) (has s)
+            (λ k l e. record { prepare = λ p. not-both p refl; got = λ p. not-both p refl })
             (y .0) (y .1));
       }
 
@@ -151,7 +152,7 @@ module _ (caps : Capacities) (w : World) (inv : Inv caps w) where
     prepare k = Prepare (version k (valueOf s bytes k) stamp s)
 
     pub write-owes : Owes caps w inv (startWrite d s bytes)
-    unfolding effect joining staying withoutAll begun storing Comes
+    unfolding effect joining staying withoutAll begun storing
     write-owes =
         record {
           inFlight = joining-messages d (w .time) (w .time) (w .inFlight)
@@ -173,10 +174,13 @@ module _ (caps : Capacities) (w : World) (inv : Inv caps w) where
               (record { client = d; start = w .time; since = w .time }) m) prepare
               (w .tables .sizes .items) (has s)
               (λ k l e. record {
-                write = new;
-                isIn = in-right new (w .writes) (new ∷ []) (inl refl);
-                same = refl;
-                started = refl;
+                prepare = λ p. record {
+                  write = new;
+                  isIn = in-right new (w .writes) (new ∷ []) (inl refl);
+                  same = refl;
+                  started = refl;
+                };
+                got = λ p. not-both p refl;
               })
               (y .0) (y .1));
         }

@@ -144,9 +144,8 @@ module _ (caps : Capacities) (v : World) (inv : Inv caps v) (d s : ℕ) (asked :
       (v .tables .client (ownerOf m)) m) is-got (fits caps v inv (placed v i) here)
 
   from : FromAnswer (v .writes) (v .stores) (placed v i .label) (u .stamp)
-  unfolding Comes
   from = subst (λ (m : Message). Comes (v .writes) (v .stores) (placed v i .label) m) is-got
-      (inv .comes (placed v i) here)
+      (inv .comes (placed v i) here) .got refl
 
   is-client : IsClient (v .tables .sizes) d
   is-client = subst (λ (m : Message). IsClient (v .tables .sizes) (ownerOf m)) is-got

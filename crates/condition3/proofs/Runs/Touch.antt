@@ -2,7 +2,7 @@
 -- and gots; any other leaves it as it was, sends it no request and brings it no reply.
 use mathlib.Core.Bool.{Bool, true, false, and-false, _&&_, _||_}
 use mathlib.Core.List.{List, [], map}
-use mathlib.Core.Logic.{inl, ⊎-elim}
+use mathlib.Core.Logic.{⊎-elim}
 use mathlib.Core.Path.{_≡_, refl, sym, ap, _∙_, subst}
 use Prim.Native.Nat.{ℕ, zero, suc}
 use lib.Dec.{eqb}
@@ -11,16 +11,15 @@ use Rattle.basics.proofs.Cases.{by-test, not-both, and-left, and-right, and-bot
 use Rattle.basics.proofs.Cases.{or-cases, eqb-same}
 use Rattle.basics.specs.Lists.{In, counted}
 use Rattle.basics.proofs.Lists.{none-counted, in-map}
-use Rattle.itemset.specs.Set.{upto}
 use Rattle.protocol.specs.declared.Version.{Version}
 use Rattle.protocol.specs.declared.Entry.{Entry}
 use Rattle.protocol.specs.declared.Message.{Message}
-use Rattle.protocol.specs.declared.Message.the-variants.{Prepare, Prepared, Commit, Get, Got}
+use Rattle.protocol.specs.declared.Message.the-variants.{Prepared, Got}
 use Rattle.protocol.specs.declared.Answer.the-variants.{Refused}
-use Rattle.protocol.specs.Tables.{Tables, Client, ofRead, ofWrite, writerOf}
+use Rattle.protocol.specs.Tables.{Tables, Client, writerOf}
 use Rattle.protocol.specs.Message.{kindOf, isPrepared, isGet, isGot, ownerOf}
 use Rattle.protocol.specs.Range.{Capacities}
-use Rattle.protocol.specs.Steps.{delivered, joined, isLast, touches, gets, prepares, reader}
+use Rattle.protocol.specs.Steps.{joined, gets, prepares, reader}
 use Rattle.protocol.specs.Steps.{writer, messageAt}
 use Rattle.protocol.specs.Calls.{Call, startRead, startWrite, deliver, refusal, effect, step}
 use Rattle.protocol.specs.Calls.{reply, outcomeOf, pick}
@@ -31,7 +30,9 @@ use Rattle.protocol.proofs.Refusals.{Idle}
 use Rattle.protocol.proofs.Sorts.{Apart, Sort, reads, writes, delivers as delivered-at}
 use Rattle.protocol.proofs.Sorts.{apart, sort}
 use Rattle.protocol.proofs.Put.{put-other}
-use Rattle.condition3.proofs.Sound.{Ledger, Fits, SoundBy}
+use Rattle.protocol.proofs.Delivered.{isAnswer, delivered-work, outcome-none, joined-each}
+use Rattle.protocol.proofs.MessageKinds.{answer-is}
+use Rattle.condition3.proofs.Sound.{Ledger, Fits, FitsPrepared, FitsGot, SoundBy}
 use Rattle.condition3.proofs.Sound.Delivery.{no-message}
 use Rattle.condition3.proofs.Common.{hasItem}
 use Rattle.condition3.proofs.Link.{Inv}
@@ -41,39 +42,15 @@ use Rattle.condition3.proofs.Link.Apart.{apart-leaving}
 
 -- a prepared reply or a got of client d
 abbrev pub answersTo : ℕ → Message → Bool
-answersTo d m = (isPrepared m || isGot m) && eqb (ownerOf m) d
-
-pub delivered-client : (t : Tables) (m : Message) (d : ℕ) → answersTo d m ≡ false
-    → delivered t m .client d ≡ t .client d
-unfolding delivered
-delivered-client t (Prepare v) d e = refl
-delivered-client t (Prepared k s) d e =
-    put-other (t .client) (writerOf s) _ d (λ q. eqb-false (writerOf s) d e (sym q))
-delivered-client t (Commit p s) d e = refl
-delivered-client t (Get e′ k s) d e = refl
-delivered-client t (Got e′ v latest) d e =
-    put-other (t .client) e′ _ d (λ q. eqb-false e′ d e (sym q))
+answersTo d m = isAnswer m && eqb (ownerOf m) d
 
 -- a delivery makes no get join
 joined-no-get : (t : Tables) (m j : Message) → In j (joined t m) → isGet j ≡ false
-unfolding joined
-joined-no-get t (Prepare v) j (inl e) = ap isGet e
-joined-no-get t (Prepared k s) j i =
-    by-test (isLast ofWrite (t .client (writerOf s)) k)
-    (λ e. let q = in-map (λ p. Commit p s) j
-    (upto (t .sizes .partitions)
-    (λ p. touches t (t .client (writerOf s) .write .set) p (t .sizes .items)))
-    (rw e at i) in ap isGet (q .2))
-    (λ e. absurd (rw e at i))
-joined-no-get t (Commit p s) j i = absurd i
-joined-no-get t (Get d k s) j (inl e) = ap isGet e
-joined-no-get t (Got d v latest) j i =
-    let c = t .client d in
-    by-test (isLast ofRead c (v .item))
-    (λ e. let q = in-map (λ p. Commit p (c .write .stamp)) j
-    (upto (t .sizes .partitions) (λ p. touches t (c .write .set) p (t .sizes .items)))
-    (rw e at i) in ap isGet (q .2))
-    (λ e. absurd (rw e at i))
+joined-no-get t m =
+    joined-each (λ j. isGet j ≡ false) t m
+    (λ j r. by-test (isGet j)
+    (λ e. not-both (r .answer) (rw (eqb-true (kindOf j) 4 e) refl)) (λ e. e))
+    (λ p s some o. refl)
 
 -- a got of client d is an answer to it
 got-answers : (m : Message) (d : ℕ) → isGot m ≡ true → ownerOf m ≡ d → answersTo d m ≡ true
@@ -103,12 +80,10 @@ delivered-outcome caps v i e = rw e refl
 -- a message of client d that is no answer to it has the outcome none
 no-outcome : (t : Tables) (m : Message) (d : ℕ) → ownerOf m ≡ d → answersTo d m ≡ false
     → outcomeOf t m ≡ 0
-unfolding outcomeOf
-no-outcome t (Prepare v) d o f = refl
-no-outcome t (Prepared k s) d o f = not-both (eq-eqb (writerOf s) d o) f
-no-outcome t (Commit p s) d o f = refl
-no-outcome t (Get e k s) d o f = refl
-no-outcome t (Got e v latest) d o f = not-both (eq-eqb e d o) f
+no-outcome t m d o f =
+    by-test (isAnswer m)
+    (λ e. not-both (and-both (isAnswer m) (eqb (ownerOf m) d) e (eq-eqb (ownerOf m) d o)) f)
+    (λ e. outcome-none t m e)
 
 answers-item : (m : Message) (d : ℕ) → answersTo d m ≡ true → hasItem m ≡ true
 answers-item m d e =
@@ -171,7 +146,7 @@ module _ (caps : Capacities) (v : World) (inv : Inv caps v) (d : ℕ) where
   quiet-delivery i here f =
       record {
         ends = no-end i here f;
-        client = delivered-client (v .tables) (messageAt (v .tables) i) d
+        client = delivered-work (v .tables) (messageAt (v .tables) i) .client d
             (subst (λ (m : Message). answersTo d m ≡ false) (placed-message caps v inv i) f);
         requests = no-requests i;
         replies = λ l p. ⊎-elim
@@ -250,23 +225,28 @@ pub got-of : (L : Ledger) (vs : List Version) (c : Client) (m : Message) (d : �
     → answersTo d m ≡ true → Fits L vs c m → c .write .set ≡ 0
     → (u : Version) × ((e : Entry) × (m ≡ Got d u e))
 unfolding Fits
-got-of L vs c (Prepare v) d t f r = not-both t refl
-got-of L vs c (Prepared k s) d t f r = absurd (f .mode r)
-got-of L vs c (Commit p s) d t f r = not-both t refl
-got-of L vs c (Get e k s) d t f r = not-both t refl
-got-of L vs c (Got e v latest) d t f r =
-    (v, (latest, ap (λ (x : ℕ). Got x v latest) (eqb-true e d t)))
+got-of L vs c m d t f r =
+    ⊎-elim
+    (λ x. let fit : FitsPrepared vs c (x .0) (x .1 .0) = subst (Fits L vs c) (x .1 .1) f in
+    absurd (fit .mode r))
+    (λ x.
+    let same : x .0 ≡ d = sym (ap ownerOf (x .1 .1 .1)) ∙ answers-owner m d t in
+    (x .1 .0, (x .1 .1 .0, x .1 .1 .1 ∙ ap (λ (e : ℕ). Got e (x .1 .0) (x .1 .1 .0)) same)))
+    (answer-is m (and-left (isAnswer m) (eqb (ownerOf m) d) t))
 
 -- an answer to a client with no read part is a prepared reply, of its stamp
 pub prepared-of : (L : Ledger) (vs : List Version) (c : Client) (m : Message) (d : ℕ)
     → answersTo d m ≡ true → Fits L vs c m → c .read .set ≡ 0
     → (k : ℕ) × ((s : ℕ) × (m ≡ Prepared k s) × (writerOf s ≡ d) × (c .write .stamp ≡ s))
 unfolding Fits
-prepared-of L vs c (Prepare v) d t f r = not-both t refl
-prepared-of L vs c (Prepared k s) d t f r = (k, (s, refl, eqb-true (writerOf s) d t, f .stamp))
-prepared-of L vs c (Commit p s) d t f r = not-both t refl
-prepared-of L vs c (Get e k s) d t f r = not-both t refl
-prepared-of L vs c (Got e v latest) d t f r = absurd (f .mode r)
+prepared-of L vs c m d t f r =
+    ⊎-elim
+    (λ x. let fit : FitsPrepared vs c (x .0) (x .1 .0) = subst (Fits L vs c) (x .1 .1) f in
+    (x .0, (x .1 .0, x .1 .1, sym (ap ownerOf (x .1 .1)) ∙ answers-owner m d t, fit .stamp)))
+    (λ x. let fit : FitsGot L vs c (x .1 .0) (x .1 .1 .0) =
+    subst (Fits L vs c) (x .1 .1 .1) f in
+    absurd (fit .mode r))
+    (answer-is m (and-left (isAnswer m) (eqb (ownerOf m) d) t))
 
 -- and an idle client has none
 pub no-answer : (caps : Capacities) (L : Ledger) (t : Tables) → SoundBy caps L t → (m : Message)

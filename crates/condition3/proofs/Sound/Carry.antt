@@ -19,8 +19,9 @@ use Rattle.protocol.specs.Tables.{laterOf}
 use Rattle.protocol.specs.Message.{partsOf, ownerOf}
 use Rattle.protocol.specs.Range.{Capacities}
 use Rattle.protocol.specs.Steps.{stored}
-use Rattle.protocol.proofs.Ranges.Values.{IsClient}
-use Rattle.condition3.proofs.Sound.{Ledger, Good, GoodEntry, Kept, Last, Writes, Fits, SoundBy}
+use Rattle.protocol.proofs.Ranges.Values.{IsClient, owner-in-range}
+use Rattle.condition3.proofs.Sound.{Ledger, Good, GoodEntry, Kept, Last, Writes, Fits}
+use Rattle.condition3.proofs.Sound.{SoundBy}
 use Rattle.condition3.proofs.Common.{hasItem, Like}
 
 -- L′ and vs′ say of stamp s what L and vs say
@@ -158,14 +159,8 @@ all-covered t = record {
 
 pub owner-client : (caps : Capacities) (L : Ledger) (t : Tables) → SoundBy caps L t → (m : Message)
     → In m (t .messages) → IsClient (t .sizes) (ownerOf m)
-owner-client caps L t sound (Prepare v) i =
-    sound .valid .inRange .messages (Prepare v) i .stamp .writer
-owner-client caps L t sound (Prepared k s) i =
-    sound .valid .inRange .messages (Prepared k s) i .stamp .writer
-owner-client caps L t sound (Commit p s) i =
-    sound .valid .inRange .messages (Commit p s) i .stamp .writer
-owner-client caps L t sound (Get d k s) i = sound .valid .inRange .messages (Get d k s) i .client
-owner-client caps L t sound (Got d v e) i = sound .valid .inRange .messages (Got d v e) i .client
+owner-client caps L t sound m i =
+    owner-in-range (t .sizes) m (sound .valid .inRange .messages m i)
 
 module _ (caps : Capacities) (L : Ledger) (t : Tables) (sound : SoundBy caps L t) (P : ℕ → Type 0)
     (covers : Covers P t)
@@ -193,7 +188,7 @@ module _ (caps : Capacities) (L : Ledger) (t : Tables) (sound : SoundBy caps L t
   fits-carried m i c′ like keep =
       carry-fits L L′ (t .versions) vs′ (t .client (ownerOf m)) c′ m like
       (λ v e. sound .valid .inRange .messages (Prepare v)
-      (subst (λ (x : Message). In x (t .messages)) e i) .own)
+      (subst (λ (x : Message). In x (t .messages)) e i) .own refl)
       keep (λ s e. carries s (covers .message m i s e)) (sound .fits m i)
 
 -- ---- counts

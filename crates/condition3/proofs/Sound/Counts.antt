@@ -2,18 +2,18 @@
 -- is stored or under way is counted.
 use mathlib.Core.Bool.{true}
 use mathlib.Core.Logic.{_≢_, ⊎-elim}
-use mathlib.Core.Path.{_≡_, sym, subst}
+use mathlib.Core.Path.{_≡_, refl, sym, subst}
 use Prim.Native.Nat.{ℕ, _≤_, _<_}
 use native.Mathlib.Omega.{arith}
 use lib.Dec.{eqb}
 use borrow.Author.Tests.{eqb-true}
-use Rattle.basics.proofs.Cases.{or-cases}
+use Rattle.basics.proofs.Cases.{or-cases, not-both}
 use Rattle.basics.specs.Lists.{In}
 use Rattle.itemset.specs.Set.{has}
 use Rattle.protocol.specs.declared.Message.{Message}
 use Rattle.protocol.specs.declared.Message.the-variants.{Prepare, Prepared, Commit, Get, Got}
 use Rattle.protocol.specs.Tables.{Tables, numberOf, writerOf}
-use Rattle.protocol.specs.Message.{partsOf}
+use Rattle.protocol.specs.Message.{partsOf, isGet, itemOf}
 use Rattle.protocol.specs.Range.{Capacities}
 use Rattle.protocol.specs.Steps.{stored, found}
 use Rattle.protocol.proofs.Stored.{found-held}
@@ -46,29 +46,46 @@ module _ (caps : Capacities) (L : Ledger) (t : Tables) (sound : SoundBy caps L t
       subst (λ (e : ℕ). numberOf (t .client d .write .stamp) ≤ t .client e .count) (sym writer)
       (write-number L (t .versions) d (t .client d) small w)
 
-  -- the stamps of a message: its own, and a got's latest
-  own-counted : (m : Message) → In m (t .messages) → Counted (t .client) (partsOf m .stamp)
-  unfolding Fits
-  own-counted (Prepare v) i =
-      let fit = sound .fits (Prepare v) i in
-      subst (Counted (t .client)) (fit .stamp)
-      (write-counted (writerOf (v .stamp)) (owner-client caps L t sound (Prepare v) i) (fit .mode))
-  own-counted (Prepared k r) i = stored-counted k r (sound .fits (Prepared k r) i .isStored)
-  own-counted (Commit p r) i =
-      let fit = sound .fits (Commit p r) i in stored-counted (fit .item) r (fit .some)
-  own-counted (Get d k r) i = good-counted k r (sound .fits (Get d k r) i .good)
-  own-counted (Got d v l) i =
-      good-counted (v .item) (v .stamp) (sound .fits (Got d v l) i .good)
+  -- the stamps of a message, its own and its latest's, are counted; a get's is good
+  pub record Stamps (m : Message) : Type 0 where
+    pub own : Counted (t .client) (partsOf m .stamp)
+    pub latest : Counted (t .client) (partsOf m .latest .stamp)
+    pub asked : isGet m ≡ true → Good L (t .versions) (itemOf m) (partsOf m .stamp)
 
-  latest-counted : (m : Message) → In m (t .messages)
-      → Counted (t .client) (partsOf m .latest .stamp)
+  pub stamps : (m : Message) → In m (t .messages) → Stamps m
   unfolding Fits
-  latest-counted (Prepare v) i = zero-counted
-  latest-counted (Prepared k r) i = zero-counted
-  latest-counted (Commit p r) i = zero-counted
-  latest-counted (Get d k r) i = zero-counted
-  latest-counted (Got d v l) i =
-      good-counted (v .item) (l .stamp) (sound .fits (Got d v l) i .latest .good)
+  stamps (Prepare v) i =
+      let fit = sound .fits (Prepare v) i in
+      record {
+        own = subst (Counted (t .client)) (fit .stamp)
+            (write-counted (writerOf (v .stamp)) (owner-client caps L t sound (Prepare v) i)
+            (fit .mode));
+        latest = zero-counted;
+        asked = λ e. not-both e refl;
+      }
+  stamps (Prepared k r) i =
+      record {
+        own = stored-counted k r (sound .fits (Prepared k r) i .isStored);
+        latest = zero-counted;
+        asked = λ e. not-both e refl;
+      }
+  stamps (Commit p r) i =
+      let fit = sound .fits (Commit p r) i in
+      record {
+        own = stored-counted (fit .item) r (fit .some);
+        latest = zero-counted;
+        asked = λ e. not-both e refl;
+      }
+  stamps (Get d k r) i =
+      let good = sound .fits (Get d k r) i .good in
+      record { own = good-counted k r good; latest = zero-counted; asked = λ e. good }
+  stamps (Got d v l) i =
+      let fit = sound .fits (Got d v l) i in
+      record {
+        own = good-counted (v .item) (v .stamp) (fit .good);
+        latest = good-counted (v .item) (l .stamp) (fit .latest .good);
+        asked = λ e. not-both e refl;
+      }
 
   message-counted : (m : Message) → In m (t .messages) → (s : ℕ) → mentions s m ≡ true
       → Counted (t .client) s
@@ -76,8 +93,8 @@ module _ (caps : Capacities) (L : Ledger) (t : Tables) (sound : SoundBy caps L t
   message-counted m i s e =
       let own = partsOf m .stamp in
       let latest = partsOf m .latest .stamp in
-      ⊎-elim (λ f. subst (Counted (t .client)) (eqb-true own s f) (own-counted m i))
-      (λ f. subst (Counted (t .client)) (eqb-true latest s f) (latest-counted m i))
+      ⊎-elim (λ f. subst (Counted (t .client)) (eqb-true own s f) (stamps m i .own))
+      (λ f. subst (Counted (t .client)) (eqb-true latest s f) (stamps m i .latest))
       (or-cases (eqb own s) (eqb latest s) e)
 
   pub counted-covered : Covers (Counted (t .client)) t

@@ -7,8 +7,7 @@ use mathlib.Core.Path.{_≡_, refl, sym, subst}
 use Prim.Native.Nat.{ℕ, zero, suc, _<_}
 use lib.Dec.{eqb}
 use lib.ListN.{length}
-use borrow.Author.Tests.{eqb-true}
-use Rattle.basics.proofs.Cases.{not-both, or-cases, eqb-same}
+use Rattle.basics.proofs.Cases.{not-both, or-cases, or-right, eqb-same}
 use Rattle.basics.specs.Lists.{In, counted}
 use Rattle.itemset.specs.Set.{has}
 use Rattle.itemset.proofs.Laws.{has-empty}
@@ -18,8 +17,9 @@ use Rattle.protocol.specs.Tables.{Sizes, Tables, ofRead, ofWrite, initial, fres
 use Rattle.protocol.specs.Tables.{WritePart, awaitedOf, resting, nothing}
 use Rattle.protocol.specs.Range.{Capacities, sizesInRange}
 use Rattle.protocol.specs.Steps.{messageAt}
+use Rattle.protocol.specs.Calls.{unexpected, missing}
 use Rattle.protocol.specs.Calls.{Call, deliver, refusal, Effects, effects, effect, pick, step}
-use Rattle.protocol.proofs.Refusals.{Expected, accepted-deliver}
+use Rattle.protocol.proofs.Refusals.{Expected, tells-prepared, tells-got, accepted-deliver}
 use Rattle.protocol.proofs.Sorts.{withViews, Apart, Sort, reads, writes, delivers, apart}
 use Rattle.protocol.proofs.Sorts.{sort}
 use Rattle.protocol.proofs.Keeps.{valid-views, keeps}
@@ -137,29 +137,33 @@ module _ (caps : Capacities) (L : Ledger) (t : Tables) (sound : SoundBy caps L t
   -- ---- no delivery is refused by 11 or 12
 
   expected : (m : Message) → In m (t .messages) → Expected t m
-  unfolding Fits
-  expected (Prepare v) here = sound .fits (Prepare v) here .unstored
+  unfolding Fits unexpected missing
+  expected (Prepare v) here =
+      record { expected = sound .fits (Prepare v) here .unstored; found = refl }
   expected (Prepared k s) here =
-      let fit = sound .fits (Prepared k s) here in
-      record {
+      tells-prepared t k s .1
+      (record {
         awaited = awaited-in caps L t sound (Prepared k s) here ofWrite (writerOf s) k
             (owner-client caps L t sound (Prepared k s) here)
             (rw (eqb-same (writerOf s)) (eqb-same k));
-        stamp = fit .stamp;
-      }
-  expected (Commit p s) here = tt
+        stamp = sound .fits (Prepared k s) here .stamp;
+      })
+  expected (Commit p s) here = record { expected = refl; found = refl }
   expected (Get d k s) here =
       let good = sound .fits (Get d k s) here .good in
-      λ n. ⊎-elim (λ e. absurd (n (eqb-true s 0 e))) (λ e. good .whole k e)
-      (or-cases (eqb s 0) (has (L .set s) k) (good .mine))
-  expected (Got d v latest) here =
-      let fit = sound .fits (Got d v latest) here in
       record {
+        expected = refl;
+        found = ⊎-elim (λ e. rw e refl) (λ e. rw (good .whole k e, or-right (eqb s 0) true refl))
+            (or-cases (eqb s 0) (has (L .set s) k) (good .mine));
+      }
+  expected (Got d v latest) here =
+      tells-got t d v latest .1
+      (record {
         awaited = awaited-in caps L t sound (Got d v latest) here ofRead d (v .item)
             (owner-client caps L t sound (Got d v latest) here)
             (rw (eqb-same d) (eqb-same (v .item)));
-        stamp = fit .asked;
-      }
+        stamp = sound .fits (Got d v latest) here .asked;
+      })
 
   pub deliverable : (i : ℕ) → i < length (t .messages) → refusal caps t (deliver i) ≡ 0
   deliverable i h =

@@ -29,8 +29,8 @@ enum-known-m-4 : tie.Need-enum-known-m-4
 enum-known-m-4 c = search needs
 
 get-requires : tie.Need-get-requires
-get-requires c κs = subst Bounded (c .before .before .m4 .given .1)
-    (c .before .before .before .before .before .pre .4)
+get-requires c κs = let x = subst Bounded (c .before .before .m4 .given .1)
+    (c .before .before .before .before .before .pre .4) in x .2
 
 enum-known-m-5 : tie.Need-enum-known-m-5
 enum-known-m-5 c = search needs

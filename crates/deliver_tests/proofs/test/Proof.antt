@@ -23,12 +23,12 @@ enum-known-m-2 : tie.Need-enum-known-m-2
 enum-known-m-2 c = search needs
 
 stamp-requires : tie.Need-stamp-requires
-stamp-requires c κs = subst Bounded (c .before .m2 .given .1)
-    (c .before .before .before .before .pre .1)
+stamp-requires c κs = let x = subst Bounded (c .before .m2 .given .1)
+    (c .before .before .before .before .pre .1) in (x .0, x .1)
 
 reply-requires : tie.Need-reply-requires
-reply-requires c κs = subst Bounded (c .before .before .m2 .given .1)
-    (c .before .before .before .before .before .pre .1)
+reply-requires c κs = let x = subst Bounded (c .before .before .m2 .given .1)
+    (c .before .before .before .before .before .pre .1) in (x .0, x .1)
 
 enum-told : tie.Need-enum-told
 enum-told c = search needs

@@ -2,8 +2,9 @@
 -- client, a latest or a stored version.
 use mathlib.Core.Bool.{false}
 use mathlib.Core.List.{[], _∷_, _++_}
-use mathlib.Core.Path.{_≡_, sym, ap, _∙_, subst}
+use mathlib.Core.Path.{_≡_, refl, sym, ap, _∙_, subst}
 use Prim.Native.Nat.{ℕ}
+use native.Mathlib.Omega.{arith}
 use lib.Dec.{eqb}
 use borrow.Author.Tests.{eqb-true, eqb-false}
 use Rattle.basics.proofs.Cases.{by-test}
@@ -18,11 +19,13 @@ use Rattle.protocol.specs.Calls.{deliver, effect}
 use Rattle.protocol.proofs.Each.{Each, each-none, each-one, each-append, each-without}
 use Rattle.protocol.proofs.Each.{each-upto}
 use Rattle.protocol.proofs.Ranges.Values.{IsClient, EntryInRange, EntriesInRange}
-use Rattle.protocol.proofs.Ranges.Values.{VersionInRange, MessageInRange}
+use Rattle.protocol.proofs.Ranges.Values.{Stamped, VersionInRange, MessageInRange}
+use Rattle.protocol.proofs.Ranges.Values.{range-reply, range-commit}
 use Rattle.protocol.proofs.Ranges.Tables.{InRange}
 use Rattle.protocol.proofs.Refusals.{Expected, AcceptedDeliver, accepted-message}
+use Rattle.protocol.proofs.Refusals.{tells-prepared, tells-got}
 use Rattle.protocol.proofs.Commits.{no-commits}
-use Rattle.protocol.proofs.Delivered.{delivered-sizes}
+use Rattle.protocol.proofs.Delivered.{delivered-work}
 use Rattle.protocol.proofs.Put.{by-cond, put-all}
 use Rattle.protocol.proofs.Kept.Changes.{range-both, range-latest, range-versions}
 use Rattle.protocol.proofs.Kept.Changes.{range-messages}
@@ -37,77 +40,94 @@ unfolding delivered
 range-delivered t (Prepare v) r h x =
     range-versions t r (t .versions ++ v ∷ [])
     (each-append (VersionInRange (t .sizes)) (t .versions) (v ∷ []) (r .versions)
-    (each-one (VersionInRange (t .sizes)) v h))
+    (each-one (VersionInRange (t .sizes)) v
+    (record {
+      item = h .item;
+      value = h .value;
+      stamp = h .written (omega arith);
+      set = h .set;
+      own = h .own refl;
+    })))
 range-delivered t (Prepared k stamp) r h x =
     let z = t .sizes in
     let d = writerOf stamp in
     let c = t .client d in
-    let one : IsClient z d = h .stamp .writer in
+    let stamped = h .written (omega arith) in
+    let one : IsClient z d = stamped .writer in
     range-both t r d (prepared c k) _
-    (range-prepared z c k (r .client d one) (x .awaited))
+    (range-prepared z c k (r .client d one) (tells-prepared t k stamp .0 x .awaited))
     (by-cond (EntriesInRange z) (isLast ofWrite c k) _ _
     (λ l. range-seen z (t .view d) (c .write .set) stamp (r .view d one)
-    (r .client d one .write .set) (λ n. h .stamp))
+    (r .client d one .write .set) (λ n. stamped))
     (λ l. r .view d one))
 range-delivered t (Commit p stamp) r h x =
-    range-latest t r (committed t p stamp) (range-committed t p stamp r (h .stamp))
+    range-latest t r (committed t p stamp) (range-committed t p stamp r (h .written (omega arith)))
 range-delivered t (Get d k stamp) r h x = r
 range-delivered t (Got d v latest) r h x =
     let z = t .sizes in
+    let one : IsClient z d = h .client (omega arith) in
     let k = v .item in
-    let view = r .view d (h .client) in
+    let view = r .view d one in
     let entry = range-later z (t .view d k) latest (view k (h .item)) (h .latest) in
     let c = t .client d in
     let after : EntriesInRange z (put (t .view d) k (laterOf (t .view d k) latest)) =
     λ j l. put-all (EntryInRange z) (t .view d) k (laterOf (t .view d k) latest) j entry
     (view j l) in
     range-both t r d (got c k (v .value)) _
-    (range-got z c k (v .value) (r .client d (h .client)) (x .awaited) (h .value))
+    (range-got z c k (v .value) (r .client d one) (tells-got t d v latest .0 x .awaited) (h .value))
     (by-cond (EntriesInRange z) (isLast ofRead c k) _ _
     (λ l. range-seen z _ (c .write .set) (c .write .stamp) after
-    (r .client d (h .client) .write .set) (r .client d (h .client) .write .stamp))
+    (r .client d one .write .set) (r .client d one .write .stamp))
     (λ l. after))
 
 -- what joins
+range-commits : (t : Tables) (s stamp : ℕ) → InRange t → Stamped (t .sizes) stamp
+    → Each (MessageInRange (t .sizes)) (commits t s stamp)
+range-commits t s stamp r h =
+    each-upto (MessageInRange (t .sizes)) (λ p. Commit p stamp) (t .sizes .partitions)
+    (λ p. touches t s p (t .sizes .items))
+    (λ p l e. range-commit (t .sizes) (r .sizes) p stamp l h)
+
 pub range-joined : (t : Tables) (m : Message) → InRange t → MessageInRange (t .sizes) m
     → Expected t m → Each (MessageInRange (t .sizes)) (joined t m)
 unfolding joined
 range-joined t (Prepare v) r h x =
     each-one (MessageInRange (t .sizes)) (Prepared (v .item) (v .stamp))
-    (record { item = h .item; stamp = h .stamp })
+    (range-reply (t .sizes) (r .sizes) (v .item) (v .stamp) (h .item) (h .written (omega arith)))
 range-joined t (Prepared k stamp) r h x =
-    let s = t .client (writerOf stamp) .write .set in
     by-cond (Each (MessageInRange (t .sizes))) (isLast ofWrite (t .client (writerOf stamp)) k) _ _
-    (λ l. each-upto (MessageInRange (t .sizes)) (λ p. Commit p stamp) (t .sizes .partitions)
-    (λ p. touches t s p (t .sizes .items)) (λ p b e.
-    record { partition = b; stamp = h .stamp }))
+    (λ l. range-commits t (t .client (writerOf stamp) .write .set) stamp r
+    (h .written (omega arith)))
     (λ l. each-none (MessageInRange (t .sizes)))
 range-joined t (Commit p stamp) r h x = each-none (MessageInRange (t .sizes))
 range-joined t (Get d k stamp) r h x =
     each-one (MessageInRange (t .sizes))
     (Got d (version k (found (t .versions) k stamp .value) stamp 0) (t .latest k))
     (record {
-      client = h .client;
+      client = λ l. h .client (omega arith);
+      partition = λ l. absurd (omega arith);
       item = h .item;
       value = range-found (t .sizes) (t .versions) k stamp (r .versions) .value;
       stamp = h .stamp;
+      set = h .set;
       latest = r .latest k (h .item);
+      written = λ l. absurd (omega arith);
+      own = λ e. absurd (omega arith);
     })
 range-joined t (Got d v latest) r h x =
     let c = t .client d in
     let k = v .item in
     let s = c .write .set in
-    let one = r .client d (h .client) in
+    let one = r .client d (h .client (omega arith)) in
     let reads : eqb (c .read .set) 0 ≡ false =
-    awaits-some (c .read .awaited) (c .read .set) k (one .read .within) (x .awaited) in
+    awaits-some (c .read .awaited) (c .read .set) k (one .read .within)
+    (tells-got t d v latest .0 x .awaited) in
     by-cond (Each (MessageInRange (t .sizes))) (isLast ofRead c k) _ _
     (λ l. by-test (eqb s 0)
     (λ e. subst (Each (MessageInRange (t .sizes)))
     (sym (ap (λ (y : ℕ). commits t y (c .write .stamp)) (eqb-true s 0 e)
     ∙ no-commits t (c .write .stamp))) (each-none (MessageInRange (t .sizes))))
-    (λ e. each-upto (MessageInRange (t .sizes)) (λ p. Commit p (c .write .stamp))
-    (t .sizes .partitions) (λ p. touches t s p (t .sizes .items)) (λ p b u.
-    absurd (eqb-false (c .read .set) 0 reads (one .alone (eqb-false s 0 e) .0)))))
+    (λ e. absurd (eqb-false (c .read .set) 0 reads (one .alone (eqb-false s 0 e) .0))))
     (λ l. each-none (MessageInRange (t .sizes)))
 
 pub range-deliver : (caps : Capacities) (t : Tables) (i : ℕ) → AcceptedDeliver caps t i
@@ -124,4 +144,4 @@ range-deliver caps t i a =
     (range-joined t m r known (a .expected)) in
     range-messages (delivered t m) (range-delivered t m r known (a .expected)) (rest ++ joined t m)
     (subst (λ (z : Sizes). Each (MessageInRange z) (rest ++ joined t m))
-    (sym (delivered-sizes t m)) each)
+    (sym (delivered-work t m .sizes)) each)

@@ -19,7 +19,7 @@ use Rattle.protocol.specs.Steps.{version, prepares}
 use Rattle.protocol.specs.Calls.{startRead, startWrite, effect}
 use Rattle.protocol.proofs.Each.{Each, each-append, each-upto}
 use Rattle.protocol.proofs.Ranges.Values.{Stamped, StampInRange, EntriesInRange}
-use Rattle.protocol.proofs.Ranges.Values.{MessageInRange}
+use Rattle.protocol.proofs.Ranges.Values.{MessageInRange, range-get, range-prepare}
 use Rattle.protocol.proofs.Ranges.Clients.{ClientInRange}
 use Rattle.protocol.proofs.Ranges.Tables.{InRange}
 use Rattle.protocol.proofs.Refusals.{AcceptedStart, AcceptedWrite}
@@ -79,8 +79,8 @@ module _ (caps : Capacities) (t : Tables) (d s : ℕ) (a : AcceptedStart caps t 
   range-read =
       range-start t (a .valid .inRange) d (reader t d s) (gets t d s) range-reader
       (each-upto (MessageInRange (t .sizes)) (λ k. Get d k (asks t d k)) (t .sizes .items) (has s)
-      (λ k l e.
-      record { client = a .client; item = l; stamp = range-asks k e }))
+      (λ k l e. range-get (t .sizes) (a .valid .inRange .sizes) d k (asks t d k) (a .client) l
+      (range-asks k e)))
 
 -- ---- Start a write
 
@@ -118,11 +118,11 @@ module _ (caps : Capacities) (t : Tables) (d s : ℕ) (bytes : List ℕ)
       (prepares t d s bytes) range-writer
       (each-upto (MessageInRange (t .sizes))
       (λ k. Prepare (version k (valueOf s bytes k) (nextStamp t d) s)) (t .sizes .items) (has s)
-      (λ k l e.
-      record {
+      (λ k l e. range-prepare (t .sizes) (a .start .valid .inRange .sizes) _
+      (record {
         item = l;
         value = value-fits s bytes k;
         stamp = range-next;
         set = a .start .set;
         own = e;
-      }))
+      })))

@@ -40,17 +40,11 @@ unfolding inRange
 tells-tables t = (
   λ h.
       let z = t .sizes in
-      let sizes : SizesInRange z = (simp (tells, tells-sizes) at h) .0 .0 .0 .0 .0 in
-      let partition : 1 ≤ z .partitions = sizes .somePartition in
-      let item : 1 ≤ z .items = sizes .someItem in
       let f = simp whole at h in
       let view = each-client z (λ d. EntriesInRange z (t .view d)) (f .0 .0 .0 .1) in
       let client = each-client z (λ d. ClientInRange z (t .client d)) (f .0 .0 .1) in
       search,
-  λ r.
-      let partition : 1 ≤ t .sizes .partitions = r .sizes .somePartition in
-      let item : 1 ≤ t .sizes .items = r .sizes .someItem in
-      simp whole (search (r .view, r .client, is-client)),
+  λ r. simp whole (search (r .view, r .client, is-client)),
 )
 
 pub inRange-facts : (t : Tables) → inRange t ≡ true → InRange t

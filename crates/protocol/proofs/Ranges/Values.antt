@@ -1,22 +1,23 @@
 -- What the tests of sizes, stamps, entries, versions and messages tell, as records of plain facts,
 -- both ways: a law `tells-x` reads the facts off the test (`.0`) and proves the test from the facts
 -- (`.1`).
-use mathlib.Core.Bool.{Bool, true, _&&_}
+use mathlib.Core.Bool.{Bool, true, false, cond}
 use mathlib.Core.Logic.{_↔_, _≢_}
 use mathlib.Core.Path.{_≡_, refl}
 use Prim.Native.Nat.{ℕ, _^_, _≤_, _<_}
 use native.Mathlib.Omega.{arith}
 use lib.Pow.{pow-pos}
-use Rattle.basics.proofs.Cases.{test-ext}
+use borrow.Author.Tests.{leb-true, leb-false}
+use Rattle.basics.proofs.Cases.{by-test, not-both}
 use Rattle.itemset.specs.Set.{has}
 use Rattle.protocol.specs.declared.Version.{Version}
 use Rattle.protocol.specs.declared.Entry.{Entry}
 use Rattle.protocol.specs.declared.Message.{Message}
-use Rattle.protocol.specs.declared.Message.the-variants.{Prepare, Prepared, Commit, Get, Got}
+use Rattle.protocol.specs.declared.Message.the-variants.{Prepare, Prepared, Commit, Get}
 use Rattle.protocol.specs.Tables.{Sizes, initial, numberOf, writerOf}
 use Rattle.protocol.specs.Range.{sizesInRange, stampInRange, entryInRange, versionInRange}
-use Rattle.protocol.specs.Range.{messageInRange, isClient, isItem, isPartition, fits}
-use Rattle.protocol.specs.Range.{notInitial}
+use Rattle.protocol.specs.Range.{messageInRange}
+use Rattle.protocol.specs.Message.{Parts, partsOf, kindOf, namesClient, ownerOf}
 use Rattle.protocol.proofs.Tells.{tells}
 
 -- ---- Sizes and clients
@@ -96,131 +97,108 @@ tells-version z v = (
   λ r. simp parts (search initial-not),
 )
 
--- per kind; a prepare holds a version
-
-pub record PreparedInRange (z : Sizes) (k σ : ℕ) : Type 0 where
-  pub item : k < z .items
-  pub stamp : Stamped z σ
-
-pub record CommitInRange (z : Sizes) (p σ : ℕ) : Type 0 where
-  pub partition : p < z .partitions
-  pub stamp : Stamped z σ
-
-pub record GetInRange (z : Sizes) (d k σ : ℕ) : Type 0 where
-  pub client : IsClient z d
-  pub item : k < z .items
-  pub stamp : StampInRange z σ
-
-pub record GotInRange (z : Sizes) (d : ℕ) (v : Version) (e : Entry) : Type 0 where
-  pub client : IsClient z d
-  pub item : v .item < z .items
-  pub value : v .value < 2 ^ 32
-  pub stamp : StampInRange z (v .stamp)
-  pub latest : EntryInRange z e
+-- a message, by its parts: a get's or got's place is a client, any other's a partition, and what
+-- stands for a part that a kind doesn't have is in range
+pub record PartsInRange (z : Sizes) (p : Parts) : Type 0 where
+  pub client : 4 ≤ p .kind → IsClient z (p .place)
+  pub partition : p .kind < 4 → p .place < z .partitions
+  pub item : p .item < z .items
+  pub value : p .value < 2 ^ 32
+  pub stamp : StampInRange z (p .stamp)
+  pub set : p .set < 2 ^ z .items
+  pub latest : EntryInRange z (p .latest)
+  pub written : p .kind < 4 → Stamped z (p .stamp)
+  pub own : p .kind ≡ 1 → has (p .set) (p .item) ≡ true
 
 abbrev pub MessageInRange : Sizes → Message → Type 0
-MessageInRange z (Prepare v) = VersionInRange z v
-MessageInRange z (Prepared k stamp) = PreparedInRange z k stamp
-MessageInRange z (Commit p stamp) = CommitInRange z p stamp
-MessageInRange z (Get d k stamp) = GetInRange z d k stamp
-MessageInRange z (Got d v latest) = GotInRange z d v latest
+MessageInRange z m = PartsInRange z (partsOf m)
 
--- what stands for the parts that a kind doesn't have is in range, where there is an item and a
--- partition
+tells-choice : (b x y : Bool) → (cond b x y ≡ true)
+    ↔ ((b ≡ true → x ≡ true) × (b ≡ false → y ≡ true))
+tells-choice true x y = (λ h. (λ e. h, λ e. not-both refl e), λ p. p .0 refl)
+tells-choice false x y = (λ h. (λ e. not-both e refl, λ e. h), λ p. p .1 refl)
+
+pub tells-message : (z : Sizes) (m : Message) → (messageInRange z m ≡ true) ↔ MessageInRange z m
+unfolding messageInRange
+tells-message z m = (
+  λ h.
+      let f = simp (parts, tells-choice) at h in
+      let written : kindOf m < 4 → Stamped z (partsOf m .stamp) =
+      λ l. f .0 .0 .0 .0 .1 (f .0 .1 l) in
+      search,
+  λ r.
+      let later : kindOf m < 4 → partsOf m .stamp ≢ 0 =
+      λ l. initial-not z (partsOf m .stamp) (r .written l) in
+      simp (parts, tells-choice) search,
+)
+
+-- the client of a message exists
+pub owner-in-range : (z : Sizes) (m : Message) → MessageInRange z m → IsClient z (ownerOf m)
+owner-in-range z m r =
+    by-test (namesClient m) (λ e. rw e (r .client (leb-true 4 (kindOf m) e)))
+    (λ e. rw e (r .written (leb-false 4 (kindOf m) e) .writer))
+
+-- ---- messages in range, kind by kind
+
 pub entry-initial : (z : Sizes) → EntryInRange z initial
 entry-initial z = record { stamp = λ n. absurd (n refl); set = pow-pos (z .items) }
 
-pub tells-message : (z : Sizes) (m : Message) → 1 ≤ z .partitions → 1 ≤ z .items
-    → (messageInRange z m ≡ true) ↔ MessageInRange z m
-unfolding messageInRange
-tells-message z (Prepare v) p₀ i₀ = (
-  λ h. let f = simp parts at h in
-      let later : v .stamp ≢ 0 = f .0 .1 (omega arith) in
-      let own : has (v .set) (v .item) ≡ true = f .1 refl in
-      search stamped,
-  λ r. simp parts (
-    (
-      (((((p₀, r .item), r .value), λ n. r .stamp), r .set), entry-initial z),
-      λ l. initial-not z (v .stamp) (r .stamp),
-    ),
-    λ e. r .own,
-  ),
-)
-tells-message z (Prepared k stamp) p₀ i₀ = (
-  λ h. let f = simp parts at h in
-      let later : stamp ≢ 0 = f .0 .1 (omega arith) in
-      search stamped,
-  λ r. simp parts (
-    (
-      (
-        ((((p₀, r .item), omega arith), λ n. r .stamp), pow-pos (z .items)),
-        entry-initial z,
-      ),
-      λ l. initial-not z stamp (r .stamp),
-    ),
-    λ e. absurd (omega arith),
-  ),
-)
-tells-message z (Commit p stamp) p₀ i₀ = (
-  λ h. let f = simp parts at h in
-      let later : stamp ≢ 0 = f .0 .1 (omega arith) in
-      search stamped,
-  λ r. simp parts (
-    (
-      (
-        ((((r .partition, i₀), omega arith), λ n. r .stamp), pow-pos (z .items)),
-        entry-initial z,
-      ),
-      λ l. initial-not z stamp (r .stamp),
-    ),
-    λ e. absurd (omega arith),
-  ),
-)
-tells-message z (Get d k stamp) p₀ i₀ = (
-  λ h. let f = simp parts at h in search,
-  λ r. simp parts (
-    (
-      (((((r .client, r .item), omega arith), r .stamp), pow-pos (z .items)), entry-initial z),
-      λ l. absurd (omega arith),
-    ),
-    λ e. absurd (omega arith),
-  ),
-)
-tells-message z (Got d v e) p₀ i₀ = (
-  λ h. let f = simp parts at h in search,
-  λ r. simp parts (
-    (
-      (((((r .client, r .item), r .value), r .stamp), pow-pos (z .items)), r .latest),
-      λ l. absurd (omega arith),
-    ),
-    λ e. absurd (omega arith),
-  ),
-)
+module _ (z : Sizes) (sizes : SizesInRange z) where
+  pub range-prepare : (v : Version) → VersionInRange z v → MessageInRange z (Prepare v)
+  range-prepare v r =
+      record {
+        client = λ l. absurd (omega arith);
+        partition = λ l. sizes .somePartition;
+        item = r .item;
+        value = r .value;
+        stamp = λ n. r .stamp;
+        set = r .set;
+        latest = entry-initial z;
+        written = λ l. r .stamp;
+        own = λ e. r .own;
+      }
 
--- ---- The test of a message kind by kind, as code makes it
+  pub range-reply : (k stamp : ℕ) → k < z .items → Stamped z stamp
+      → MessageInRange z (Prepared k stamp)
+  range-reply k stamp item r =
+      record {
+        client = λ l. absurd (omega arith);
+        partition = λ l. sizes .somePartition;
+        item = item;
+        value = omega arith;
+        stamp = λ n. r;
+        set = pow-pos (z .items);
+        latest = entry-initial z;
+        written = λ l. r;
+        own = λ e. absurd (omega arith);
+      }
 
-unfoldable pub testByKind : Sizes → Message → Bool
-testByKind z (Prepare v) = versionInRange z v
-testByKind z (Prepared k stamp) = isItem z k && stampInRange z stamp && notInitial stamp
-testByKind z (Commit p stamp) = isPartition z p && stampInRange z stamp && notInitial stamp
-testByKind z (Get d k stamp) = isClient z d && isItem z k && stampInRange z stamp
-testByKind z (Got d v e) =
-    isClient z d && isItem z (v .item) && fits (v .value) && stampInRange z (v .stamp)
-    && entryInRange z e
+  pub range-commit : (p stamp : ℕ) → p < z .partitions → Stamped z stamp
+      → MessageInRange z (Commit p stamp)
+  range-commit p stamp partition r =
+      record {
+        client = λ l. absurd (omega arith);
+        partition = λ l. partition;
+        item = sizes .someItem;
+        value = omega arith;
+        stamp = λ n. r;
+        set = pow-pos (z .items);
+        latest = entry-initial z;
+        written = λ l. r;
+        own = λ e. absurd (omega arith);
+      }
 
-tells-by-kind : (z : Sizes) (m : Message) → (testByKind z m ≡ true) ↔ MessageInRange z m
-unfolding testByKind
-tells-by-kind z (Prepare v) = tells-version z v
-tells-by-kind z (Prepared k stamp) =
-    (λ h. let f = simp parts at h in search stamped, λ r. simp parts (search initial-not))
-tells-by-kind z (Commit p stamp) =
-    (λ h. let f = simp parts at h in search stamped, λ r. simp parts (search initial-not))
-tells-by-kind z (Get d k stamp) = (λ h. let f = simp parts at h in search, λ r. simp parts search)
-tells-by-kind z (Got d v e) = (λ h. let f = simp parts at h in search, λ r. simp parts search)
-
-pub message-by-kind : (z : Sizes) (m : Message) → 1 ≤ z .partitions → 1 ≤ z .items
-    → messageInRange z m ≡ testByKind z m
-message-by-kind z m p i =
-    test-ext (messageInRange z m) (testByKind z m)
-    (λ e. tells-by-kind z m .1 (tells-message z m p i .0 e))
-    (λ e. tells-message z m p i .1 (tells-by-kind z m .0 e))
+  pub range-get : (d k stamp : ℕ) → IsClient z d → k < z .items → StampInRange z stamp
+      → MessageInRange z (Get d k stamp)
+  range-get d k stamp client item r =
+      record {
+        client = λ l. client;
+        partition = λ l. absurd (omega arith);
+        item = item;
+        value = omega arith;
+        stamp = r;
+        set = pow-pos (z .items);
+        latest = entry-initial z;
+        written = λ l. absurd (omega arith);
+        own = λ e. absurd (omega arith);
+      }

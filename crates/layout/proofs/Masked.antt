@@ -3,14 +3,13 @@ use mathlib.Core.Bool.{true, false}
 use mathlib.Core.Path.{_≡_}
 use Prim.Native.Nat.{ℕ}
 use Rattle.itemset.specs.Set.{has}
-use Rattle.protocol.specs.declared.Entry.{Entry}
-use Rattle.protocol.specs.declared.Version.{Version}
 use Rattle.protocol.specs.declared.Message.{Message}
-use Rattle.protocol.specs.declared.Message.the-variants.{Prepare, Prepared, Commit, Get, Got}
 use Rattle.protocol.specs.Tables.{Tables, Client, noRead, noWrite, Ended, nothing, read, write}
 use Rattle.protocol.specs.Tables.{initial, resting}
 use Rattle.protocol.specs.Range.{isClient, isItem, isWriting}
 use Rattle.basics.specs.Lists.{In}
+use Rattle.layout.specs.Decode.{messageFrom}
+use Rattle.layout.specs.Store.{wordOf}
 
 -- 0 outside s
 abbrev pub Only : ℕ → (ℕ → ℕ) → Type 0
@@ -30,13 +29,9 @@ pub record MaskedClient (c : Client) : Type 0 where
   pub others : isWriting c ≡ false → c .write ≡ noWrite
   pub last : MaskedEnded (c .last)
 
--- a got's version has the empty set
+-- its words give it back. (A got's version has the empty set, for which there is no word.)
 abbrev pub MaskedMessage : Message → Type 0
-MaskedMessage (Prepare v) = Unit
-MaskedMessage (Prepared k stamp) = Unit
-MaskedMessage (Commit p stamp) = Unit
-MaskedMessage (Get d k stamp) = Unit
-MaskedMessage (Got d v e) = v .set ≡ 0
+MaskedMessage m = messageFrom (wordOf m) ≡ m
 
 pub record Masked (t : Tables) : Type 0 where
   pub latest : (k : ℕ) → isItem (t .sizes) k ≡ false → t .latest k ≡ initial
