@@ -18,7 +18,7 @@ use Rattle.protocol.proofs.Valid.{valid-kept}
 use Rattle.protocol.specs.Range.{capacities}
 use Rattle.layout.specs.Decode.{tablesOf, validBlock}
 use Rattle.encoding.proofs.Decoded.{few-messages}
-use Rattle.show.proofs.Frames.{length-frame-le}
+use Rattle.show.proofs.LogFrames.{length-frame-le}
 use Rattle.block_calls.specs.Calls.{freshRefusalOn, freshAnswerOn, refusalOn, answerOn, Fits}
 use Rattle.block_calls.proofs.Accepted.{answer-accepted, answer-refused}
 

@@ -22,9 +22,10 @@ use Rattle.layout.specs.Decode.{sizesIn, tablesOf, validBlock}
 use Rattle.start.specs.Start.{readStarted, writeStarted}
 use Rattle.start.proofs.Ready.{ready-start, ready-write}
 use Rattle.show.specs.Show.{frameIn}
-use Rattle.show.proofs.Frames.{shownFrame-tablesOf}
+use Rattle.show.proofs.LogFrames.{shownFrame-tablesOf}
 use Rattle.encoding.proofs.WellFormed.{client-test}
-use Rattle.block_calls.specs.Calls.{refusalOn, answerOn, outputOn, tablesAfter, changed, blockAfter}
+use Rattle.block_calls.specs.Calls.{refusalOn, answerOn, outputOn, tablesAfter, changed}
+use Rattle.block_calls.specs.Calls.{blockAfter}
 use Rattle.block_calls.proofs.Accepted.{valid-tables, accepted-holds, accepted-tables}
 use Rattle.block_calls.proofs.Accepted.{answer-accepted, output-accepted, block-accepted}
 use Rattle.block_calls.proofs.Accepted.{count-accepted, answer-refused, output-refused}

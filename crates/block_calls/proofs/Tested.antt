@@ -7,14 +7,14 @@ use lib.Dec.{eqb, ltb, leb}
 use lib.ListN.{length}
 use Rattle.basics.proofs.Cases.{by-test, between}
 use Rattle.itemset.specs.Set.{allBelow, count}
-use Rattle.protocol.specs.Range.{capacities, valid, isClient, isIdle, load, occupied}
+use Rattle.protocol.specs.Range.{capacities, isClient, isIdle, load, occupied}
 use Rattle.protocol.specs.Calls.{startRead, startWrite, show, refusal, first, isNothing}
 use Rattle.layout.specs.Layout.{mostVersions, mostMessages, header, scalars, at, itemsAt, modeAt}
 use Rattle.layout.specs.Layout.{awaitedAt, countAt, lastKindAt}
 use Rattle.layout.specs.Decode.{sizesIn, clientIn, tablesOf, validBlock}
 use Rattle.encoding.proofs.WellFormed.{tells-valid-block}
 use Rattle.show.specs.Show.{frameIn}
-use Rattle.show.proofs.Frames.{isNothing-last, shownFrame-tablesOf}
+use Rattle.show.proofs.LogFrames.{isNothing-last, shownFrame-tablesOf}
 use Rattle.block_calls.proofs.Accepted.{valid-tables}
 
 -- ---- fields of the tables, as words
@@ -86,7 +86,8 @@ module _ (b : List ℕ) (d : ℕ) (v : validBlock b ≡ true) where
       (cond (ltb mostMessages (load (tablesOf b) + count s)) 8
       (cond (ltb mostVersions (occupied (tablesOf b) + count s)) 9 0)))))
   unfolding refusal first
-  write-tests s bytes c = rw (valid-tables b v, idle-read b d c v, count-read b d c, sizes-read b, c)
+  write-tests s bytes c =
+      rw (valid-tables b v, idle-read b d c v, count-read b d c, sizes-read b, c)
       refl
 
   pub show-tests : (output : List ℕ) → isClient (sizesIn b) d ≡ true

@@ -28,8 +28,8 @@ use Rattle.protocol.specs.declared.Version.{Version}
 use Rattle.protocol.specs.declared.Entry.{Entry}
 use Rattle.protocol.specs.declared.Message.{Message}
 use Rattle.protocol.specs.declared.Message.the-variants.{Prepare, Prepared, Commit, Get, Got}
-use Rattle.protocol.specs.Tables.{Tables, Client, Side, awaitedOf, Ended, nothing, read}
-use Rattle.protocol.specs.Tables.{write, stampOf, numberOf, writerOf}
+use Rattle.protocol.specs.Tables.{Tables, Client, Side, awaitedOf, Ended, showsWrite, stampOf}
+use Rattle.protocol.specs.Tables.{numberOf, writerOf}
 use Rattle.protocol.specs.Message.{ownerOf}
 use Rattle.protocol.specs.Range.{Capacities}
 use Rattle.protocol.specs.Steps.{stored}
@@ -77,15 +77,14 @@ pub record Writes (L : Ledger) (vs : List Version) (d : ℕ) (c : Client) : Type
   pub arrived : (k : ℕ) → has (c .write .set) k ≡ true → has (c .write .awaited) k ≡ false
       → stored vs k (c .write .stamp) ≡ true
 
--- a last ended write's set agrees, and its stamp is counted
+-- the set of a last ended transaction's write part agrees, and its stamp is counted
 pub record Past (L : Ledger) (client : ℕ → Client) (set stamp : ℕ) : Type 0 where
   pub agrees : set ≡ L .set stamp
   pub number : Counted client stamp
 
 abbrev pub Last : Ledger → (ℕ → Client) → Ended → Type 0
-Last L client nothing = Unit
-Last L client (read s stamps values) = Unit
-Last L client (write s stamp values) = Past L client s stamp
+Last L client e =
+    showsWrite (e .kind) ≡ true → Past L client (e .write .set) (e .write .stamp)
 
 -- a message fits its part of its client's transaction, in stamp, set and value; a commit's write is
 -- whole

@@ -3,7 +3,7 @@
 use mathlib.Core.Bool.{true, false, cond, and-true}
 use mathlib.Core.List.{List}
 use mathlib.Core.Path.{_≡_, refl, sym, ap, _∙_, subst, fun-ext}
-use Prim.Native.Nat.{ℕ, _^_, _≤_, _<_}
+use Prim.Native.Nat.{ℕ, _≤_, _<_}
 use native.Mathlib.Omega.{arith}
 use lib.Dec.{eqb, lit<}
 use Rattle.basics.proofs.Cases.{by-test}
@@ -11,16 +11,16 @@ use Rattle.itemset.specs.Set.{has, remove}
 use Rattle.itemset.proofs.Laws.{has-empty}
 use Rattle.protocol.specs.declared.Version.{Version}
 use Rattle.protocol.specs.declared.Entry.{Entry}
-use Rattle.protocol.specs.Tables.{Tables, Client, ofRead, read, laterOf, resting, put}
+use Rattle.protocol.specs.Tables.{Tables, Client, ofRead, laterOf, resting, put}
 use Rattle.protocol.specs.Tables.{withClient, withView}
 use Rattle.protocol.specs.Range.{isIdle, isWriting}
-use Rattle.protocol.specs.Steps.{answered, isLast, got, seen}
+use Rattle.protocol.specs.Steps.{answered, isLast, ended, got, seen}
 use Rattle.protocol.proofs.Ranges.Clients.{ClientInRange}
 use Rattle.layout.specs.Layout.{scalars, values, store, awaitedAt}
 use Rattle.layout.specs.Decode.{viewIn}
 use Rattle.layout.specs.Store.{storeView}
 use Rattle.layout.specs.Encodes.{Encodes, HoldsClient}
-use Rattle.layout.proofs.Room.{HasRoom}
+use Rattle.layout.proofs.Room.{NarrowClient, HasRoom}
 use Rattle.layout.proofs.Parts.{awaits-answer, awaits-busy, writes-nothing, no-reply-awaited}
 use Rattle.layout.proofs.ClientWords.{wordsOf, putWord}
 use Rattle.layout.proofs.ClientHolds.{words-hold}
@@ -88,15 +88,16 @@ module _ {b : List ℕ} {t : Tables} (d : ℕ) (v : Version) (latest : Entry) (n
       (c .read .values)
       (held .read reads .values)
 
+  narrow : NarrowClient (answered c (v .item) (v .value))
+  narrow = narrow-answered c (v .item) (v .value) (r .client d first last)
+
   ends : Encodes (readEnded (keptAnswer b d v latest) (t .sizes .items) d)
       (withClient (withView t d view) d
-      (resting (c .count) (read (c .read .set) (c .read .asked)
-      (put (c .read .values) (v .item) (v .value)))))
+      (resting (c .count) (ended (answered c (v .item) (v .value)))))
   ends =
-      encodes-read-ended (c .count) (c .read .set) (c .read .asked)
-      (put (c .read .values) (v .item) (v .value)) encodes-seen-later r last (range .read .set) kept
-      (held .count)
-      (held .read reads .set) (held .read reads .asked) answers
+      encodes-read-ended (answered c (v .item) (v .value)) encodes-seen-later r narrow last
+      (range .read .set) kept reads (held .count) (held .read reads .set)
+      (held .read reads .asked) answers
 
   goes-on : isLast ofRead c (v .item) ≡ false
       → Encodes (store (keptAnswer b d v latest) scalars (awaitedAt d)
@@ -104,8 +105,7 @@ module _ {b : List ℕ} {t : Tables} (d : ℕ) (v : Version) (latest : Entry) (n
       (withClient (withView t d view) d (answered c (v .item) (v .value)))
   goes-on more =
       encodes-changed encodes-seen-later r last
-      (changed-put kept scalars 3 (remove (c .read .awaited) (v .item)) (lit< tt))
-      (narrow-answered c (v .item) (v .value) (r .client d first last))
+      (changed-put kept scalars 3 (remove (c .read .awaited) (v .item)) (lit< tt)) narrow
       (words-answered (wordsOf seenBlock d) c (v .item) (words-hold held) busy (v .value)
       reads more answers)
 
@@ -133,9 +133,5 @@ module _ {b : List ℕ} {t : Tables} (d : ℕ) (v : Version) (latest : Entry) (n
       (withView (withClient t d (got c (v .item) (v .value))) d view))
       (sym (n .client d first last .read reads .awaited))
       (by-test (eqb (remove (c .read .awaited) (v .item)) 0)
-      (λ e. rw (
-        e,
-        no-reply-awaited (t .sizes) c range reads,
-        writes-nothing (t .sizes) c range reads,
-      ) ends)
+      (λ e. rw (e, no-reply-awaited (t .sizes) c range reads) ends)
       (λ e. rw e (goes-on (last-word ∙ e)))))

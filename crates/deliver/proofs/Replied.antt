@@ -3,25 +3,25 @@
 use mathlib.Core.Bool.{true, false, cond}
 use mathlib.Core.List.{List, [], _++_, append-nil}
 use mathlib.Core.Path.{_≡_, refl, sym, _∙_, subst}
-use Prim.Native.Nat.{ℕ, _^_, _≤_, _<_}
+use Prim.Native.Nat.{ℕ, _≤_}
 use native.Mathlib.Omega.{arith}
 use lib.Dec.{eqb, lit<}
 use lib.ListN.{length}
 use borrow.Author.Tests.{eqb-true}
-use Rattle.basics.proofs.Cases.{by-test, not-true}
+use Rattle.basics.proofs.Cases.{by-test}
 use Rattle.basics.specs.Fold.{upTo}
 use Rattle.itemset.specs.Set.{has, remove}
 use Rattle.protocol.specs.declared.Message.{Message}
 use Rattle.protocol.specs.declared.Message.the-variants.{Prepared}
-use Rattle.protocol.specs.Tables.{Tables, Client, ofWrite, write, writerOf, resting, put}
+use Rattle.protocol.specs.Tables.{Tables, Client, ofWrite, writerOf, resting, put}
 use Rattle.protocol.specs.Tables.{withClient}
 use Rattle.protocol.specs.Tables.{withView, withMessages}
 use Rattle.protocol.specs.Range.{isIdle, isWriting}
-use Rattle.protocol.specs.Steps.{struck, isLast, seen, delivered, touches, commits, joined}
+use Rattle.protocol.specs.Steps.{struck, isLast, ended, seen, delivered, touches, commits, joined}
 use Rattle.protocol.proofs.Ranges.Clients.{ClientInRange}
 use Rattle.layout.specs.Layout.{mostMessages, scalars, at, store, awaitedAt}
 use Rattle.layout.specs.Encodes.{Encodes, HoldsClient}
-use Rattle.layout.proofs.Room.{HasRoom, narrow-below}
+use Rattle.layout.proofs.Room.{HasRoom}
 use Rattle.layout.proofs.Parts.{awaits-reply, awaits-busy, no-answer-awaited}
 use Rattle.layout.proofs.ClientWords.{wordsOf}
 use Rattle.layout.proofs.ClientHolds.{words-hold}
@@ -30,7 +30,7 @@ use Rattle.layout.proofs.Room.{room-client}
 use Rattle.ends.specs.Ends.{sendCommit, touched, writeKept, writeEnded}
 use Rattle.deliver.specs.Deliver.{preparedDelivered}
 use Rattle.layout.proofs.Same.{encodes-same-view}
-use Rattle.ends.proofs.Rests.{narrow-resting}
+use Rattle.ends.proofs.Rests.{narrow-last}
 use Rattle.ends.proofs.Ended.{encodes-write-kept}
 use Rattle.deliver.proofs.Struck.{words-struck, narrow-struck}
 use Rattle.ends.proofs.Touched.{has-touched}
@@ -58,9 +58,6 @@ module _ {b : List ℕ} (t : Tables) (ms : List Message) (k stamp : ℕ)
   busy : isIdle c ≡ false
   busy = awaits-busy (t .sizes) c range ofWrite k awaits
 
-  some-set : eqb (c .write .set) 0 ≡ false
-  some-set = not-true (eqb (c .write .set) 0) writes
-
   none : c .read .awaited ≡ 0
   none = no-answer-awaited (t .sizes) c range writes
 
@@ -70,26 +67,15 @@ module _ {b : List ℕ} (t : Tables) (ms : List Message) (k stamp : ℕ)
 
   -- with the last one
   abbrev over : Tables
-  over = withView (withClient t d (resting (c .count)
-      (write (c .write .set) (c .write .stamp) (c .write .values)))) d
+  over = withView (withClient t d (resting (c .count) (ended c))) d
       (seen (t .view d) (c .write .set) stamp)
 
   rested : Encodes (writeKept b (t .sizes .items) d (c .write .set) stamp) (withMessages over ms)
-  rested =
-      subst
-      (λ (z : ℕ).
-      Encodes (writeKept b (t .sizes .items) d (c .write .set) stamp)
-      (withMessages (withView (withClient t d (resting (c .count)
-      (write (c .write .set) z (c .write .values)))) d
-      (seen (t .view d) (c .write .set) stamp)) ms))
-      (sym own) (encodes-write-kept d stamp n r first last writes (range .write .set))
+  rested = encodes-write-kept d stamp n r first last writes (range .write .set) own
 
   room-over : HasRoom (withMessages over ms)
-  room-over =
-      room-client (withMessages t ms) d
-      (resting (c .count) (write (c .write .set) (c .write .stamp) (c .write .values))) r
-      (narrow-resting (c .count) (write (c .write .set) (c .write .stamp) (c .write .values))
-      (narrow-below (c .write .set) (t .sizes .items) (range .write .set) (r .items)))
+  room-over = room-client (withMessages t ms) d (resting (c .count) (ended c)) r
+      (narrow-last c (r .client d first last))
 
   ends : length (ms ++ commits t (c .write .set) stamp) ≤ mostMessages
       → Encodes (writeEnded b (t .sizes .partitions) (t .sizes .items) d stamp)
@@ -139,5 +125,5 @@ module _ {b : List ℕ} (t : Tables) (ms : List Message) (k stamp : ℕ)
       (withMessages (delivered t (Prepared k stamp)) (ms ++ joined t (Prepared k stamp))))
       (sym (held .write writes .awaited))
       (by-test (eqb (remove (c .write .awaited) k) 0)
-      (λ e. rw (e, none, some-set) (ends (rw (e, none) at room)))
+      (λ e. rw (e, none) (ends (rw (e, none) at room)))
       (λ e. rw (last-word ∙ e, e) (goes-on (last-word ∙ e))))

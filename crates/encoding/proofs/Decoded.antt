@@ -1,10 +1,10 @@
 -- A block that holds tables decodes to them, where they are initial outside their sizes and sets.
 use mathlib.Core.Bool.{true, false, cond, _&&_}
 use mathlib.Core.List.{List}
-use mathlib.Core.Path.{_≡_, refl, sym, ap, _∙_, fun-ext}
+use mathlib.Core.Path.{_≡_, refl, sym, fun-ext}
 use Prim.Native.Nat.{ℕ, _+_, _≤_, min}
 use native.Mathlib.Omega.{arith}
-use lib.Dec.{eqb, leb}
+use lib.Dec.{leb}
 use lib.ListN.{length}
 use borrow.Author.Tests.{ltb-true}
 use Rattle.basics.proofs.Cases.{by-test, between}
@@ -14,21 +14,19 @@ use Rattle.itemset.specs.Set.{has}
 use Rattle.protocol.specs.declared.Entry.{Entry}
 use Rattle.protocol.specs.declared.Message.the-variants.{Commit}
 use Rattle.protocol.specs.Tables.{Sizes, Tables, Client, ReadPart, WritePart, noRead, noWrite}
-use Rattle.protocol.specs.Tables.{Ended, nothing, read, write, initial, resting}
+use Rattle.protocol.specs.Tables.{Ended, nothing, showsRead, showsWrite, initial, resting}
 use Rattle.protocol.specs.Range.{capacities, isClient, isItem, isIdle, isWriting, load}
 use Rattle.protocol.specs.Range.{occupied, valid}
 use Rattle.protocol.specs.Steps.{version}
 use Rattle.protocol.proofs.Ranges.Clients.{ClientInRange}
 use Rattle.protocol.proofs.Ranges.Tables.{InRange, Valid, valid-facts}
 use Rattle.layout.specs.Layout.{mostVersions, mostMessages}
-use Rattle.layout.specs.Layout.{Section, header, scalars, latest, views, asked, values, lastStamps}
-use Rattle.layout.specs.Layout.{lastValues, at, messagesAt, versionsAt}
-use Rattle.layout.specs.Layout.{modeAt, lastKindAt, lastSetAt, lastStampAt, itemAt}
-use Rattle.layout.specs.Layout.{latestAt, viewAt}
-use Rattle.layout.specs.Decode.{sizesIn, latestIn, viewIn, within, endedOf, readIn, writeIn}
-use Rattle.layout.specs.Decode.{clientIn}
+use Rattle.layout.specs.Layout.{Section, header, scalars, latest, views, at, messagesAt, versionsAt}
+use Rattle.layout.specs.Layout.{modeAt, lastKindAt, latestAt, viewAt}
+use Rattle.layout.specs.Decode.{sizesIn, latestIn, viewIn, within, readOf, writeOf, readIn, writeIn}
+use Rattle.layout.specs.Decode.{lastReadIn, lastWriteIn, endedIn, clientIn}
 use Rattle.layout.specs.Decode.{versionIn, messageIn, tablesOf}
-use Rattle.layout.specs.Encodes.{numberOfMode, HoldsEntry, HoldsEnded, HoldsRead, HoldsWrite}
+use Rattle.layout.specs.Encodes.{numberOfMode, HoldsEntry, HeldRead, HeldWrite, HoldsEnded}
 use Rattle.layout.specs.Encodes.{HoldsClient, Encodes}
 use Rattle.layout.proofs.Masked.{Only, MaskedEnded, MaskedClient, Masked}
 use Rattle.layout.proofs.Parts.{mode-writing}
@@ -42,27 +40,11 @@ only-words : (s : ℕ) (words f : ℕ → ℕ) → ((k : ℕ) → has s k ≡ tr
     → (k : ℕ) → within s words k ≡ f k
 only-words s words f h o k = by-test (has s k) (λ e. rw e (h k e)) (λ e. rw e (sym (o k e)))
 
-ended-of : (b : List ℕ) (d : ℕ) (x : Ended) → HoldsEnded b d x → MaskedEnded x
-    → endedOf (at b scalars (lastKindAt d)) (at b scalars (lastSetAt d))
-    (at b scalars (lastStampAt d)) (λ j. at b lastStamps (itemAt d j))
-    (λ j. at b lastValues (itemAt d j)) ≡ x
-unfolding endedOf
-ended-of b d nothing h m = rw h
-ended-of b d (read s stamps vs) h m =
-    let σ = fun-ext (only-words s (λ j. at b lastStamps (itemAt d j)) stamps (h .2) (m .0)) in
-    let ν = fun-ext (only-words s (λ j. at b lastValues (itemAt d j)) vs (h .3) (m .1)) in
-    rw (h .0, h .1) (λ i. read s (σ i) (ν i))
-ended-of b d (write s stamp vs) h m =
-    let ν = fun-ext (only-words s (λ j. at b lastValues (itemAt d j)) vs (h .3) m) in
-    rw (h .0, h .1) (λ i. write s (h .2 i) (ν i))
-
-read-of : (b : List ℕ) (d : ℕ) (p : ReadPart) → HoldsRead b d p → Only (p .set) (p .asked)
-    → Only (p .set) (p .values) → readIn b d ≡ p
-read-of b d p h asks answers =
-    let σ = fun-ext (only-words (p .set) (λ j. at b asked (itemAt d j)) (p .asked)
-    (h .asked) asks) in
-    let ν = fun-ext
-    (only-words (p .set) (λ j. at b values (itemAt d j)) (p .values) (h .values) answers) in
+read-of : {s awaits : ℕ} {stamps vs : ℕ → ℕ} (p : ReadPart) → HeldRead s awaits stamps vs p
+    → Only (p .set) (p .asked) → Only (p .set) (p .values) → readOf s awaits stamps vs ≡ p
+read-of {s} {awaits} {stamps} {vs} p h asks answers =
+    let σ = fun-ext (only-words (p .set) stamps (p .asked) (h .asked) asks) in
+    let ν = fun-ext (only-words (p .set) vs (p .values) (h .values) answers) in
     rw (h .set, h .awaited) (λ i. record {
       set = p .set;
       awaited = p .awaited;
@@ -70,17 +52,29 @@ read-of b d p h asks answers =
       values = ν i;
     })
 
-write-of : (b : List ℕ) (d : ℕ) (p : WritePart) → HoldsWrite b d p → Only (p .set) (p .values)
-    → writeIn b d ≡ p
-write-of b d p h keeps =
-    let ν = fun-ext
-    (only-words (p .set) (λ j. at b values (itemAt d j)) (p .values) (h .values) keeps) in
+write-of : {s awaits stamp : ℕ} {vs : ℕ → ℕ} (p : WritePart) → HeldWrite s awaits stamp vs p
+    → Only (p .set) (p .values) → writeOf s awaits stamp vs ≡ p
+write-of {s} {awaits} {stamp} {vs} p h keeps =
+    let ν = fun-ext (only-words (p .set) vs (p .values) (h .values) keeps) in
     rw (h .set, h .awaited, h .stamp) (λ i. record {
       set = p .set;
       awaited = p .awaited;
       stamp = p .stamp;
       values = ν i;
     })
+
+ended-of : (b : List ℕ) (d : ℕ) (e : Ended) → HoldsEnded b d e → MaskedEnded e → endedIn b d ≡ e
+ended-of b d e h m =
+    let kind = at b scalars (lastKindAt d) in
+    let read : cond (showsRead kind) (lastReadIn b d) noRead ≡ e .read =
+    rw (h .kind) (by-test (showsRead (e .kind))
+    (λ s. rw s (read-of (e .read) (h .read s) (m .asked) (m .answers)))
+    (λ s. rw s (sym (m .hiddenRead s)))) in
+    let write : cond (showsWrite kind) (lastWriteIn b d) noWrite ≡ e .write =
+    rw (h .kind) (by-test (showsWrite (e .kind))
+    (λ s. rw s (write-of (e .write) (h .write s) (m .values)))
+    (λ s. rw s (sym (m .hiddenWrite s)))) in
+    λ i. record { kind = h .kind i; read = read i; write = write i }
 
 -- mode 2 is that of no other client
 pub mode-others : (c : Client) → isWriting c ≡ false → leb 2 (numberOfMode c) ≡ false
@@ -95,9 +89,9 @@ client-of b d z c h m r =
     × (cond (leb 2 (at b scalars (modeAt d))) (writeIn b d) noWrite ≡ c .write) =
     by-test (isWriting c)
     (λ w. rw (h .mode, mode-writing z c r w)
-    (sym (m .writing w), write-of b d (c .write) (h .write w) (m .values)))
+    (sym (m .writing w), write-of (c .write) (h .write w) (m .values)))
     (λ w. rw (h .mode, mode-others c w)
-    (read-of b d (c .read) (h .read w) (m .asked) (m .answers), sym (m .others w))) in
+    (read-of (c .read) (h .read w) (m .asked) (m .answers), sym (m .others w))) in
     λ i. record {
       count = h .count i;
       read = parts .0 i;

@@ -2,7 +2,7 @@
 use mathlib.Core.Bool.{true, cond}
 use mathlib.Core.List.{List}
 use mathlib.Core.Path.{_≡_, refl, sym, _∙_}
-use Prim.Native.Nat.{ℕ, zero, suc, _<_, min}
+use Prim.Native.Nat.{ℕ, _<_, min}
 use native.Mathlib.Omega.{arith}
 use lib.ListN.{length, getD}
 use lib.Dec.{eqb, leb}
@@ -14,73 +14,64 @@ use Rattle.itemset.specs.Set.{has}
 use Rattle.protocol.specs.Tables.{Sizes}
 use Rattle.protocol.proofs.Ranges.Clients.{ClientInRange}
 use Rattle.layout.specs.Layout.{mostVersions, mostMessages}
-use Rattle.layout.specs.Layout.{header, scalars, asked, values, lastStamps, lastValues, at}
-use Rattle.layout.specs.Layout.{messagesAt}
-use Rattle.layout.specs.Layout.{versionsAt}
-use Rattle.layout.specs.Layout.{modeAt, awaitedAt, lastKindAt, lastSetAt, lastStampAt, setAt}
-use Rattle.layout.specs.Layout.{itemAt}
-use Rattle.layout.specs.Decode.{sizesIn, endedOf, clientIn, versionIn, messageIn, tablesOf}
-use Rattle.layout.specs.Encodes.{HoldsVersion, HoldsMessage, HoldsEnded}
+use Rattle.layout.specs.Layout.{header, scalars, at, messagesAt, versionsAt, modeAt, awaitedAt}
+use Rattle.layout.specs.Decode.{sizesIn, readOf, writeOf, endedIn, clientIn, versionIn, messageIn}
+use Rattle.layout.specs.Decode.{tablesOf}
+use Rattle.layout.specs.Encodes.{HoldsVersion, HoldsMessage, HeldRead, HeldWrite, HoldsEnded}
 use Rattle.layout.specs.Encodes.{HoldsClient, Encodes}
 use Rattle.layout.proofs.Held.{held-version, held-message}
 use Rattle.encoding.proofs.WellFormed.{client-test, ValidBlock, client-range}
 use Rattle.encoding.proofs.Modes.{write-word, other-word, mode-word}
 
--- ---- Ended transactions
+-- ---- Parts
 
 -- an item of the set keeps its word
 within-has : (s k v : ℕ) → has s k ≡ true → v ≡ cond (has s k) v 0
 within-has s k v e = rw e
 
-holds-ended : (b : List ℕ) (d n : ℕ) → at b scalars (lastKindAt d) ≡ n → n < 3
-    → HoldsEnded b d (endedOf n (at b scalars (lastSetAt d)) (at b scalars (lastStampAt d))
-    (λ j. at b lastStamps (itemAt d j))
-    (λ j. at b lastValues (itemAt d j)))
-unfolding endedOf
-holds-ended b d zero e l = e
-holds-ended b d (suc zero) e l =
-    let s = at b scalars (lastSetAt d) in (
-      e,
-      refl,
-      λ k. within-has s k (at b lastStamps (itemAt d k)),
-      λ k. within-has s k (at b lastValues (itemAt d k)),
-    )
-holds-ended b d (suc (suc n)) e l = (
-  omega arith,
-  refl,
-  refl,
-  λ k. within-has (at b scalars (lastSetAt d)) k (at b lastValues (itemAt d k)),
-)
+holds-read : (s awaits : ℕ) (stamps vs : ℕ → ℕ)
+    → HeldRead s awaits stamps vs (readOf s awaits stamps vs)
+holds-read s awaits stamps vs = record {
+  set = refl;
+  awaited = refl;
+  asked = λ k. within-has s k (stamps k);
+  values = λ k. within-has s k (vs k);
+}
 
--- ---- Fields
+holds-write : (s awaits stamp : ℕ) (vs : ℕ → ℕ)
+    → HeldWrite s awaits stamp vs (writeOf s awaits stamp vs)
+holds-write s awaits stamp vs = record {
+  set = refl;
+  awaited = refl;
+  stamp = refl;
+  values = λ k. within-has s k (vs k);
+}
+
+holds-ended : (b : List ℕ) (d : ℕ) → HoldsEnded b d (endedIn b d)
+holds-ended b d = record {
+  kind = refl;
+  read = λ s. rw s (holds-read _ _ _ _);
+  write = λ s. rw s (holds-write _ _ _ _);
+}
+
+-- ---- Clients
 
 holds-client : (b : List ℕ) (z : Sizes) (d : ℕ) → ClientInRange z (clientIn b d)
     → at b scalars (modeAt d) < 3
     → eqb (at b scalars (modeAt d)) 0 ≡ eqb (at b scalars (awaitedAt d)) 0
-    → at b scalars (lastKindAt d) < 3 → HoldsClient b d (clientIn b d)
+    → HoldsClient b d (clientIn b d)
 unfolding clientIn
-holds-client b z d range below idle l =
-    let s = at b scalars (setAt d) in
+holds-client b z d range below idle =
     record {
       mode = mode-word b d z range below idle;
       count = refl;
       read = λ w. by-test (leb 2 (at b scalars (modeAt d)))
           (λ m. not-both (write-word b d z range below idle m) w)
-          (λ m. rw m (record {
-            set = refl;
-            awaited = refl;
-            asked = λ k. within-has s k (at b asked (itemAt d k));
-            values = λ k. within-has s k (at b values (itemAt d k));
-          }));
+          (λ m. rw m (holds-read _ _ _ _));
       write = λ w. by-test (leb 2 (at b scalars (modeAt d)))
-          (λ m. rw m (record {
-            set = refl;
-            awaited = refl;
-            stamp = refl;
-            values = λ k. within-has s k (at b values (itemAt d k));
-          }))
+          (λ m. rw m (holds-write _ _ _ _))
           (λ m. not-both w (other-word b d m));
-      last = holds-ended b d (at b scalars (lastKindAt d)) refl l;
+      last = holds-ended b d;
     }
 
 -- what holds of each place's element holds at each place of the table
@@ -106,10 +97,11 @@ encodes-tables b v =
       versionCount = sym (length-table _ _ ∙ vs);
       messageCount = sym (length-table _ _ ∙ ms);
       latest = λ k l. rw (lt-ltb k (sizesIn b .items) l) (record { stamp = refl; set = refl });
-      view = λ d l h k m. rw (client-test (sizesIn b) d (l, h), lt-ltb k (sizesIn b .items) m) (record { stamp = refl; set = refl });
+      view = λ d l h k m. rw (client-test (sizesIn b) d (l, h), lt-ltb k (sizesIn b .items) m)
+          (record { stamp = refl; set = refl });
       client = λ d l h. rw (client-test (sizesIn b) d (l, h))
           (holds-client b (sizesIn b) d (client-range b v d (l, h)) (w .mode d (l, h))
-          (w .idle d (l, h)) (w .lastKind d (l, h)));
+          (w .idle d (l, h)));
       versions = table-holds (HoldsVersion b) _ (versionIn b) (λ i l. held-version b i);
       messages = table-holds (HoldsMessage b) _ (messageIn b)
           (λ i l. held-message b i (w .someKind i (omega arith)) (w .kind i (omega arith)));

@@ -22,8 +22,9 @@ use Rattle.protocol.specs.Tables.{fresh, resting, put, laterOf, writerOf, parti
 use Rattle.protocol.specs.Tables.{withClient, withView, withLatest, withVersions, withMessages}
 use Rattle.protocol.specs.Range.{Capacities, isClient, isItem, isWriting}
 use Rattle.protocol.specs.Steps.{asks, reader, gets, valueOf, writer, nextStamp, version, prepares}
-use Rattle.protocol.specs.Steps.{stored, found, struck, answered, ended, isLast, prepared, got}
-use Rattle.protocol.specs.Steps.{seen, committed, delivered, touches, commits, joined, messageAt}
+use Rattle.protocol.specs.Steps.{stored, found, struck, answered, endedRead, endedWrite, ended}
+use Rattle.protocol.specs.Steps.{isLast, prepared, got, seen, committed, delivered, touches}
+use Rattle.protocol.specs.Steps.{commits, joined, messageAt}
 use Rattle.protocol.specs.Calls.{Call, startRead, startWrite, deliver, show, refusal, effect}
 use Rattle.protocol.proofs.Each.{Each, each-none, each-one, each-append, each-without, each-upto}
 use Rattle.protocol.proofs.Put.{by-cond, put-all, put-other}
@@ -36,7 +37,7 @@ use Rattle.layout.specs.Decode.{messageOf}
 use Rattle.layout.proofs.Masked.{Only, MaskedEnded, MaskedClient, MaskedMessage, Masked}
 use Rattle.layout.proofs.Parts.{awaits-reply, awaits-answer}
 use Rattle.encoding.proofs.WellFormed.{client-test}
-use Rattle.encoding.proofs.MaskedTables.{masked-rested}
+use Rattle.encoding.proofs.MaskedTables.{masked-nothing, masked-rested}
 
 -- ---- Changes
 
@@ -151,7 +152,15 @@ masked-answered c k v m w o = record {
 
 masked-ended : (c : Client) → MaskedClient c → MaskedEnded (ended c)
 masked-ended c m =
-    by-cond MaskedEnded (eqb (c .write .set) 0) _ _ (λ e. (m .asked, m .answers)) (λ e. m .values)
+    record {
+      asked = m .asked;
+      answers = m .answers;
+      values = m .values;
+      hiddenRead = λ s. by-test (eqb (c .write .set) 0) (λ e. not-both refl (rw e at s))
+          (λ e. ap endedRead (m .writing (rw e refl)));
+      hiddenWrite = λ s. by-test (eqb (c .write .set) 0)
+          (λ e. ap endedWrite (m .others (rw e refl))) (λ e. not-both refl (rw e at s));
+    }
 
 masked-prepared : (c : Client) (k : ℕ) → MaskedClient c → isWriting c ≡ true
     → MaskedClient (prepared c k)
@@ -290,6 +299,6 @@ masked-fresh z =
       clientView = λ d k e. refl;
       itemView = λ d k e. refl;
       absent = λ d e. refl;
-      client = λ d. masked-rested (resting 0 nothing) nothing tt;
+      client = λ d. masked-rested (resting 0 nothing) nothing masked-nothing;
       messages = λ x i. absurd i;
     }

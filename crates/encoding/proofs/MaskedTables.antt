@@ -4,13 +4,14 @@ use mathlib.Core.Bool.{true}
 use mathlib.Core.Path.{_≡_, refl}
 use lib.Dec.{leb}
 use native.Mathlib.Omega.{arith}
-use Prim.Native.Nat.{ℕ, zero, suc}
+use Prim.Native.Nat.{ℕ}
 use Rattle.basics.proofs.Cases.{by-test, not-both, between}
-use Rattle.protocol.specs.Tables.{Client, Ended, nothing, resting, rested}
+use Rattle.protocol.specs.Tables.{ReadPart, WritePart, Client, Ended, nothing, showsRead}
+use Rattle.protocol.specs.Tables.{showsWrite, resting, rested}
 use Rattle.protocol.specs.Range.{isClient, isWriting}
 use Rattle.protocol.proofs.Put.{by-cond}
-use Rattle.layout.specs.Layout.{at, scalars, modeAt}
-use Rattle.layout.specs.Decode.{sizesIn, within, endedOf, clientIn, messageIn, tablesOf}
+use Rattle.layout.specs.Layout.{at, scalars, modeAt, lastKindAt}
+use Rattle.layout.specs.Decode.{sizesIn, within, endedIn, clientIn, messageIn, tablesOf}
 use Rattle.layout.specs.Decode.{validBlock}
 use Rattle.layout.proofs.Masked.{Only, MaskedEnded, MaskedClient, MaskedMessage, Masked}
 use Rattle.layout.proofs.Held.{masked-message}
@@ -21,11 +22,29 @@ use Rattle.encoding.proofs.Modes.{write-word}
 only-within : (s : ℕ) (f : ℕ → ℕ) → Only s (within s f)
 only-within s f k e = rw e
 
-masked-ended : (kind s stamp : ℕ) (stamps vs : ℕ → ℕ) → MaskedEnded (endedOf kind s stamp stamps vs)
-unfolding endedOf
-masked-ended zero s stamp stamps vs = tt
-masked-ended (suc zero) s stamp stamps vs = (only-within s stamps, only-within s vs)
-masked-ended (suc (suc n)) s stamp stamps vs = only-within s vs
+-- by the test of a kind: what is shown has only its set's items, and what isn't is empty
+masked-ended : (b : List ℕ) (d : ℕ) → MaskedEnded (endedIn b d)
+masked-ended b d =
+    let kind = at b scalars (lastKindAt d) in
+    record {
+      asked = by-cond (λ (p : ReadPart). Only (p .set) (p .asked)) (showsRead kind) _ _
+          (λ s. only-within _ _) (λ s k e. refl);
+      answers = by-cond (λ (p : ReadPart). Only (p .set) (p .values)) (showsRead kind) _ _
+          (λ s. only-within _ _) (λ s k e. refl);
+      values = by-cond (λ (p : WritePart). Only (p .set) (p .values)) (showsWrite kind) _ _
+          (λ s. only-within _ _) (λ s k e. refl);
+      hiddenRead = λ s. rw s refl;
+      hiddenWrite = λ s. rw s refl;
+    }
+
+pub masked-nothing : MaskedEnded nothing
+masked-nothing = record {
+  asked = λ k e. refl;
+  answers = λ k e. refl;
+  values = λ k e. refl;
+  hiddenRead = λ s. refl;
+  hiddenWrite = λ s. refl;
+}
 
 masked-client : (b : List ℕ) (d : ℕ)
     → (leb 2 (at b scalars (modeAt d)) ≡ true → isWriting (clientIn b d) ≡ true)
@@ -43,7 +62,7 @@ masked-client b d writes =
           (λ m. not-both (rw m at w) refl);
       others = λ w. by-test (leb 2 (at b scalars (modeAt d))) (λ m. not-both (writes m) w)
           (λ m. rw m refl);
-      last = masked-ended _ _ _ _ _;
+      last = masked-ended b d;
     }
 
 pub masked-rested : (c : Client) (last : Ended) → MaskedEnded last → MaskedClient (rested c last)
@@ -72,7 +91,8 @@ masked-tables b v =
       itemView = λ d k e. by-test (isClient (sizesIn b) d) (λ c. rw (c, e)) (λ c. rw c);
       absent = λ d e. rw e;
       client = λ d. by-cond MaskedClient (isClient (sizesIn b) d) _ _
-          (λ c. masked-client b d (writes d c)) (λ c. masked-rested (resting 0 nothing) nothing tt);
+          (λ c. masked-client b d (writes d c)) (λ c. masked-rested (resting 0 nothing) nothing
+          masked-nothing);
       messages = each-table MaskedMessage _ (messageIn b) (λ i l.
           masked-message b i (f .wellFormed .someKind i (omega arith))
           (f .wellFormed .kind i (omega arith)));

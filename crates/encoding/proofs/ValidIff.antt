@@ -2,7 +2,7 @@
 use mathlib.Core.Bool.{true}
 use mathlib.Core.List.{List}
 use mathlib.Core.Logic.{_↔_, _≢_}
-use mathlib.Core.Path.{_≡_, refl, sym, ap, _∙_, subst, subst₂}
+use mathlib.Core.Path.{_≡_, refl, sym, _∙_, subst, subst₂, ap}
 use Prim.Native.Nat.{ℕ, _+_, _≤_, _<_}
 use native.Mathlib.Omega.{arith}
 use lib.ListN.{length, getD}
@@ -13,7 +13,7 @@ use Rattle.basics.proofs.Lists.{in-getD}
 use Rattle.protocol.specs.declared.Entry.{Entry}
 use Rattle.protocol.specs.declared.Message.{Message}
 use Rattle.protocol.specs.declared.Message.the-variants.{Commit}
-use Rattle.protocol.specs.Tables.{Sizes, Tables, Client, Ended, nothing, read, write}
+use Rattle.protocol.specs.Tables.{Sizes, Tables, Client, ReadPart, WritePart, Ended}
 use Rattle.protocol.specs.Steps.{version}
 use Rattle.protocol.specs.Message.{Parts, kindOf, isPrepare}
 use Rattle.protocol.proofs.MessageKinds.{kind-within}
@@ -21,18 +21,16 @@ use Rattle.protocol.specs.Range.{capacities, isIdle, isWriting, arrived, load}
 use Rattle.protocol.specs.Range.{occupied, valid}
 use Rattle.protocol.proofs.Ranges.Values.{SizesInRange, IsClient, EntryInRange, VersionInRange}
 use Rattle.protocol.proofs.Ranges.Values.{PartsInRange, MessageInRange}
-use Rattle.protocol.proofs.Ranges.Clients.{EndedInRange, ClientInRange}
+use Rattle.protocol.proofs.Ranges.Clients.{ReadPartInRange, WritePartInRange, EndedInRange}
+use Rattle.protocol.proofs.Ranges.Clients.{ClientInRange}
 use Rattle.protocol.proofs.Kept.Values.{range-no-read, range-no-write}
 use Rattle.protocol.proofs.Ranges.Tables.{InRange, Valid, valid-facts, facts-valid}
-use Rattle.layout.specs.Layout.{Section, header, scalars, latest, views, asked, values, lastStamps}
-use Rattle.layout.specs.Layout.{lastValues, at}
-use Rattle.layout.specs.Layout.{messagesAt, modeAt, awaitedAt, lastKindAt, lastSetAt, lastStampAt}
-use Rattle.layout.specs.Layout.{itemAt}
-use Rattle.layout.specs.Layout.{latestAt, viewAt}
-use Rattle.layout.specs.Decode.{sizesIn, kindIn, within, endedOf, clientIn}
+use Rattle.layout.specs.Layout.{Section, header, scalars, latest, views, at}
+use Rattle.layout.specs.Layout.{messagesAt, modeAt, awaitedAt, latestAt, viewAt}
+use Rattle.layout.specs.Decode.{sizesIn, kindIn, readOf, writeOf, endedIn, clientIn}
 use Rattle.layout.specs.Decode.{versionIn, messageIn, tablesOf, validBlock}
-use Rattle.layout.specs.Encodes.{numberOfMode, HoldsEntry, HoldsMessage, HoldsEnded, HoldsClient}
-use Rattle.layout.specs.Encodes.{Encodes}
+use Rattle.layout.specs.Encodes.{numberOfMode, HoldsEntry, HoldsMessage, HeldRead, HeldWrite}
+use Rattle.layout.specs.Encodes.{HoldsEnded, HoldsClient, Encodes}
 use Rattle.encoding.proofs.Folds.{each-table, counted-list, total-same}
 use Rattle.encoding.proofs.WellFormed.{client-test, WellFormed}
 use Rattle.encoding.proofs.WellFormed.{ValidBlock}
@@ -43,42 +41,49 @@ use Rattle.layout.proofs.Parts.{mode-writing, mode-other, writes-nothing, no-re
 use Rattle.layout.proofs.Held.{version-held, kind-held, parts-held}
 use Rattle.encoding.proofs.Decoded.{mode-others, entry-of, few-versions, few-messages}
 
--- ---- The numbers are those of some mode, ended transaction or kind
+-- ---- The numbers are those of some mode or kind
 
 mode-below : (c : Client) → numberOfMode c < 3
 mode-below c =
     by-test (isIdle c) (λ i. rw i (omega arith))
     (λ i. rw i (by-test (isWriting c) (λ w. rw w (omega arith)) (λ w. rw w (omega arith))))
 
-ended-below : (b : List ℕ) (d : ℕ) (x : Ended) → HoldsEnded b d x → at b scalars (lastKindAt d) < 3
-ended-below b d nothing h = omega arith
-ended-below b d (read s stamps vs) h = omega (arith, h .0)
-ended-below b d (write s stamp vs) h = omega (arith, h .0)
 
 -- ---- Fields that a block holds are in range where those of the tables are
 
 module _ (b : List ℕ) (z : Sizes) where
-  ended-range : (d : ℕ) (x : Ended) → HoldsEnded b d x → EndedInRange z x
-      → EndedInRange z (endedOf (at b scalars (lastKindAt d)) (at b scalars (lastSetAt d))
-      (at b scalars (lastStampAt d)) (λ j. at b lastStamps (itemAt d j))
-      (λ j. at b lastValues (itemAt d j)))
-  unfolding endedOf
-  ended-range d nothing h r = rw h tt
-  ended-range d (read s stamps vs) h r =
-      rw (h .0, h .1)
-      (record {
+  read-range : {s awaits : ℕ} {stamps vs : ℕ → ℕ} (p : ReadPart) → HeldRead s awaits stamps vs p
+      → ReadPartInRange z p → ReadPartInRange z (readOf s awaits stamps vs)
+  read-range p h r =
+      rw (h .set, h .awaited) (record {
         set = r .set;
-        stamps = λ k e. rw (e, h .2 k e) (r .stamps k e);
-        values =
-            λ k e. rw (e, h .3 k e) (r .values k e);
+        awaited = r .awaited;
+        within = r .within;
+        asked = λ k e. rw (e, h .asked k e) (r .asked k e);
+        values = λ k e. rw (e, h .values k e) (r .values k e);
       })
-  ended-range d (write s stamp vs) h r =
-      rw (h .0, h .1, h .2) (record {
+
+  write-range : {s awaits stamp : ℕ} {vs : ℕ → ℕ} (p : WritePart) → HeldWrite s awaits stamp vs p
+      → WritePartInRange z p → WritePartInRange z (writeOf s awaits stamp vs)
+  write-range p h r =
+      rw (h .set, h .awaited, h .stamp) (record {
         set = r .set;
+        awaited = r .awaited;
+        within = r .within;
         stamp = r .stamp;
-        values =
-            λ k e. rw (e, h .3 k e) (r .values k e);
+        values = λ k e. rw (e, h .values k e) (r .values k e);
       })
+
+  ended-range : (d : ℕ) (x : Ended) → HoldsEnded b d x → EndedInRange z x
+      → EndedInRange z (endedIn b d)
+  ended-range d x h r =
+      record {
+        kind = rw (h .kind) (r .kind);
+        read = λ s. let t = rw (h .kind) at s in
+            rw s (read-range (x .read) (h .read t) (r .read t));
+        write = λ s. let t = rw (h .kind) at s in
+            rw s (write-range (x .write) (h .write t) (r .write t));
+      }
 
   client-range : (d : ℕ) (c : Client) → HoldsClient b d c → ClientInRange z c
       → ClientInRange z (clientIn b d)
@@ -88,23 +93,10 @@ module _ (b : List ℕ) (z : Sizes) where
         count = rw (h .count) (r .count);
         read = by-test (isWriting c)
             (λ w. rw (h .mode, mode-writing z c r w) (range-no-read z))
-            (λ w. let p = h .read w in
-            rw (h .mode, mode-others c w, p .set, p .awaited) (record {
-              set = r .read .set;
-              awaited = r .read .awaited;
-              within = r .read .within;
-              asked = λ k e. rw (e, p .asked k e) (r .read .asked k e);
-              values = λ k e. rw (e, p .values k e) (r .read .values k e);
-            }));
+            (λ w. rw (h .mode, mode-others c w) (read-range (c .read) (h .read w) (r .read)));
         write = by-test (isWriting c)
-            (λ w. let p = h .write w in
-            rw (h .mode, mode-writing z c r w, p .set, p .awaited, p .stamp) (record {
-              set = r .write .set;
-              awaited = r .write .awaited;
-              within = r .write .within;
-              stamp = r .write .stamp;
-              values = λ k e. rw (e, p .values k e) (r .write .values k e);
-            }))
+            (λ w. rw (h .mode, mode-writing z c r w)
+            (write-range (c .write) (h .write w) (r .write)))
             (λ w. rw (h .mode, mode-others c w) (range-no-write z));
         alone = by-test (isWriting c)
             (λ w. let p = h .write w in
@@ -177,7 +169,8 @@ module _ (b : List ℕ) (t : Tables) (e : Encodes b t) (v : Valid capacities t) 
         mode = λ d c. omega (arith, holds-client d c .mode, mode-below (t .client d));
         idle = λ d c. idle-word b (t .sizes) d (t .client d) (holds-client d c)
             (v .inRange .client d (c .0, omega (arith, e .clients)));
-        lastKind = λ d c. ended-below b d (t .client d .last) (holds-client d c .last);
+        lastKind = λ d c. rw (holds-client d c .last .kind)
+            (v .inRange .client d (c .0, omega (arith, e .clients)) .last .kind);
         someKind = λ i l. rw (kind i l) (kind-within (message i) .0);
         kind = λ i l. rw (kind i l) (kind-within (message i) .1);
       }

@@ -8,7 +8,7 @@ use lib.Dec.{eqb, leb}
 use lib.ListN.{length}
 use borrow.Author.Tests.{le-leb}
 use Rattle.basics.proofs.Cases.{and-both}
-use Rattle.protocol.specs.Tables.{Sizes, nothing, resting}
+use Rattle.protocol.specs.Tables.{Sizes, isKind, nothing, resting}
 use Rattle.protocol.specs.Message.{kinds}
 use Rattle.protocol.specs.Range.{capacities, isClient}
 use Rattle.protocol.proofs.Tells.{tells, tells-and}
@@ -33,7 +33,7 @@ pub record WellFormed (b : List ℕ) : Type 0 where
   pub mode : (d : ℕ) → IsClient (sizesIn b) d → at b scalars (modeAt d) < 3
   pub idle : (d : ℕ) → IsClient (sizesIn b) d
       → eqb (at b scalars (modeAt d)) 0 ≡ eqb (at b scalars (awaitedAt d)) 0
-  pub lastKind : (d : ℕ) → IsClient (sizesIn b) d → at b scalars (lastKindAt d) < 3
+  pub lastKind : (d : ℕ) → IsClient (sizesIn b) d → isKind (at b scalars (lastKindAt d)) ≡ true
   pub someKind : (i : ℕ) → i < at b header messagesAt → 1 ≤ kindIn b i
   pub kind : (i : ℕ) → i < at b header messagesAt → kindIn b i ≤ kinds
 
@@ -45,18 +45,19 @@ tells-well-formed b = (
       let client = each-client (sizesIn b)
       (λ d. ((at b scalars (modeAt d) < 3)
       × (eqb (at b scalars (modeAt d)) 0 ≡ eqb (at b scalars (awaitedAt d)) 0))
-      × (at b scalars (lastKindAt d) < 3)) (f .0 .1) in
+      × (isKind (at b scalars (lastKindAt d)) ≡ true)) (f .0 .1) in
       let mode : (d : ℕ) → IsClient (sizesIn b) d → at b scalars (modeAt d) < 3 =
       λ d c. client d c .0 .0 in
       let idle : (d : ℕ) → IsClient (sizesIn b) d
       → eqb (at b scalars (modeAt d)) 0 ≡ eqb (at b scalars (awaitedAt d)) 0 =
       λ d c. client d c .0 .1 in
-      let lastKind : (d : ℕ) → IsClient (sizesIn b) d → at b scalars (lastKindAt d) < 3 =
-      λ d c. client d c .1 in
+      let lastKind : (d : ℕ) → IsClient (sizesIn b) d
+      → isKind (at b scalars (lastKindAt d)) ≡ true = λ d c. client d c .1 in
       let someKind : (i : ℕ) → i < at b header messagesAt → 1 ≤ kindIn b i = λ i l. f .1 i l .0 in
       let kind : (i : ℕ) → i < at b header messagesAt → kindIn b i ≤ kinds = λ i l. f .1 i l .1 in
       search,
-  λ r. simp (tells, tells-sizes) (search (r .mode, r .idle, r .lastKind, r .someKind, r .kind, is-client)),
+  λ r. simp (tells, tells-sizes)
+      (search (r .mode, r .idle, r .lastKind, r .someKind, r .kind, is-client)),
 )
 
 -- not refused by 1

@@ -1,15 +1,17 @@
 -- The words of a client after the end of its transaction hold a resting client.
-use mathlib.Core.Bool.{true}
+use mathlib.Core.Bool.{true, false}
 use mathlib.Core.List.{List}
-use mathlib.Core.Path.{_≡_, refl}
+use mathlib.Core.Path.{_≡_, refl, sym}
 use Prim.Native.Nat.{ℕ}
-use lib.Dec.{lit<}
-use Rattle.basics.proofs.Cases.{not-both}
+use lib.Dec.{eqb, lit<}
+use Rattle.basics.proofs.Cases.{not-both, not-true, not-false}
 use Rattle.itemset.specs.Set.{has}
 use Rattle.itemset.proofs.Laws.{has-empty}
-use Rattle.protocol.specs.Tables.{Ended, read, write, resting}
+use Rattle.protocol.specs.Tables.{Client, Ended, resting}
+use Rattle.protocol.specs.Range.{isWriting}
+use Rattle.protocol.specs.Steps.{ended as lastOf}
 use Rattle.layout.specs.Layout.{scalars, lastStamps, lastValues}
-use Rattle.layout.proofs.Room.{NarrowEnded, NarrowClient}
+use Rattle.layout.proofs.Room.{NarrowClient}
 use Rattle.layout.proofs.ClientWords.{Words, putWord}
 use Rattle.layout.proofs.ClientHolds.{WordsHold, WordsEnded}
 use Rattle.layout.proofs.Changed.{Changed, changed-put}
@@ -26,14 +28,6 @@ ended-changed kind s c =
     changed-put
     (changed-put (changed-put (changed-put (changed-put c scalars 5 kind (lit< tt)) scalars 6 s
     (lit< tt)) scalars 0 0 (lit< tt)) scalars 2 0 (lit< tt)) scalars 3 0 (lit< tt)
-
-pub narrow-resting : (count : ℕ) (last : Ended) → NarrowEnded last
-    → NarrowClient (resting count last)
-narrow-resting count last n = record {
-  read = λ k e. not-both e (has-empty k);
-  write = λ k e. not-both e (has-empty k);
-  last = n;
-}
 
 -- words with mode, set and awaited 0
 rests : (w : Words) (count : ℕ) (last : Ended) → w scalars 0 ≡ 0 → w scalars 1 ≡ count
@@ -52,17 +46,47 @@ rests w count last mode counted set awaited ended =
       rest = (counted, ended);
     }
 
-pub rests-read : (w : Words) (count s : ℕ) (stamps vs : ℕ → ℕ) → w scalars 1 ≡ count
-    → ((k : ℕ) → has s k ≡ true → w lastStamps k ≡ stamps k)
-    → ((k : ℕ) → has s k ≡ true → w lastValues k ≡ vs k)
-    → WordsHold (endedWords w 1 s) (resting count (read s stamps vs))
-rests-read w count s stamps vs counted heldStamps heldValues =
-    rests (endedWords w 1 s) count (read s stamps vs) refl counted refl refl
-    (refl, refl, heldStamps, heldValues)
+-- ---- the kind that a client's transaction ends as
 
-pub rests-write : (w : Words) (count s stamp : ℕ) (vs : ℕ → ℕ) → w scalars 1 ≡ count
-    → ((k : ℕ) → has s k ≡ true → w lastValues k ≡ vs k)
-    → WordsHold (putWord (endedWords w 2 s) scalars 7 stamp) (resting count (write s stamp vs))
-rests-write w count s stamp vs counted heldValues =
-    rests (putWord (endedWords w 2 s) scalars 7 stamp) count (write s stamp vs) refl counted refl
-    refl (refl, refl, refl, heldValues)
+pub kind-read : (c : Client) → isWriting c ≡ false → lastOf c .kind ≡ 1
+kind-read c w = rw (not-false (eqb (c .write .set) 0) w) refl
+
+pub kind-write : (c : Client) → isWriting c ≡ true → lastOf c .kind ≡ 2
+kind-write c w = rw (not-true (eqb (c .write .set) 0) w) refl
+
+-- ---- and its words
+
+pub rests-read : (w : Words) (c : Client) → isWriting c ≡ false → w scalars 1 ≡ c .count
+    → ((k : ℕ) → has (c .read .set) k ≡ true → w lastStamps k ≡ c .read .asked k)
+    → ((k : ℕ) → has (c .read .set) k ≡ true → w lastValues k ≡ c .read .values k)
+    → WordsHold (endedWords w 1 (c .read .set)) (resting (c .count) (lastOf c))
+rests-read w c reads counted stamps values =
+    rests (endedWords w 1 (c .read .set)) (c .count) (lastOf c) refl counted refl refl
+    (record {
+      kind = sym (kind-read c reads);
+      read = λ s. record { set = refl; awaited = refl; asked = stamps; values = values };
+      write = λ s. not-both (rw (kind-read c reads) at s) refl;
+    })
+
+pub rests-write : (w : Words) (c : Client) (stamp : ℕ) → c .write .stamp ≡ stamp
+    → isWriting c ≡ true → w scalars 1 ≡ c .count
+    → ((k : ℕ) → has (c .write .set) k ≡ true → w lastValues k ≡ c .write .values k)
+    → WordsHold (putWord (endedWords w 2 (c .write .set)) scalars 7 stamp)
+    (resting (c .count) (lastOf c))
+rests-write w c stamp own writes counted values =
+    rests (putWord (endedWords w 2 (c .write .set)) scalars 7 stamp) (c .count) (lastOf c) refl counted
+    refl refl
+    (record {
+      kind = sym (kind-write c writes);
+      read = λ s. not-both (rw (kind-write c writes) at s) refl;
+      write = λ s. record { set = refl; awaited = refl; stamp = sym own; values = values };
+    })
+
+-- ---- its sets are narrow where the client's are
+
+pub narrow-last : (c : Client) → NarrowClient c → NarrowClient (resting (c .count) (lastOf c))
+narrow-last c n = record {
+  read = λ k e. not-both e (has-empty k);
+  write = λ k e. not-both e (has-empty k);
+  last = record { read = λ s. n .read; write = λ s. n .write };
+}

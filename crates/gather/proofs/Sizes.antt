@@ -3,7 +3,7 @@ use mathlib.Core.Path.{_≡_, refl}
 use Prim.Native.Nat.{ℕ}
 use Rattle.protocol.specs.declared.Entry.{Entry}
 use Rattle.protocol.specs.declared.Version.{Version}
-use Rattle.protocol.specs.Tables.{Client, Ended, nothing, read, write}
+use Rattle.protocol.specs.Tables.{Client}
 use Rattle.protocol.specs.Range.{stampInRange, entryInRange, versionInRange, endedInRange}
 use Rattle.protocol.specs.Range.{readPartInRange, writePartInRange, clientInRange}
 use Rattle.gather.specs.Sized.{sizes, sized}
@@ -24,14 +24,7 @@ module _ (clients partitions items : ℕ) where
   unfolding versionInRange stampInRange
   version-sized v = refl
 
-  ended-sized : (x : Ended) → endedInRange (sized clients items) x ≡ endedInRange
-      (sizes clients partitions items) x
-  unfolding endedInRange stampInRange
-  ended-sized nothing = refl
-  ended-sized (read s stamps vs) = refl
-  ended-sized (write s stamp vs) = refl
-
   pub client-sized : (c : Client) → clientInRange (sized clients items) c ≡ clientInRange
       (sizes clients partitions items) c
-  unfolding clientInRange readPartInRange writePartInRange stampInRange
-  client-sized c = rw (ended-sized (c .last))
+  unfolding clientInRange endedInRange readPartInRange writePartInRange stampInRange
+  client-sized c = refl

@@ -1,43 +1,26 @@
 -- What a block holds of a client depends on that client's words alone.
 use mathlib.Core.Bool.{true, false}
 use mathlib.Core.List.{List}
-use mathlib.Core.Path.{_≡_, _∙_}
-use Prim.Native.Nat.{ℕ}
+use mathlib.Core.Path.{_≡_, refl, _∙_}
+use Prim.Native.Nat.{ℕ, _<_}
 use lib.Dec.{lit<}
-use Rattle.itemset.specs.Set.{has}
-use Rattle.protocol.specs.Tables.{Client, ReadPart, WritePart, Ended, nothing, read, write}
+use Rattle.protocol.specs.Tables.{Client, ReadPart, WritePart, Ended}
 use Rattle.protocol.specs.Range.{isWriting}
 use Rattle.layout.specs.Layout.{scalars, asked, values, lastStamps, lastValues}
-use Rattle.layout.specs.Encodes.{numberOfMode, HoldsEnded, HoldsClient}
-use Rattle.layout.proofs.Room.{NarrowEnded, NarrowClient}
+use Rattle.layout.specs.Encodes.{numberOfMode, HeldRead, HeldWrite, HeldEnded, HoldsClient}
+use Rattle.layout.proofs.Room.{Narrow, NarrowClient}
 use Rattle.layout.proofs.ClientWords.{Words, wordsOf, HasWords, KeptClient}
 
--- these are the words of an ended transaction: its kind, set and one stamp, and for each item a
--- stamp and a value
-abbrev pub EndedHold : ℕ → ℕ → ℕ → (ℕ → ℕ) → (ℕ → ℕ) → Ended → Type 0
-EndedHold kind set one stamps vs nothing = kind ≡ 0
-EndedHold kind set one stamps vs (read s σ ν) =
-    (kind ≡ 1) × (set ≡ s) × ((k : ℕ) → has s k ≡ true → stamps k ≡ σ k)
-    × ((k : ℕ) → has s k ≡ true → vs k ≡ ν k)
-EndedHold kind set one stamps vs (write s σ ν) =
-    (kind ≡ 2) × (set ≡ s) × (one ≡ σ) × ((k : ℕ) → has s k ≡ true → vs k ≡ ν k)
-
+-- as `HoldsEnded`, `HoldsRead`, `HoldsWrite` and `HoldsClient`, of a client's words
 abbrev pub WordsEnded : Words → Ended → Type 0
-WordsEnded w e = EndedHold (w scalars 5) (w scalars 6) (w scalars 7) (w lastStamps)
+WordsEnded w e = HeldEnded (w scalars 5) (w scalars 6) (w scalars 7) (w lastStamps)
     (w lastValues) e
 
--- as `HoldsRead`, `HoldsWrite` and `HoldsClient`, of a client's words
-pub record WordsRead (w : Words) (p : ReadPart) : Type 0 where
-  pub set : w scalars 2 ≡ p .set
-  pub awaited : w scalars 3 ≡ p .awaited
-  pub asked : (k : ℕ) → has (p .set) k ≡ true → w asked k ≡ p .asked k
-  pub values : (k : ℕ) → has (p .set) k ≡ true → w values k ≡ p .values k
+abbrev pub WordsRead : Words → ReadPart → Type 0
+WordsRead w p = HeldRead (w scalars 2) (w scalars 3) (w asked) (w values) p
 
-pub record WordsWrite (w : Words) (p : WritePart) : Type 0 where
-  pub set : w scalars 2 ≡ p .set
-  pub awaited : w scalars 3 ≡ p .awaited
-  pub stamp : w scalars 4 ≡ p .stamp
-  pub values : (k : ℕ) → has (p .set) k ≡ true → w values k ≡ p .values k
+abbrev pub WordsWrite : Words → WritePart → Type 0
+WordsWrite w p = HeldWrite (w scalars 2) (w scalars 3) (w scalars 4) (w values) p
 
 -- what a transaction under way has no part in
 abbrev pub WordsRest : Words → Client → Type 0
@@ -49,67 +32,56 @@ pub record WordsHold (w : Words) (c : Client) : Type 0 where
   pub write : isWriting c ≡ true → WordsWrite w (c .write)
   pub rest : WordsRest w c
 
-ended-hold : (d : ℕ) (b : List ℕ) (e : Ended) → HoldsEnded b d e → WordsEnded (wordsOf b d) e
-ended-hold d b nothing h = h
-ended-hold d b (read s stamps vs) h = h
-ended-hold d b (write s stamp vs) h = h
-
 pub words-hold : {d : ℕ} {b : List ℕ} {c : Client} → HoldsClient b d c → WordsHold (wordsOf b d) c
-words-hold {d} {b} {c} h =
+words-hold h =
     record {
       mode = h .mode;
-      read = λ x. let p = h .read x in record {
-        set = p .set;
-        awaited = p .awaited;
-        asked = p .asked;
-        values = p .values;
-      };
-      write = λ x. let p = h .write x in record {
-        set = p .set;
-        awaited = p .awaited;
-        stamp = p .stamp;
-        values = p .values;
-      };
-      rest = (h .count, ended-hold d b (c .last) (h .last));
+      read = h .read;
+      write = h .write;
+      rest = (h .count, h .last);
     }
 
-holds-ended : (d : ℕ) (b : List ℕ) (w : Words) → HasWords d b w → (e : Ended) → NarrowEnded e
-    → WordsEnded w e → HoldsEnded b d e
-holds-ended d b w k nothing n h = k .row scalars 5 (lit< tt) ∙ h
-holds-ended d b w k (read s stamps vs) n h = (
-  k .row scalars 5 (lit< tt) ∙ h .0,
-  k .row scalars 6 (lit< tt) ∙ h .1,
-  λ j e. k .row lastStamps j (n j e)
-      ∙ h .2 j e,
-  λ j e. k .row lastValues j (n j e) ∙ h .3 j e,
-)
-holds-ended d b w k (write s stamp vs) n h = (
-  k .row scalars 5 (lit< tt) ∙ h .0,
-  k .row scalars 6 (lit< tt) ∙ h .1,
-  k .row scalars 7 (lit< tt)
-      ∙ h .2,
-  λ j e. k .row lastValues j (n j e) ∙ h .3 j e,
-)
+-- the same words hold the same part
+same-read : {s s′ a a′ : ℕ} {f f′ g g′ : ℕ → ℕ} (p : ReadPart) → Narrow (p .set) → s′ ≡ s → a′ ≡ a
+    → ((k : ℕ) → k < 64 → f′ k ≡ f k) → ((k : ℕ) → k < 64 → g′ k ≡ g k)
+    → HeldRead s a f g p → HeldRead s′ a′ f′ g′ p
+same-read p n set awaited asks answers h =
+    record {
+      set = set ∙ h .set;
+      awaited = awaited ∙ h .awaited;
+      asked = λ k e. asks k (n k e) ∙ h .asked k e;
+      values = λ k e. answers k (n k e) ∙ h .values k e;
+    }
+
+same-write : {s s′ a a′ σ σ′ : ℕ} {g g′ : ℕ → ℕ} (p : WritePart) → Narrow (p .set) → s′ ≡ s
+    → a′ ≡ a → σ′ ≡ σ → ((k : ℕ) → k < 64 → g′ k ≡ g k)
+    → HeldWrite s a σ g p → HeldWrite s′ a′ σ′ g′ p
+same-write p n set awaited stamp answers h =
+    record {
+      set = set ∙ h .set;
+      awaited = awaited ∙ h .awaited;
+      stamp = stamp ∙ h .stamp;
+      values = λ k e. answers k (n k e) ∙ h .values k e;
+    }
 
 pub holds-words : {d : ℕ} {b : List ℕ} {w : Words} {c : Client} → HasWords d b w → NarrowClient c
     → WordsHold w c → HoldsClient b d c
 holds-words {d} {b} {w} {c} k n h =
+    let e = c .last in
     record {
       mode = k .row scalars 0 (lit< tt) ∙ h .mode;
       count = k .row scalars 1 (lit< tt) ∙ h .rest .0;
-      read = λ x. let p = h .read x in record {
-        set = k .row scalars 2 (lit< tt) ∙ p .set;
-        awaited = k .row scalars 3 (lit< tt) ∙ p .awaited;
-        asked = λ j e. k .row asked j (n .read j e) ∙ p .asked j e;
-        values = λ j e. k .row values j (n .read j e) ∙ p .values j e;
+      read = λ x. same-read (c .read) (n .read) (k .row scalars 2 (lit< tt)) (k .row scalars 3 (lit< tt))
+          (k .row asked) (k .row values) (h .read x);
+      write = λ x. same-write (c .write) (n .write) (k .row scalars 2 (lit< tt))
+          (k .row scalars 3 (lit< tt)) (k .row scalars 4 (lit< tt)) (k .row values) (h .write x);
+      last = record {
+        kind = k .row scalars 5 (lit< tt) ∙ h .rest .1 .kind;
+        read = λ x. same-read (e .read) (n .last .read x) (k .row scalars 6 (lit< tt)) refl
+            (k .row lastStamps) (k .row lastValues) (h .rest .1 .read x);
+        write = λ x. same-write (e .write) (n .last .write x) (k .row scalars 6 (lit< tt)) refl
+            (k .row scalars 7 (lit< tt)) (k .row lastValues) (h .rest .1 .write x);
       };
-      write = λ x. let p = h .write x in record {
-        set = k .row scalars 2 (lit< tt) ∙ p .set;
-        awaited = k .row scalars 3 (lit< tt) ∙ p .awaited;
-        stamp = k .row scalars 4 (lit< tt) ∙ p .stamp;
-        values = λ j e. k .row values j (n .write j e) ∙ p .values j e;
-      };
-      last = holds-ended d b w k (c .last) (n .last) (h .rest .1);
     }
 
 pub kept-client : {d : ℕ} {b b′ : List ℕ} {c : Client} → KeptClient d b b′ → NarrowClient c

@@ -84,7 +84,11 @@ module _ (b : List ℕ) (z : Sizes) (long : needed ≤ length b) where
           values = λ k i. not-both i (has-empty k);
         };
         write = λ e. not-both e refl;
-        last = zero 5 (lit< tt);
+        last = record {
+          kind = zero 5 (lit< tt);
+          read = λ e. not-both e refl;
+          write = λ e. not-both e refl;
+        };
       }
 
   fresh-entry : (s : Section) (i : ℕ) → 3 ≤ base s + i → base s + i + 1 < needed

@@ -3,6 +3,7 @@
 pub mod At
 pub mod Sections
 pub mod Past
+mod SameEntry
 pub mod Room
 pub mod Parts
 pub mod Kept

@@ -4,8 +4,8 @@ use mathlib.Core.Path.{_≡_}
 use Prim.Native.Nat.{ℕ}
 use Rattle.itemset.specs.Set.{has}
 use Rattle.protocol.specs.declared.Message.{Message}
-use Rattle.protocol.specs.Tables.{Tables, Client, noRead, noWrite, Ended, nothing, read, write}
-use Rattle.protocol.specs.Tables.{initial, resting}
+use Rattle.protocol.specs.Tables.{Tables, Client, noRead, noWrite, Ended, nothing, showsRead}
+use Rattle.protocol.specs.Tables.{showsWrite, initial, resting}
 use Rattle.protocol.specs.Range.{isClient, isItem, isWriting}
 use Rattle.basics.specs.Lists.{In}
 use Rattle.layout.specs.Decode.{messageFrom}
@@ -15,10 +15,13 @@ use Rattle.layout.specs.Store.{wordOf}
 abbrev pub Only : ℕ → (ℕ → ℕ) → Type 0
 Only s f = (k : ℕ) → has s k ≡ false → f k ≡ 0
 
-abbrev pub MaskedEnded : Ended → Type 0
-MaskedEnded nothing = Unit
-MaskedEnded (read s stamps vs) = Only s stamps × Only s vs
-MaskedEnded (write s stamp vs) = Only s vs
+-- a part that isn't shown is empty
+pub record MaskedEnded (e : Ended) : Type 0 where
+  pub asked : Only (e .read .set) (e .read .asked)
+  pub answers : Only (e .read .set) (e .read .values)
+  pub values : Only (e .write .set) (e .write .values)
+  pub hiddenRead : showsRead (e .kind) ≡ false → e .read ≡ noRead
+  pub hiddenWrite : showsWrite (e .kind) ≡ false → e .write ≡ noWrite
 
 -- a client has one part, and the other is empty
 pub record MaskedClient (c : Client) : Type 0 where

@@ -11,7 +11,7 @@ use Rattle.itemset.specs.Set.{has}
 use Rattle.itemset.proofs.Laws.{has-below}
 use Rattle.protocol.specs.declared.Version.{Version}
 use Rattle.protocol.specs.declared.Message.{Message}
-use Rattle.protocol.specs.Tables.{Sizes, Tables, Client, Ended, nothing, read, write, withClient}
+use Rattle.protocol.specs.Tables.{Sizes, Tables, Client, Ended, showsRead, showsWrite, withClient}
 use Rattle.protocol.specs.Tables.{withVersions, withMessages}
 use Rattle.protocol.specs.Range.{capacities, load, occupied}
 use Rattle.protocol.proofs.Ranges.Tables.{Valid}
@@ -23,10 +23,9 @@ use Rattle.layout.specs.Layout.{mostClients, mostItems, mostVersions, mo
 abbrev pub Narrow : ℕ → Type 0
 Narrow s = (k : ℕ) → has s k ≡ true → k < mostItems
 
-abbrev pub NarrowEnded : Ended → Type 0
-NarrowEnded nothing = Unit
-NarrowEnded (read s stamps vs) = Narrow s
-NarrowEnded (write s stamp vs) = Narrow s
+pub record NarrowEnded (e : Ended) : Type 0 where
+  pub read : showsRead (e .kind) ≡ true → Narrow (e .read .set)
+  pub write : showsWrite (e .kind) ≡ true → Narrow (e .write .set)
 
 pub record NarrowClient (c : Client) : Type 0 where
   pub read : Narrow (c .read .set)
@@ -48,9 +47,10 @@ pub narrow-below : (s n : ℕ) → s < 2 ^ n → n ≤ mostItems → Narrow s
 narrow-below s n l h k e = lt-of-lt-of-le (has-below s k n l e) h
 
 narrow-ended : (z : Sizes) → z .items ≤ mostItems → (e : Ended) → EndedInRange z e → NarrowEnded e
-narrow-ended z h nothing r = tt
-narrow-ended z h (read s stamps vs) r = narrow-below s (z .items) (r .set) h
-narrow-ended z h (write s stamp vs) r = narrow-below s (z .items) (r .set) h
+narrow-ended z h e r = record {
+  read = λ s. narrow-below (e .read .set) (z .items) (r .read s .set) h;
+  write = λ s. narrow-below (e .write .set) (z .items) (r .write s .set) h;
+}
 
 pub narrow-client : (z : Sizes) → z .items ≤ mostItems → (c : Client) → ClientInRange z c
     → NarrowClient c
@@ -69,7 +69,8 @@ room-valid t v =
       items = z .items;
       versions = omega (arith, v .occupied);
       messages = omega (arith, v .load);
-      client = λ d l h. narrow-client (t .sizes) (z .items) (t .client d) (v .inRange .client d (l, h));
+      client = λ d l h. narrow-client (t .sizes) (z .items) (t .client d)
+          (v .inRange .client d (l, h));
     }
 
 -- a client with narrow sets in a client's place

@@ -1,7 +1,7 @@
 -- The decoder: the tables that the words of a block are, initial outside the sizes, the counts and
 -- the sets; and which blocks are valid.
 use mathlib.Core.Bool.{Bool, cond, Bool·beq, _&&_}
-use mathlib.Core.List.{List, [], _∷_, _++_, map}
+use mathlib.Core.List.{List}
 use Prim.Native.Nat.{ℕ, zero, suc, _+_, min}
 use lib.Dec.{leb, ltb, eqb}
 use lib.ListN.{length}
@@ -12,7 +12,7 @@ use Rattle.protocol.specs.declared.Entry.{Entry}
 use Rattle.protocol.specs.declared.Message.{Message}
 use Rattle.protocol.specs.declared.Message.the-variants.{Prepare, Prepared, Commit, Get, Got}
 use Rattle.protocol.specs.Tables.{Sizes, Tables, Client, ReadPart, WritePart, noRead, noWrite}
-use Rattle.protocol.specs.Tables.{Ended, nothing, read, write, initial, resting}
+use Rattle.protocol.specs.Tables.{Ended, nothing, isKind, showsRead, showsWrite, initial, resting}
 use Rattle.protocol.specs.Steps.{version}
 use Rattle.protocol.specs.Message.{kinds}
 use Rattle.protocol.specs.Range.{capacities, valid, sizesInRange, isClient, isItem, everyClient}
@@ -23,16 +23,20 @@ use Rattle.layout.specs.Layout.{messagesAt, modeAt, countAt, setAt, awai
 use Rattle.layout.specs.Layout.{lastKindAt, lastSetAt, lastStampAt, latestAt, viewAt, itemAt}
 use Rattle.layout.specs.Layout.{versionAt, messageAt}
 
--- ---- numbers of kinds and ended transactions
+-- ---- parts and messages
 
 -- only the items of s count
 abbrev pub within : ℕ → (ℕ → ℕ) → ℕ → ℕ
 within s f k = cond (has s k) (f k) 0
 
-unfoldable pub endedOf : ℕ → ℕ → ℕ → (ℕ → ℕ) → (ℕ → ℕ) → Ended
-endedOf zero s stamp stamps vs = nothing
-endedOf (suc zero) s stamp stamps vs = read s (within s stamps) (within s vs)
-endedOf (suc (suc n)) s stamp stamps vs = write s stamp (within s vs)
+-- the parts that these words are
+abbrev pub readOf : ℕ → ℕ → (ℕ → ℕ) → (ℕ → ℕ) → ReadPart
+readOf s awaited stamps vs =
+    record { set = s; awaited = awaited; asked = within s stamps; values = within s vs }
+
+abbrev pub writeOf : ℕ → ℕ → ℕ → (ℕ → ℕ) → WritePart
+writeOf s awaited stamp vs =
+    record { set = s; awaited = awaited; stamp = stamp; values = within s vs }
 
 -- the message of this kind, from its seven other words
 unfoldable pub messageOf : ℕ → ℕ → ℕ → ℕ → ℕ → ℕ → Entry → Message
@@ -62,25 +66,37 @@ viewIn b d k = record { stamp = at b views (viewAt d k); set = at b views (viewA
 -- the words of the transaction under way, as a read part and as a write part
 abbrev pub readIn : List ℕ → ℕ → ReadPart
 readIn b d =
-    let s = at b scalars (setAt d) in
-    record {
-      set = s;
-      awaited = at b scalars (awaitedAt d);
-      asked = within s (λ j. at b asked (itemAt d j));
-      values = within s (λ j. at b values (itemAt d j));
-    }
+    readOf (at b scalars (setAt d)) (at b scalars (awaitedAt d)) (λ j. at b asked (itemAt d j))
+    (λ j. at b values (itemAt d j))
 
 abbrev pub writeIn : List ℕ → ℕ → WritePart
 writeIn b d =
-    let s = at b scalars (setAt d) in
+    writeOf (at b scalars (setAt d)) (at b scalars (awaitedAt d)) (at b scalars (stampAt d))
+    (λ j. at b values (itemAt d j))
+
+-- and those of the last ended one, of which nothing is awaited
+abbrev pub lastReadIn : List ℕ → ℕ → ReadPart
+lastReadIn b d =
+    readOf (at b scalars (lastSetAt d)) 0 (λ j. at b lastStamps (itemAt d j))
+    (λ j. at b lastValues (itemAt d j))
+
+abbrev pub lastWriteIn : List ℕ → ℕ → WritePart
+lastWriteIn b d =
+    writeOf (at b scalars (lastSetAt d)) 0 (at b scalars (lastStampAt d))
+    (λ j. at b lastValues (itemAt d j))
+
+-- it has the parts that its kind shows, and no others
+abbrev pub endedIn : List ℕ → ℕ → Ended
+endedIn b d =
+    let kind = at b scalars (lastKindAt d) in
     record {
-      set = s;
-      awaited = at b scalars (awaitedAt d);
-      stamp = at b scalars (stampAt d);
-      values = within s (λ j. at b values (itemAt d j));
+      kind = kind;
+      read = cond (showsRead kind) (lastReadIn b d) noRead;
+      write = cond (showsWrite kind) (lastWriteIn b d) noWrite;
     }
 
--- from mode 2 on they are those of a write part, in any other those of a read part
+-- from mode 2 on the words of the transaction under way are those of a write part, in any other
+-- those of a read part
 unfoldable pub clientIn : List ℕ → ℕ → Client
 clientIn b d =
     let writes = leb 2 (at b scalars (modeAt d)) in
@@ -88,9 +104,7 @@ clientIn b d =
       count = at b scalars (countAt d);
       read = cond writes noRead (readIn b d);
       write = cond writes (writeIn b d) noWrite;
-      last = endedOf (at b scalars (lastKindAt d)) (at b scalars (lastSetAt d))
-          (at b scalars (lastStampAt d))
-          (λ j. at b lastStamps (itemAt d j)) (λ j. at b lastValues (itemAt d j));
+      last = endedIn b d;
     }
 
 abbrev pub versionIn : List ℕ → ℕ → Version
@@ -134,7 +148,7 @@ unfoldable pub wellFormed : List ℕ → Bool
 wellFormed b =
     leb needed (length b) && sizesInRange (sizesIn b) && leb (at b header versionsAt) mostVersions
     && leb (at b header messagesAt) mostMessages
-    && everyClient (sizesIn b) (λ d. modeFits b d && ltb (at b scalars (lastKindAt d)) 3)
+    && everyClient (sizesIn b) (λ d. modeFits b d && isKind (at b scalars (lastKindAt d)))
     && every (at b header messagesAt) (λ i. leb 1 (kindIn b i) && leb (kindIn b i) kinds)
 
 -- not refused by 1: the words are those of tables that are in range and within the capacities

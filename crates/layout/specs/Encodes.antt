@@ -1,6 +1,6 @@
 -- When a block holds tables, word by word, with no mention of the decoder.
-use mathlib.Core.Bool.{Bool, true, false, cond}
-use mathlib.Core.List.{List, [], _∷_}
+use mathlib.Core.Bool.{true, false, cond}
+use mathlib.Core.List.{List}
 use mathlib.Core.Path.{_≡_}
 use Prim.Native.Nat.{ℕ, zero, suc, _+_, _^_, _≤_, _<_}
 use lib.ListN.{length, getD}
@@ -8,7 +8,7 @@ use Rattle.itemset.specs.Set.{has}
 use Rattle.protocol.specs.declared.Version.{Version}
 use Rattle.protocol.specs.declared.Entry.{Entry}
 use Rattle.protocol.specs.declared.Message.{Message}
-use Rattle.protocol.specs.Tables.{Tables, Client, ReadPart, WritePart, Ended, nothing, read, write}
+use Rattle.protocol.specs.Tables.{Tables, Client, ReadPart, WritePart, Ended, showsRead, showsWrite}
 use Rattle.protocol.specs.Message.{kindOf}
 use Rattle.protocol.specs.Range.{isIdle, isWriting}
 use Rattle.layout.specs.Layout.{Section, header, scalars, latest, views, asked, values}
@@ -23,11 +23,6 @@ use Rattle.layout.specs.Store.{wordOf}
 
 abbrev pub numberOfMode : Client → ℕ
 numberOfMode c = cond (isIdle c) 0 (cond (isWriting c) 2 1)
-
-abbrev pub numberOfEnded : Ended → ℕ
-numberOfEnded nothing = 0
-numberOfEnded (read s stamps vs) = 1
-numberOfEnded (write s stamp vs) = 2
 
 -- ---- field by field
 
@@ -59,31 +54,42 @@ abbrev pub HoldsMessage : List ℕ → ℕ → Message → Type 0
 HoldsMessage b i m = (f : ℕ) → f < messageWords → has (used (kindOf m)) f ≡ true
     → word b i f ≡ wordOf m f
 
--- the last ended transaction of client d: its set's items, and no others
+-- these words are a read part's and a write part's: for the items of its set, and no others
+pub record HeldRead (s awaits : ℕ) (stamps vs : ℕ → ℕ) (p : ReadPart) : Type 0 where
+  pub set : s ≡ p .set
+  pub awaited : awaits ≡ p .awaited
+  pub asked : (k : ℕ) → has (p .set) k ≡ true → stamps k ≡ p .asked k
+  pub values : (k : ℕ) → has (p .set) k ≡ true → vs k ≡ p .values k
+
+pub record HeldWrite (s awaits σ : ℕ) (vs : ℕ → ℕ) (p : WritePart) : Type 0 where
+  pub set : s ≡ p .set
+  pub awaited : awaits ≡ p .awaited
+  pub stamp : σ ≡ p .stamp
+  pub values : (k : ℕ) → has (p .set) k ≡ true → vs k ≡ p .values k
+
+-- and an ended transaction's: its kind and the parts that it shows, with nothing awaited
+pub record HeldEnded (n s σ : ℕ) (stamps vs : ℕ → ℕ) (e : Ended) : Type 0 where
+  pub kind : n ≡ e .kind
+  pub read : showsRead (e .kind) ≡ true → HeldRead s 0 stamps vs (e .read)
+  pub write : showsWrite (e .kind) ≡ true → HeldWrite s 0 σ vs (e .write)
+
+-- the last ended transaction of client d
 abbrev pub HoldsEnded : List ℕ → ℕ → Ended → Type 0
-HoldsEnded b d nothing = at b scalars (lastKindAt d) ≡ 0
-HoldsEnded b d (read s stamps vs) =
-    (at b scalars (lastKindAt d) ≡ 1) × (at b scalars (lastSetAt d) ≡ s)
-    × ((k : ℕ) → has s k ≡ true → at b lastStamps (itemAt d k) ≡ stamps k)
-    × ((k : ℕ) → has s k ≡ true → at b lastValues (itemAt d k) ≡ vs k)
-HoldsEnded b d (write s stamp vs) =
-    (at b scalars (lastKindAt d) ≡ 2) × (at b scalars (lastSetAt d) ≡ s)
-    × (at b scalars (lastStampAt d) ≡ stamp)
-    × ((k : ℕ) → has s k ≡ true → at b lastValues (itemAt d k) ≡ vs k)
+HoldsEnded b d e =
+    HeldEnded (at b scalars (lastKindAt d)) (at b scalars (lastSetAt d))
+    (at b scalars (lastStampAt d)) (λ k. at b lastStamps (itemAt d k))
+    (λ k. at b lastValues (itemAt d k)) e
 
--- the words of the transaction under way, as a read part and as a write part of client d: for the
--- items of its set, and no others
-pub record HoldsRead (b : List ℕ) (d : ℕ) (p : ReadPart) : Type 0 where
-  pub set : at b scalars (setAt d) ≡ p .set
-  pub awaited : at b scalars (awaitedAt d) ≡ p .awaited
-  pub asked : (k : ℕ) → has (p .set) k ≡ true → at b asked (itemAt d k) ≡ p .asked k
-  pub values : (k : ℕ) → has (p .set) k ≡ true → at b values (itemAt d k) ≡ p .values k
+-- the words of the transaction under way, as a read part and as a write part of client d
+abbrev pub HoldsRead : List ℕ → ℕ → ReadPart → Type 0
+HoldsRead b d p =
+    HeldRead (at b scalars (setAt d)) (at b scalars (awaitedAt d)) (λ k. at b asked (itemAt d k))
+    (λ k. at b values (itemAt d k)) p
 
-pub record HoldsWrite (b : List ℕ) (d : ℕ) (p : WritePart) : Type 0 where
-  pub set : at b scalars (setAt d) ≡ p .set
-  pub awaited : at b scalars (awaitedAt d) ≡ p .awaited
-  pub stamp : at b scalars (stampAt d) ≡ p .stamp
-  pub values : (k : ℕ) → has (p .set) k ≡ true → at b values (itemAt d k) ≡ p .values k
+abbrev pub HoldsWrite : List ℕ → ℕ → WritePart → Type 0
+HoldsWrite b d p =
+    HeldWrite (at b scalars (setAt d)) (at b scalars (awaitedAt d)) (at b scalars (stampAt d))
+    (λ k. at b values (itemAt d k)) p
 
 -- they are those of the write part, where there is one, and else of the read part
 pub record HoldsClient (b : List ℕ) (d : ℕ) (c : Client) : Type 0 where

@@ -1,7 +1,2 @@
--- The proofs of `lines`, and the laws that they share.
+-- The laws of one line.
 mod Calls
-pub mod Unmade
-mod Kept
-pub mod Feeding
-pub mod Whole
-mod Examples

@@ -1,3 +1,2 @@
--- The definitions that the contracts of `lines` cite.
+-- What a line does and how it is answered.
 pub mod Lines
-pub mod Input

@@ -6,7 +6,7 @@ use Prim.Native.Nat.{ℕ}
 use lib.ListN.{replicate}
 use Rattle.protocol.specs.declared.Answer.{Answer}
 use Rattle.protocol.specs.declared.Answer.the-variants.{Refused}
-use Rattle.protocol.specs.Frame.{mostLogFrame}
+use Rattle.protocol.specs.LogFrame.{mostLogFrame}
 use Rattle.protocol.specs.Calls.{startRead, startWrite, deliver, show}
 use Rattle.range.specs.Sized.{sizes}
 use Rattle.block_calls.specs.Calls.{freshAnswerOn, freshAfter, answerOn, outputOn, blockAfter}

@@ -1,6 +1,4 @@
 // A line of the store's driver: parsed, carried out on the block, and answered by a line (document 01: store frames).
-pub mod input;
-
 use protocol::Answer;
 use store_frames::MOST_FRAME;
 use store_frames::MOST_LOG_FRAME;
@@ -26,11 +24,11 @@ fn call(b: &mut [u64], frame: StoreFrame, f: &[u8], shown: &mut [u8]) -> Answer
             clients,
             partitions,
             items,
-        } => store::calls::fresh(b, clients, partitions, items),
-        StoreFrame::Read { client, set } => store::calls::start_read(b, client, set),
-        StoreFrame::Write { client, set } => store::calls::start_write(b, client, set, &f[10..]),
-        StoreFrame::Deliver { place } => store::calls::deliver(b, place),
-        StoreFrame::Show { client } => store::calls::show(b, client, shown),
+        } => store_calls::fresh(b, clients, partitions, items),
+        StoreFrame::Read { client, set } => store_calls::start_read(b, client, set),
+        StoreFrame::Write { client, set } => store_calls::start_write(b, client, set, &f[10..]),
+        StoreFrame::Deliver { place } => deliver_call::deliver(b, place),
+        StoreFrame::Show { client } => store_calls::show(b, client, shown),
     }
 }
 
@@ -55,7 +53,7 @@ fn carry_out(b: &mut [u64], line: &[u8], shown: &mut [u8]) -> Answer
     ensures { λ _. ⌜ now (shown .exit) ≡ parsedOutput (now (b .entry)) (frameBytes (now (line .entry))) (now (shown .entry)) (storeFrameOf (now (line .entry))) ⌝ }
 {
     let mut bytes = blank_frame();
-    let parsed = store_frames::read_frame(line, &mut bytes);
+    let parsed = frame_reader::read_frame(line, &mut bytes);
     let Parsed::Frame { frame, length } = parsed else {
         return Answer::Refused(15);
     };
@@ -70,5 +68,5 @@ pub fn answer_line(b: &mut [u64], line: &[u8], output: &mut [u8; MOST_REPLY]) ->
 {
     let mut shown = blank_output();
     let answer = carry_out(b, line, &mut shown);
-    store_frames::put_answer(answer, &shown, output)
+    answer_writer::put_answer(answer, &shown, output)
 }

@@ -1,15 +1,18 @@
 -- A showing's frame gives back what it shows: its length, its head, and of each item the stamp and
 -- the value, read at the item's rank. Entries are of equal length, so the entry of a place begins
 -- at a multiple of it.
-use mathlib.Core.Bool.{true}
+use mathlib.Core.Bool.{true, false, cond}
 use mathlib.Core.List.{List, [], _∷_, _++_, append-assoc}
 use mathlib.Core.Path.{_≡_, refl, sym, ap, ap₂, _∙_}
 use Prim.Native.Nat.{ℕ, zero, suc, _+_, _*_, _%_, _^_, _≤_, _<_}
 use native.Mathlib.Nat.{mul-zero, mul-suc, zero-add, mod-eq-of-lt, not-suc-le-zero}
 use native.Mathlib.Nat.{le-of-suc-le-suc}
 use native.Mathlib.Omega.{arith}
+use lib.Dec.{eqb}
 use lib.ListN.{length, getD, take, length-append}
 use lib.Seq.{take-at}
+use borrow.Author.Tests.{eqb-true}
+use Rattle.basics.proofs.Cases.{by-test, not-both}
 use Rattle.hex.specs.Number.{numberAt, bigEndian}
 use Rattle.hex.proofs.Number.{length-bigEndian, numberAt-append, numberAt-append-add}
 use Rattle.hex.proofs.Number.{numberAt-append-bigEndian}
@@ -17,8 +20,10 @@ use Rattle.itemset.specs.Set.{has, count, rank, members}
 use Rattle.itemset.proofs.Laws.{has-below}
 use Rattle.itemset.proofs.Counts.{rank-lt}
 use Rattle.itemset.proofs.Members.{length-members, members-at}
-use Rattle.protocol.specs.Tables.{read, write, stampOf, numberOf, writerOf}
-use Rattle.protocol.specs.Frame.{listed, shownEntry, withRead, withWrite, frame}
+use Rattle.protocol.specs.Tables.{ReadPart, WritePart, Ended, showsRead, showsWrite, numberOf}
+use Rattle.protocol.specs.Tables.{writerOf}
+use Rattle.protocol.specs.LogFrame.{listed, shownEntry, readBytes, writeBytes, frameByte}
+use Rattle.protocol.specs.LogFrame.{frame}
 
 -- ---- entries of n bytes each
 
@@ -48,147 +53,167 @@ module _ (f : ℕ → List ℕ) (n : ℕ) (each : (k : ℕ) → length (f k) ≡
 
 -- kind, client and set: what every frame begins with
 abbrev head : ℕ → ℕ → ℕ → List ℕ
-head kind d s = kind ∷ bigEndian 1 d ++ bigEndian 8 s
+head byte d s = byte ∷ bigEndian 1 d ++ bigEndian 8 s
 
 -- the entry of item k in what a read shows, and those of all its items
-abbrev entryOf : (ℕ → ℕ) → (ℕ → ℕ) → ℕ → List ℕ
-entryOf stamps values k = shownEntry (stamps k) (values k)
+abbrev entryOf : ReadPart → ℕ → List ℕ
+entryOf p k = shownEntry (p .asked k) (p .values k)
 
-abbrev entries : ℕ → (ℕ → ℕ) → (ℕ → ℕ) → List ℕ
-entries s stamps values = listed (entryOf stamps values) (members 64 s)
+abbrev entries : ReadPart → List ℕ
+entries p = listed (entryOf p) (members 64 (p .set))
 
-length-head : (kind d s : ℕ) → length (head kind d s) ≡ 10
-length-head kind d s = simp (length-append, length-bigEndian)
+length-head : (byte d s : ℕ) → length (head byte d s) ≡ 10
+length-head byte d s = simp (length-append, length-bigEndian)
 
-length-entryOf : (stamps values : ℕ → ℕ) (k : ℕ) → length (entryOf stamps values k) ≡ 9
-length-entryOf stamps values k = simp (length-append, length-bigEndian)
+length-entryOf : (p : ReadPart) (k : ℕ) → length (entryOf p k) ≡ 9
+length-entryOf p k = simp (length-append, length-bigEndian)
 
 -- ---- lengths
 
-pub length-with-read : (before : List ℕ) (s : ℕ) (stamps values : ℕ → ℕ) → s < 2 ^ 64
-    → length (withRead before s stamps values) ≡ length before + 8 + 9 * count s
-length-with-read before s stamps values below =
-    length-append (before ++ bigEndian 8 s) (entries s stamps values)
+pub length-read : (p : ReadPart) → length (readBytes p) ≡ 8 + 9 * length (members 64 (p .set))
+unfolding readBytes
+length-read p =
+    length-append (bigEndian 8 (p .set)) (entries p)
     ∙ omega (
       arith,
-      length-append before (bigEndian 8 s),
-      length-bigEndian 8 s,
-      length-listed (entryOf stamps values) 9
-          (length-entryOf stamps values) (members 64 s),
-      length-members s 64 below,
+      length-bigEndian 8 (p .set),
+      length-listed (entryOf p) 9 (length-entryOf p) (members 64 (p .set)),
     )
 
-pub length-with-write : (before : List ℕ) (s stamp : ℕ) (values : ℕ → ℕ) → s < 2 ^ 64
-    → length (withWrite before s stamp values) ≡ length before + 12 + 4 * count s
-length-with-write before s stamp values below =
-    let number = bigEndian 4 (numberOf stamp) in
-    length-append (before ++ bigEndian 8 s ++ number)
-    (listed (λ k. bigEndian 4 (values k)) (members 64 s))
+pub length-write : (p : WritePart) → length (writeBytes p) ≡ 12 + 4 * length (members 64 (p .set))
+unfolding writeBytes
+length-write p =
+    let number = bigEndian 4 (numberOf (p .stamp)) in
+    length-append (bigEndian 8 (p .set) ++ number)
+    (listed (λ k. bigEndian 4 (p .values k)) (members 64 (p .set)))
     ∙ omega (
       arith,
-      length-append (before ++ bigEndian 8 s) number,
-      length-append before (bigEndian 8 s),
-      length-bigEndian 8 s,
-      length-bigEndian 4
-          (numberOf stamp),
-      length-listed (λ k. bigEndian 4 (values k)) 4
-          (λ k. length-bigEndian 4 (values k)) (members 64 s),
-      length-members s 64 below,
+      length-append (bigEndian 8 (p .set)) number,
+      length-bigEndian 8 (p .set),
+      length-bigEndian 4 (numberOf (p .stamp)),
+      length-listed (λ k. bigEndian 4 (p .values k)) 4
+          (λ k. length-bigEndian 4 (p .values k)) (members 64 (p .set)),
     )
 
-pub length-frame-read : (d s : ℕ) (stamps values : ℕ → ℕ) → s < 2 ^ 64
-    → length (frame d (read s stamps values)) ≡ 10 + 9 * count s
+-- the bytes of the parts that a kind shows
+abbrev pub shownRead : Ended → List ℕ
+shownRead e = cond (showsRead (e .kind)) (readBytes (e .read)) []
+
+abbrev pub shownWrite : Ended → List ℕ
+shownWrite e = cond (showsWrite (e .kind)) (writeBytes (e .write)) []
+
+-- a frame is its head and these
+parts : (d : ℕ) (e : Ended) → eqb (e .kind) 0 ≡ false
+    → frame d e ≡ (frameByte (e .kind) ∷ bigEndian 1 d) ++ shownRead e ++ shownWrite e
 unfolding frame
-length-frame-read d s stamps values below =
-    omega (
+parts d e some = rw some refl
+
+pub length-frame : (d : ℕ) (e : Ended) → eqb (e .kind) 0 ≡ false
+    → length (frame d e) ≡ 2 + length (shownRead e) + length (shownWrite e)
+length-frame d e some =
+    let first = frameByte (e .kind) ∷ bigEndian 1 d in
+    ap length (parts d e some)
+    ∙ omega (
       arith,
-      length-with-read
-          (0x21 ∷ bigEndian 1 d) s stamps values below,
+      length-append (first ++ shownRead e) (shownWrite e),
+      length-append first (shownRead e),
       length-bigEndian 1 d,
     )
 
-pub length-frame-write : (d s stamp : ℕ) (values : ℕ → ℕ) → s < 2 ^ 64
-    → length (frame d (write s stamp values)) ≡ 14 + 4 * count s
-unfolding frame
-length-frame-write d s stamp values below =
-    omega (
-      arith,
-      length-with-write
-          (0x20 ∷ bigEndian 1 d) s stamp values below,
-      length-bigEndian 1 d,
-    )
+-- a kind that shows a read part is of an ended transaction
+shows-some : (kind : ℕ) → showsRead kind ≡ true → eqb kind 0 ≡ false
+shows-some kind s =
+    by-test (eqb kind 0) (λ z. not-both (rw (eqb-true kind 0 z) at s) refl) (λ z. z)
 
--- ---- what a read shows: the head
+pub length-frame-read : (d : ℕ) (e : Ended) → e .kind ≡ 1 → e .read .set < 2 ^ 64
+    → length (frame d e) ≡ 10 + 9 * count (e .read .set)
+length-frame-read d e kind below =
+    length-frame d e (rw kind refl)
+    ∙ rw kind (omega (arith, length-read (e .read), length-members (e .read .set) 64 below))
 
-module _ (d s : ℕ) (stamps values : ℕ → ℕ) (rest : List ℕ) where
-  pub frame-head : take 10 (frame d (read s stamps values) ++ rest) ≡ 0x21 ∷ d % 256 ∷ bigEndian 8 s
-  unfolding frame bigEndian
+-- ---- what a frame with a read part begins with
+
+regroup : (a b c w rest : List ℕ) → a ++ (b ++ c) ++ w ++ rest ≡ a ++ b ++ (c ++ (w ++ rest))
+regroup a b c w rest = simp append-assoc
+
+module _ (d : ℕ) (e : Ended) (shows : showsRead (e .kind) ≡ true) (rest : List ℕ) where
+  abbrev p : ReadPart
+  p = e .read
+
+  abbrev byte : ℕ
+  byte = frameByte (e .kind)
+
+  read-shown : shownRead e ≡ bigEndian 8 (p .set) ++ entries p
+  unfolding readBytes
+  read-shown = rw shows refl
+
+  split : frame d e ++ rest ≡ head byte d (p .set) ++ (entries p ++ (shownWrite e ++ rest))
+  split =
+      ap (λ (l : List ℕ). l ++ rest) (parts d e (shows-some (e .kind) shows)
+      ∙ ap (λ (l : List ℕ). (byte ∷ bigEndian 1 d) ++ l ++ shownWrite e) read-shown)
+      ∙ regroup (byte ∷ bigEndian 1 d) (bigEndian 8 (p .set)) (entries p) (shownWrite e) rest
+
+  pub frame-head : take 10 (frame d e ++ rest) ≡ byte ∷ d % 256 ∷ bigEndian 8 (p .set)
+  unfolding bigEndian
   frame-head =
-      rw append-assoc (take-at (head 0x21 d s) (entries s stamps values ++ rest) 10
-      (length-head 0x21 d s))
+      ap (take 10) split
+      ∙ take-at (head byte d (p .set)) (entries p ++ (shownWrite e ++ rest)) 10
+      (length-head byte d (p .set))
 
-  pub frame-head-client : d < 256 → take 10 (frame d (read s stamps values) ++ rest) ≡ 0x21 ∷ d
-      ∷ bigEndian 8 s
-  frame-head-client h = frame-head ∙ ap (λ (b : ℕ). 0x21 ∷ b ∷ bigEndian 8 s) (mod-eq-of-lt h)
+  pub frame-head-client : d < 256
+      → take 10 (frame d e ++ rest) ≡ byte ∷ d ∷ bigEndian 8 (p .set)
+  frame-head-client h = frame-head
+      ∙ ap (λ (b : ℕ). byte ∷ b ∷ bigEndian 8 (p .set)) (mod-eq-of-lt h)
 
--- ---- what a read shows: its item k
+  -- ---- and its item k
+  module _ (k : ℕ) (member : has (p .set) k ≡ true) (below : p .set < 2 ^ 64) where
+    -- what stands at j in the item's entry
+    pub shown-at : (m j : ℕ) → j + m ≤ 9
+        → numberAt m (frame d e ++ rest) (10 + j + 9 * rank (p .set) k) ≡ numberAt m (entryOf p k) j
+    shown-at m j h =
+        let s = p .set in
+        let place : 10 + j + 9 * rank s k ≡ length (head byte d s) + (9 * rank s k + j) =
+        omega (arith, length-head byte d s) in
+        let inside : rank s k < length (members 64 s) =
+        omega (arith, rank-lt s k member, length-members s 64 below) in
+        ap₂ (numberAt m) split place
+        ∙ numberAt-append-add m (head byte d s) (entries p ++ (shownWrite e ++ rest))
+        (9 * rank s k + j)
+        ∙ listed-at (entryOf p) 9 (length-entryOf p) (members 64 s) (shownWrite e ++ rest) m
+        (rank s k) j h inside
+        ∙ ap (λ (i : ℕ). numberAt m (entryOf p i) j)
+        (members-at s k 64 (has-below s k 64 below member) member)
 
-module _ (d s : ℕ) (stamps values : ℕ → ℕ) (rest : List ℕ) (k : ℕ) (member : has s k ≡ true)
-    (below : s < 2 ^ 64) where
-  -- what stands at j in the item's entry
-  pub shown-at : (m j : ℕ) → j + m ≤ 9
-      → numberAt m (frame d (read s stamps values) ++ rest) (10 + j + 9 * rank s k) ≡ numberAt m
-      (shownEntry (stamps k) (values k)) j
-  unfolding frame
-  shown-at m j h =
-      let first : length (head 0x21 d s) ≡ 10 = length-head 0x21 d s in
-      let place : 10 + j + 9 * rank s k ≡ length (head 0x21 d s) + (9 * rank s k + j) =
-      omega arith in
-      let inside : rank s k < length (members 64 s) =
-      omega (arith, rank-lt s k member, length-members s 64 below) in
-      ap₂ (numberAt m) (append-assoc (head 0x21 d s) (entries s stamps values) rest) place
-      ∙ numberAt-append-add m (head 0x21 d s) (entries s stamps values ++ rest) (9 * rank s k + j)
-      ∙ listed-at (entryOf stamps values) 9 (length-entryOf stamps values) (members 64 s) rest m
-      (rank s k) j h inside
-      ∙ ap (λ (i : ℕ). numberAt m (entryOf stamps values i) j)
-      (members-at s k 64 (has-below s k 64 below member) member)
+    -- a number that is written between two parts of the item's entry
+    shown-field : (m x : ℕ) (before after : List ℕ)
+        → entryOf p k ≡ before ++ bigEndian m x ++ after → x < 256 ^ m
+        → numberAt m (frame d e ++ rest) (10 + length before + 9 * rank (p .set) k) ≡ x
+    shown-field m x before after q h =
+        let whole : length (before ++ bigEndian m x ++ after) ≡ 9 =
+        rw q at (length-entryOf p k) in
+        let parts : length before + length (bigEndian m x) + length after ≡ 9 =
+        simp length-append at whole in
+        shown-at m (length before) (omega (arith, length-bigEndian m x))
+        ∙ ap (λ (t : List ℕ). numberAt m t (length before)) q
+        ∙ numberAt-append-bigEndian m x before after h
 
-  -- a number that is written between two parts of the item's entry
-  shown-field : (m x : ℕ) (before after : List ℕ)
-      → entryOf stamps values k ≡ before ++ bigEndian m x ++ after → x < 256 ^ m
-      → numberAt m (frame d (read s stamps values) ++ rest) (10 + length before + 9 * rank s k) ≡ x
-  shown-field m x before after e h =
-      let whole : length (before ++ bigEndian m x ++ after) ≡ 9 =
-      rw e at (length-entryOf stamps values k) in
-      let parts : length before + length (bigEndian m x) + length after ≡ 9 =
-      simp length-append at whole in
-      shown-at m (length before) (omega (arith, length-bigEndian m x))
-      ∙ ap (λ (t : List ℕ). numberAt m t (length before)) e
-      ∙ numberAt-append-bigEndian m x before after h
+    pub shown-number : numberOf (p .asked k) < 2 ^ 32
+        → numberAt 4 (frame d e ++ rest) (10 + 9 * rank (p .set) k) ≡ numberOf (p .asked k)
+    unfolding bigEndian
+    shown-number h =
+        shown-field 4 (numberOf (p .asked k)) []
+        (bigEndian 1 (writerOf (p .asked k)) ++ bigEndian 4 (p .values k)) refl h
 
-  pub shown-number : numberOf (stamps k) < 2 ^ 32
-      → numberAt 4 (frame d (read s stamps values) ++ rest) (10 + 9 * rank s k) ≡ numberOf
-      (stamps k)
-  unfolding bigEndian
-  shown-number h =
-      shown-field 4 (numberOf (stamps k)) []
-      (bigEndian 1 (writerOf (stamps k)) ++ bigEndian 4 (values k)) refl h
+    pub shown-writer : numberAt 1 (frame d e ++ rest) (14 + 9 * rank (p .set) k)
+        ≡ writerOf (p .asked k)
+    unfolding bigEndian
+    shown-writer =
+        shown-field 1 (writerOf (p .asked k)) (bigEndian 4 (numberOf (p .asked k)))
+        (bigEndian 4 (p .values k)) refl (omega arith)
 
-  pub shown-writer : numberAt 1 (frame d (read s stamps values) ++ rest)
-      (14 + 9 * rank s k) ≡ writerOf (stamps k)
-  unfolding bigEndian
-  shown-writer =
-      shown-field 1 (writerOf (stamps k)) (bigEndian 4 (numberOf (stamps k)))
-      (bigEndian 4 (values k)) refl (omega arith)
-
-  pub shown-value : values k < 2 ^ 32
-      → numberAt 4 (frame d (read s stamps values) ++ rest) (15 + 9 * rank s k) ≡ values k
-  unfolding bigEndian
-  shown-value h =
-      shown-field 4 (values k) (bigEndian 4 (numberOf (stamps k)) ++ bigEndian 1
-      (writerOf (stamps k))) [] refl h
-
-  pub shown-stamp : numberOf (stamps k) < 2 ^ 32
-      → stampOf (numberAt 4 (frame d (read s stamps values) ++ rest) (10 + 9 * rank s k))
-      (numberAt 1 (frame d (read s stamps values) ++ rest) (14 + 9 * rank s k)) ≡ stamps k
-  shown-stamp h = omega (arith, shown-number h, shown-writer)
+    pub shown-value : p .values k < 2 ^ 32
+        → numberAt 4 (frame d e ++ rest) (15 + 9 * rank (p .set) k) ≡ p .values k
+    unfolding bigEndian
+    shown-value h =
+        shown-field 4 (p .values k) (bigEndian 4 (numberOf (p .asked k)) ++ bigEndian 1
+        (writerOf (p .asked k))) [] refl h

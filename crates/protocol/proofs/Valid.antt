@@ -13,7 +13,7 @@ use Rattle.protocol.proofs.Ranges.Tables.{InRange, Valid, facts-valid}
 use Rattle.protocol.proofs.Keeps.{keeps}
 use Rattle.protocol.proofs.Put.{total-none}
 use Rattle.protocol.proofs.Load.{arrived-none}
-use Rattle.protocol.proofs.Kept.Values.{range-resting}
+use Rattle.protocol.proofs.Kept.Values.{range-nothing, range-resting}
 
 pub valid-kept : (caps : Capacities) (t : Tables) (c : Call) → refusal caps t c ≡ 0
     → Valid caps (effect t c)
@@ -42,7 +42,7 @@ range-fresh z h =
       sizes = h;
       latest = λ k l. entry-initial z;
       view = λ d i k l. entry-initial z;
-      client = λ d i. range-resting z 0 nothing (omega arith) tt;
+      client = λ d i. range-resting z 0 nothing (omega arith) (range-nothing z);
       versions = λ v i. absurd i;
       messages = λ m i. absurd i;
     }

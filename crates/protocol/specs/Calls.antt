@@ -1,6 +1,6 @@
 -- The calls: the refusal table, answers with document 01's numbers and bytes, and what each call
 -- gives.
-use mathlib.Core.Bool.{Bool, true, false, cond, not, _&&_, _||_}
+use mathlib.Core.Bool.{Bool, false, cond, not, _&&_, _||_}
 use mathlib.Core.List.{List, [], _∷_, _++_}
 use Prim.Native.Nat.{ℕ, zero, suc, _+_, _*_, _^_}
 use lib.Dec.{eqb, ltb, leb}
@@ -12,14 +12,13 @@ use Rattle.protocol.specs.declared.Message.the-variants.{Prepare, Prepar
 use Rattle.protocol.specs.declared.Answer.{Answer}
 use Rattle.protocol.specs.declared.Answer.the-variants.{Refused, Made, Started, Delivered}
 use Rattle.protocol.specs.declared.Answer.the-variants.{Shown}
-use Rattle.protocol.specs.Tables.{Sizes, Tables, Ended, nothing, read, write}
-use Rattle.protocol.specs.Tables.{WritePart, writerOf}
+use Rattle.protocol.specs.Tables.{Sizes, Tables, WritePart, Ended, writerOf}
 use Rattle.protocol.specs.Message.{partsOf, kindOf, isPrepare, isGet, itemOf}
 use Rattle.protocol.specs.Range.{Capacities, valid, sizesInRange, isClient, isIdle, load}
 use Rattle.protocol.specs.Range.{occupied}
 use Rattle.protocol.specs.Steps.{startedRead, startedWrite, deliveredAt, messageAt, stored}
 use Rattle.protocol.specs.Steps.{deliveryOf, gets, prepares, writer, joined}
-use Rattle.protocol.specs.Frame.{frame}
+use Rattle.protocol.specs.LogFrame.{frame}
 
 -- The calls that follow a fresh start. A write brings its value bytes, a showing the lent output.
 pub data Call : Type 0 where
@@ -67,9 +66,7 @@ missing t m =
 
 -- 13: no transaction has ended
 unfoldable pub isNothing : Ended → Bool
-isNothing nothing = true
-isNothing (read s stamps values) = false
-isNothing (write s stamp values) = false
+isNothing e = eqb (e .kind) 0
 
 abbrev pub shownFrame : Tables → ℕ → List ℕ
 shownFrame t d = frame d (t .client d .last)

@@ -4,5 +4,5 @@ pub mod Tables
 pub mod Message
 pub mod Range
 pub mod Steps
-pub mod Frame
+pub mod LogFrame
 pub mod Calls

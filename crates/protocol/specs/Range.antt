@@ -1,6 +1,6 @@
 -- What is in range, and the load (document 01, 'Tables'): the fields that a block's words are held
 -- to.
-use mathlib.Core.Bool.{Bool, true, cond, not, _&&_, _||_}
+use mathlib.Core.Bool.{Bool, cond, not, _&&_, _||_}
 use Prim.Native.Nat.{ℕ, zero, suc, _+_, _-_, _^_}
 use lib.Dec.{eqb, ltb, leb}
 use lib.ListN.{length}
@@ -9,8 +9,8 @@ use Rattle.itemset.specs.Set.{has, count, allBelow}
 use Rattle.protocol.specs.declared.Version.{Version}
 use Rattle.protocol.specs.declared.Entry.{Entry}
 use Rattle.protocol.specs.declared.Message.{Message}
-use Rattle.protocol.specs.Tables.{Sizes, Tables, Client, ReadPart, WritePart, Ended, nothing}
-use Rattle.protocol.specs.Tables.{read, write, numberOf, writerOf}
+use Rattle.protocol.specs.Tables.{Sizes, Tables, Client, ReadPart, WritePart, Ended, isKind}
+use Rattle.protocol.specs.Tables.{showsRead, showsWrite, numberOf, writerOf}
 use Rattle.protocol.specs.Message.{partsOf, isPrepare, namesClient}
 
 -- counts are at most 4,294,967,295 and values of 32 bits
@@ -66,13 +66,6 @@ messageInRange z m =
 abbrev pub each : Sizes → ℕ → (ℕ → Bool) → Bool
 each z s p = every (z .items) (λ k. not (has s k) || p k)
 
-unfoldable pub endedInRange : Sizes → Ended → Bool
-endedInRange z nothing = true
-endedInRange z (read s stamps values) =
-    allBelow s (z .items) && each z s (λ k. stampInRange z (stamps k) && fits (values k))
-endedInRange z (write s stamp values) =
-    allBelow s (z .items) && stampInRange z stamp && each z s (λ k. fits (values k))
-
 -- a client is idle exactly when it awaits no item, of either part
 abbrev pub isIdle : Client → Bool
 isIdle c = eqb (c .read .awaited) 0 && eqb (c .write .awaited) 0
@@ -93,6 +86,13 @@ writePartInRange z p =
     && each z (p .awaited) (has (p .set))
     && stampInRange z (p .stamp)
     && each z (p .set) (λ k. fits (p .values k))
+
+-- a last ended transaction is of a kind that there is, with the parts that it shows in range
+unfoldable pub endedInRange : Sizes → Ended → Bool
+endedInRange z e =
+    let kind = e .kind in
+    isKind kind && (not (showsRead kind) || readPartInRange z (e .read))
+    && (not (showsWrite kind) || writePartInRange z (e .write))
 
 -- a write part awaits an item, and there is no read part beside it
 unfoldable pub clientInRange : Sizes → Client → Bool

@@ -11,9 +11,9 @@ use Rattle.protocol.specs.declared.Version.{Version}
 use Rattle.protocol.specs.declared.Entry.{Entry}
 use Rattle.protocol.specs.declared.Message.{Message}
 use Rattle.protocol.specs.declared.Message.the-variants.{Prepare, Prepared, Commit, Get, Got}
-use Rattle.protocol.specs.Tables.{Tables, Client, Ended, read, write, Side, ofRead, ofWrite}
-use Rattle.protocol.specs.Tables.{noRead, noWrite, stampOf, writerOf, laterOf, rested}
-use Rattle.protocol.specs.Tables.{partitionOf, put, withClient, withView, withLatest}
+use Rattle.protocol.specs.Tables.{Tables, Client, ReadPart, WritePart, Ended, Side, ofRead}
+use Rattle.protocol.specs.Tables.{ofWrite, noRead, noWrite, stampOf, writerOf, laterOf}
+use Rattle.protocol.specs.Tables.{rested, partitionOf, put, withClient, withView, withLatest}
 use Rattle.protocol.specs.Tables.{withVersions, withMessages, withCount, withRead, withWrite}
 
 -- ---- Start a read
@@ -115,12 +115,23 @@ abbrev pub isLast : Side → Client → ℕ → Bool
 isLast ofRead c k = eqb (remove (c .read .awaited) k) 0 && eqb (c .write .awaited) 0
 isLast ofWrite c k = eqb (c .read .awaited) 0 && eqb (remove (c .write .awaited) k) 0
 
--- the transaction of c, as an ended one
+-- a part as it ended
+abbrev pub endedRead : ReadPart → ReadPart
+endedRead p =
+    record { set = p .set; awaited = 0; asked = p .asked; values = p .values }
+
+abbrev pub endedWrite : WritePart → WritePart
+endedWrite p =
+    record { set = p .set; awaited = 0; stamp = p .stamp; values = p .values }
+
+-- the transaction of c, as an ended one: a write where it has a write part, and else a read
 abbrev pub ended : Client → Ended
 ended c =
-    cond (eqb (c .write .set) 0)
-    (read (c .read .set) (c .read .asked) (c .read .values))
-    (write (c .write .set) (c .write .stamp) (c .write .values))
+    record {
+      kind = cond (eqb (c .write .set) 0) 1 2;
+      read = endedRead (c .read);
+      write = endedWrite (c .write);
+    }
 
 -- Prepared: with the last reply the client is idle
 abbrev pub prepared : Client → ℕ → Client

@@ -1,9 +1,9 @@
 -- The store's tables (document 01, 'Tables'), as values with no word of a block in them: a client
 -- is document 01's desk, a partition its cabinet, an item its line, the messages its pile.
-use mathlib.Core.Bool.{cond}
+use mathlib.Core.Bool.{Bool, cond}
 use mathlib.Core.List.{List, []}
 use Prim.Native.Nat.{ℕ, _+_, _*_, _/_, _%_}
-use lib.Dec.{eqb, ltb}
+use lib.Dec.{eqb, ltb, leb}
 use Rattle.protocol.specs.declared.Version.{Version}
 use Rattle.protocol.specs.declared.Entry.{Entry}
 use Rattle.protocol.specs.declared.Message.{Message}
@@ -32,13 +32,6 @@ laterOf present other = cond (ltb (present .stamp) (other .stamp)) other present
 
 -- ---- Client (desk)
 
--- the last ended transaction: none yet, a read with the stamps and values it shows, or a write with
--- its stamp and values
-pub data Ended : Type 0 where
-  nothing : Ended
-  read : (set : ℕ) (stamps values : ℕ → ℕ) → Ended
-  write : (set stamp : ℕ) (values : ℕ → ℕ) → Ended
-
 -- The transaction under way has a read part and a write part. Either may be empty: an ordinary read
 -- has no write part, an ordinary write no read part, and an idle client has neither.
 
@@ -61,6 +54,26 @@ noRead = record { set = 0; awaited = 0; asked = λ k. 0; values = λ k. 0 }
 
 abbrev pub noWrite : WritePart
 noWrite = record { set = 0; awaited = 0; stamp = 0; values = λ k. 0 }
+
+-- The last ended transaction: its kind, 0 none yet, 1 a read, 2 a write, and its parts as they
+-- ended, with nothing awaited.
+pub record Ended : Type 0 where
+  pub kind : ℕ
+  pub read : ReadPart
+  pub write : WritePart
+
+abbrev pub nothing : Ended
+nothing = record { kind = 0; read = noRead; write = noWrite }
+
+-- the kinds that there are, and which parts each shows; a later kind joins here
+unfoldable pub isKind : ℕ → Bool
+isKind kind = ltb kind 3
+
+abbrev pub showsRead : ℕ → Bool
+showsRead kind = eqb kind 1
+
+abbrev pub showsWrite : ℕ → Bool
+showsWrite kind = leb 2 kind
 
 pub record Client : Type 0 where
   -- writes started

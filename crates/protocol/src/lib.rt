@@ -1,7 +1,9 @@
-// The values that the store's calls pass around: versions, entries, messages and answers. The
-// tables, the steps and the refusals are definitions, in specs/.
+// The values that the store's calls pass around: versions, entries, messages and answers, and the
+// kinds of ended transactions. The tables, the steps and the refusals are definitions, in specs/.
 ghost use mathlib.Core.Path.{_≡_};
 ghost use Rattle.protocol.specs.Tables.{laterOf};
+
+pub mod kind;
 
 // A version of an item (document 01: line): its value, the stamp of the write that made it, and
 // that write's set.

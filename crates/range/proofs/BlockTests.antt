@@ -4,12 +4,12 @@ use mathlib.Core.List.{List}
 use mathlib.Core.Path.{_≡_, sym, _∙_}
 use Prim.Native.Nat.{ℕ, suc, _+_, _≤_, _<_, min}
 use native.Mathlib.Omega.{arith}
-use lib.Dec.{leb, ltb}
+use lib.Dec.{leb}
 use lib.ListN.{length}
 use borrow.Author.Tests.{lt-ltb, le-leb, lt-leb}
 use Rattle.basics.proofs.Cases.{by-test, not-both, test-ext}
 use Rattle.basics.specs.Lists.{every, all, table, counted}
-use Rattle.protocol.specs.Tables.{Sizes, initial, resting, nothing}
+use Rattle.protocol.specs.Tables.{Sizes, initial, resting, isKind, nothing}
 use Rattle.protocol.specs.Range.{sizesInRange, entryInRange, versionInRange, messageInRange}
 use Rattle.protocol.specs.Range.{clientInRange, inRange, valid}
 use Rattle.protocol.specs.Range.{isClient, isItem, everyClient, arrived, total, load}
@@ -69,7 +69,7 @@ module _ (b : List ℕ) where
       (entry-sized (z .clients) (z .partitions) (z .items) (viewIn b (suc i) k))))
 
   client-same : every (z .clients) (λ i. clientTest b (suc i) (z .clients) (z .items))
-      ≡ (everyClient z (λ d. modeFits b d && ltb (at b scalars (lastKindAt d)) 3)
+      ≡ (everyClient z (λ d. modeFits b d && isKind (at b scalars (lastKindAt d)))
       && everyClient z (λ d. clientInRange z (cond (isClient z d) (clientIn b d)
       (resting 0 nothing))))
   client-same =
@@ -117,7 +117,7 @@ module _ (b : List ℕ) where
       (regroup (leb needed (length b)) (sizesInRange z) (leb vs mostVersions) (leb ms mostMessages)
       (every (z .items) (λ k. entryInRange z (t .latest k)))
       (everyClient z (λ d. every (z .items) (λ k. entryInRange z (t .view d k))))
-      (everyClient z (λ d. modeFits b d && ltb (at b scalars (lastKindAt d)) 3))
+      (everyClient z (λ d. modeFits b d && isKind (at b scalars (lastKindAt d))))
       (everyClient z (λ d. clientInRange z (t .client d)))
       (all (versionInRange z) (t .versions))
       (every ms (λ i. leb 1 (kindIn b i) && leb (kindIn b i) kinds))

@@ -1,18 +1,19 @@
 -- The tests of a client, part by part, are the protocol's test of the client that its words are.
-use mathlib.Core.Bool.{Bool, true, false, not, Bool·beq, _&&_, _||_}
+use mathlib.Core.Bool.{Bool, true, false, cond, not, Bool·beq, _&&_, _||_, and-true}
 use mathlib.Core.List.{List}
 use mathlib.Core.Path.{_≡_, refl, sym, ap, ap₂, _∙_}
-use Prim.Native.Nat.{ℕ, zero, suc, _≤_, _<_, _^_}
+use Prim.Native.Nat.{ℕ, _≤_, _<_, _^_}
 use native.Mathlib.Omega.{arith}
 use lib.Bits.{bitAnd}
 use lib.Dec.{eqb, ltb, leb}
-use borrow.Author.Tests.{le-leb, lt-leb, leb-true, leb-false, ltb-true}
+use lib.Pow.{pow-pos}
+use borrow.Author.Tests.{le-leb, lt-leb, leb-true, leb-false, ltb-true, lt-ltb}
 use Rattle.basics.proofs.Cases.{by-test, or-right, beq-true, test-ext}
 use Rattle.basics.specs.Lists.{every}
 use Rattle.basics.proofs.Lists.{every-at, at-every}
 use Rattle.itemset.specs.Set.{has, allBelow}
 use Rattle.itemset.proofs.Laws.{has-empty}
-use Rattle.protocol.specs.Tables.{Sizes, noRead, noWrite, write}
+use Rattle.protocol.specs.Tables.{Sizes, noRead, noWrite, isKind, showsRead, showsWrite}
 use Rattle.protocol.specs.Range.{fits, each, stampInRange, endedInRange, readPartInRange}
 use Rattle.protocol.specs.Range.{writePartInRange, clientInRange}
 use Rattle.protocol.proofs.Tells.{tells-and}
@@ -21,10 +22,10 @@ use Rattle.protocol.proofs.Kept.Values.{range-no-read, range-no-write}
 use Rattle.layout.specs.Layout.{at, scalars, asked, values, lastStamps, lastValues, modeAt, setAt}
 use Rattle.layout.specs.Layout.{countAt, awaitedAt, stampAt, lastKindAt, lastSetAt, lastStampAt}
 use Rattle.layout.specs.Layout.{itemAt}
-use Rattle.layout.specs.Decode.{within, endedOf, clientIn}
+use Rattle.layout.specs.Decode.{within, lastReadIn, lastWriteIn, clientIn}
 use Rattle.gather.specs.Sized.{sized}
-use Rattle.range_client.specs.Clients.{askedTest, lastRead, lastWrite, lastTest, stateTest}
-use Rattle.range_client.specs.Clients.{valuesTest, clientTest}
+use Rattle.range_client.specs.Clients.{askedTest, lastReadTest, lastWriteTest, lastTest}
+use Rattle.range_client.specs.Clients.{stateTest, valuesTest, clientTest}
 use Rattle.gather.proofs.Sizes.{stamp-sized}
 use Rattle.range_client.proofs.Subsets.{subset-mask}
 use Rattle.gather.proofs.Tested.{every-same, every-both}
@@ -56,15 +57,6 @@ each-all z s p e = sym (at-every (z .items) _
 
 pub each-empty : (z : Sizes) (s : ℕ) (p : ℕ → Bool) → s ≡ 0 → true ≡ each z s p
 each-empty z s p e = sym (at-every (z .items) _ (λ k l. rw (e, has-empty k)))
-
--- ---- The last ended transaction
-
-ended-write : (n s stamp : ℕ) (stamps vs : ℕ → ℕ) → 2 ≤ n
-    → endedOf n s stamp stamps vs ≡ write s stamp (within s vs)
-unfolding endedOf
-ended-write zero s stamp stamps vs h = absurd (omega arith)
-ended-write (suc zero) s stamp stamps vs h = absurd (omega arith)
-ended-write (suc (suc n)) s stamp stamps vs h = refl
 
 -- ---- The same tests in another order, for a write part and for a read part
 
@@ -104,6 +96,12 @@ module _ (count own await mask inside stamps worth kind ended idle : Bool)
       let f = simp tells-and at e in
       let outer : mask ≡ true = same (search) ∙ search in
       simp tells-and search)
+
+-- a part that isn't shown isn't tested
+shown-same : {A : Type 0} (shows : Bool) (p : A → Bool) (part none : A)
+    → (not shows || p part) ≡ (not shows || p (cond shows part none))
+shown-same true p part none = refl
+shown-same false p part none = refl
 
 no-read-test : (z : Sizes) → readPartInRange z noRead ≡ true
 no-read-test z = tells-read-part z noRead .1 (range-no-read z)
@@ -155,53 +153,64 @@ module _ (b : List ℕ) (d clients items : ℕ) where
   abbrev worth : ℕ → ℕ
   worth k = at b lastValues (itemAt d k)
 
+  -- of its parts nothing is awaited
+  none-awaited : allBelow 0 items ≡ true
+  none-awaited = lt-ltb 0 (2 ^ items) (pow-pos items)
+
+  none-outside : (s : ℕ) → each z 0 (has s) ≡ true
+  none-outside s = sym (each-empty z 0 (has s) refl)
+
   read-whole : let s = at b scalars (lastSetAt d) in
       (allBelow s items && (each z s (λ k. stampInRange z (stamps k))
-      && each z s (λ k. fits (worth k)))) ≡ endedInRange z (lastRead b d)
-  unfolding endedInRange lastRead
+      && each z s (λ k. fits (worth k)))) ≡ readPartInRange z (lastReadIn b d)
+  unfolding readPartInRange
   read-whole =
       let s = at b scalars (lastSetAt d) in
-      ap (λ (x : Bool). allBelow s items && x)
+      rw (none-awaited, none-outside s, and-true _, and-true (allBelow s items))
+      (ap (λ (x : Bool). allBelow s items && x)
       (ap₂ _&&_ (each-within z s (stampInRange z) stamps) (each-within z s fits worth)
-      ∙ each-both z s (λ k. stampInRange z (within s stamps k)) (λ k. fits (within s worth k)))
+      ∙ each-both z s (λ k. stampInRange z (within s stamps k)) (λ k. fits (within s worth k))))
 
   pub read-tests : {s : ℕ} {below stamped valued : Bool} → below ≡ allBelow s items
       → stamped ≡ each z s (λ k. stampInRange z (stamps k))
       → valued ≡ each (sized 0 items) s (λ k. fits (worth k)) → s ≡ at b scalars (lastSetAt d)
-      → (below && (stamped && valued)) ≡ endedInRange z (lastRead b d)
+      → (below && (stamped && valued)) ≡ readPartInRange z (lastReadIn b d)
   read-tests p q r e = rw (p, q, r, e) read-whole
 
   write-whole : let s = at b scalars (lastSetAt d) in
       (allBelow s items && stampInRange z (at b scalars (lastStampAt d))
-      && each z s (λ k. fits (worth k))) ≡ endedInRange z (lastWrite b d)
-  unfolding endedInRange lastWrite
+      && each z s (λ k. fits (worth k))) ≡ writePartInRange z (lastWriteIn b d)
+  unfolding writePartInRange
   write-whole =
       let s = at b scalars (lastSetAt d) in
-      ap (λ (x : Bool). allBelow s items && stampInRange z (at b scalars (lastStampAt d)) && x)
-      (each-within z s fits worth)
+      rw (none-awaited, none-outside s, and-true _, and-true (allBelow s items))
+      (ap (λ (x : Bool). allBelow s items && stampInRange z (at b scalars (lastStampAt d)) && x)
+      (each-within z s fits worth))
 
   pub write-tests : {s stamp : ℕ} {below stamped valued : Bool} → below ≡ allBelow s items
       → stamped ≡ stampInRange (sized clients 0) stamp
       → valued ≡ each (sized 0 items) s (λ k. fits (worth k)) → s ≡ at b scalars (lastSetAt d)
       → stamp ≡ at b scalars (lastStampAt d)
-      → (below && stamped && valued) ≡ endedInRange z (lastWrite b d)
+      → (below && stamped && valued) ≡ writePartInRange z (lastWriteIn b d)
   write-tests p q r e f = rw (p, q, r, e, f, stamp-sized clients 0 items) write-whole
 
-  -- by the number of its kind
-  pub last-none : at b scalars (lastKindAt d) ≡ 0 → true ≡ lastTest b d clients items
-  unfolding clientIn endedOf endedInRange
-  last-none e = rw e
+  -- by its kind
+  last-whole : let kind = at b scalars (lastKindAt d) in
+      (isKind kind && lastReadTest b d kind clients items && lastWriteTest b d kind clients items)
+      ≡ lastTest b d clients items
+  unfolding clientIn endedInRange
+  last-whole =
+      let kind = at b scalars (lastKindAt d) in
+      by-test (isKind kind)
+      (λ e. rw e (ap₂ _&&_ (shown-same (showsRead kind) (readPartInRange z) _ _)
+      (shown-same (showsWrite kind) (writePartInRange z) _ _)))
+      (λ e. rw e refl)
 
-  pub last-read : {ok : Bool} → ok ≡ endedInRange z (lastRead b d) → at b scalars (lastKindAt d) ≡ 1
-      → ok ≡ lastTest b d clients items
-  unfolding clientIn endedOf lastRead
-  last-read p e = p ∙ rw e
-
-  pub last-write : {kind : ℕ} {ok : Bool} → ok ≡ endedInRange z (lastWrite b d)
-      → kind ≡ at b scalars (lastKindAt d) → 2 ≤ kind
-      → (ltb kind 3 && ok) ≡ lastTest b d clients items
-  unfolding clientIn lastWrite
-  last-write p e h = rw (p, e, ended-write (at b scalars (lastKindAt d)) _ _ _ _ (omega arith))
+  pub last-tests : {kind : ℕ} {known read write : Bool} → kind ≡ at b scalars (lastKindAt d)
+      → known ≡ isKind kind → read ≡ lastReadTest b d kind clients items
+      → write ≡ lastWriteTest b d kind clients items
+      → (known && read && write) ≡ lastTest b d clients items
+  last-tests k p q r = rw (p, q, r, k) last-whole
 
   -- ---- the whole client
 
@@ -229,7 +238,7 @@ module _ (b : List ℕ) (d clients items : ℕ) where
       (write-regroup (fits (at b scalars (countAt d))) (allBelow set items) (allBelow awaited items)
       (eqb (bitAnd awaited set) awaited) (each z awaited (has set))
       (stampInRange z (at b scalars (stampAt d))) (valuesTest b d items)
-      (ltb (at b scalars (lastKindAt d)) 3) (endedInRange z (clientIn b d .last)) (eqb awaited 0)
+      (isKind (at b scalars (lastKindAt d))) (endedInRange z (clientIn b d .last)) (eqb awaited 0)
       inside (eqb set 0))
 
   whole-other : mode < 2 → Whole
@@ -246,7 +255,7 @@ module _ (b : List ℕ) (d clients items : ℕ) where
       (read-regroup (fits (at b scalars (countAt d))) (allBelow set items) (allBelow awaited items)
       (eqb (bitAnd awaited set) awaited) (each z awaited (has set))
       (each z set (λ k. stampInRange z (at b asked (itemAt d k)))) (valuesTest b d items)
-      (ltb (at b scalars (lastKindAt d)) 3) (endedInRange z (clientIn b d .last)) (eqb awaited 0)
+      (isKind (at b scalars (lastKindAt d))) (endedInRange z (clientIn b d .last)) (eqb awaited 0)
       inside (ltb mode 3) (eqb mode 0))
 
   client-whole : Whole

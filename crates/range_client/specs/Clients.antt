@@ -1,15 +1,16 @@
 -- The test of a client, part by part, as `range` goes through it.
-use mathlib.Core.Bool.{Bool, cond, Bool·beq, _&&_}
+use mathlib.Core.Bool.{Bool, cond, not, Bool·beq, _&&_, _||_}
 use mathlib.Core.List.{List}
 use Prim.Native.Nat.{ℕ}
 use lib.Bits.{bitAnd}
 use lib.Dec.{eqb, ltb, leb}
 use Rattle.itemset.specs.Set.{allBelow}
-use Rattle.protocol.specs.Tables.{Ended, read, write}
-use Rattle.protocol.specs.Range.{fits, each, stampInRange, endedInRange, clientInRange}
-use Rattle.layout.specs.Layout.{at, scalars, asked, values, lastStamps, lastValues, modeAt, countAt}
-use Rattle.layout.specs.Layout.{setAt, stampAt, awaitedAt, lastKindAt, lastSetAt, lastStampAt, itemAt}
-use Rattle.layout.specs.Decode.{within, clientIn, modeFits}
+use Rattle.protocol.specs.Tables.{isKind, showsRead, showsWrite}
+use Rattle.protocol.specs.Range.{fits, each, stampInRange, readPartInRange, writePartInRange}
+use Rattle.protocol.specs.Range.{endedInRange, clientInRange}
+use Rattle.layout.specs.Layout.{at, scalars, asked, values, modeAt, countAt, setAt, stampAt}
+use Rattle.layout.specs.Layout.{awaitedAt, lastKindAt, itemAt}
+use Rattle.layout.specs.Decode.{lastReadIn, lastWriteIn, clientIn, modeFits}
 use Rattle.gather.specs.Sized.{sized}
 
 -- mode, count, set and awaited items; one mask tests that these lie in the set
@@ -34,24 +35,21 @@ abbrev pub valuesTest : List ℕ → ℕ → ℕ → Bool
 valuesTest b d items = each (sized 0 items) (at b scalars (setAt d))
     (λ k. fits (at b values (itemAt d k)))
 
--- the last ended transaction, as a read and as a write
-unfoldable pub lastRead : List ℕ → ℕ → Ended
-lastRead b d =
-    let s = at b scalars (lastSetAt d) in
-    read s (within s (λ k. at b lastStamps (itemAt d k)))
-    (within s (λ k. at b lastValues (itemAt d k)))
+-- the parts of the last ended transaction, each tested where its kind shows it; and the whole of it
+abbrev pub lastReadTest : List ℕ → ℕ → ℕ → ℕ → ℕ → Bool
+lastReadTest b d kind clients items =
+    not (showsRead kind) || readPartInRange (sized clients items) (lastReadIn b d)
 
-unfoldable pub lastWrite : List ℕ → ℕ → Ended
-lastWrite b d =
-    let s = at b scalars (lastSetAt d) in
-    write s (at b scalars (lastStampAt d)) (within s (λ k. at b lastValues (itemAt d k)))
+abbrev pub lastWriteTest : List ℕ → ℕ → ℕ → ℕ → ℕ → Bool
+lastWriteTest b d kind clients items =
+    not (showsWrite kind) || writePartInRange (sized clients items) (lastWriteIn b d)
 
 abbrev pub lastTest : List ℕ → ℕ → ℕ → ℕ → Bool
-lastTest b d clients items = ltb (at b scalars (lastKindAt d)) 3
+lastTest b d clients items = isKind (at b scalars (lastKindAt d))
     && endedInRange (sized clients items) (clientIn b d .last)
 
 -- the whole: numbers of some mode and of some ended transaction, and in range
 abbrev pub clientTest : List ℕ → ℕ → ℕ → ℕ → Bool
 clientTest b d clients items =
-    modeFits b d && ltb (at b scalars (lastKindAt d)) 3
+    modeFits b d && isKind (at b scalars (lastKindAt d))
     && clientInRange (sized clients items) (clientIn b d)

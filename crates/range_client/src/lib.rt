@@ -3,10 +3,10 @@ ghost use mathlib.Core.Path.{_≡_};
 ghost use Prim.Native.Nat.{suc, _+_, _≤_, _<_};
 ghost use lib.ListN.{length, getD};
 ghost use Rattle.basics.specs.Lists.{every};
-ghost use Rattle.protocol.specs.Range.{fits, each, stampInRange, endedInRange};
+ghost use Rattle.protocol.specs.Range.{fits, each, stampInRange};
 ghost use Rattle.layout.specs.Layout.{mostClients, mostItems, needed, base, lastValues, itemAt};
 ghost use Rattle.gather.specs.Sized.{sized};
-ghost use Rattle.range_client.specs.Clients.{askedTest, lastRead, lastWrite, lastTest, stateTest, valuesTest, clientTest};
+ghost use Rattle.range_client.specs.Clients.{askedTest, lastReadTest, lastWriteTest, lastTest, stateTest, valuesTest, clientTest};
 use gather::lacks;
 use gather::mixed;
 use gather::room;
@@ -18,6 +18,9 @@ use layout::LAST_STAMPS;
 use layout::LAST_VALUES;
 use layout::MOST_ITEMS;
 use layout::VALUES;
+use protocol::kind::is_kind;
+use protocol::kind::shows_read;
+use protocol::kind::shows_write;
 
 // The word of client `d` and item `k` in the section from `start` on.
 fn item_word(b: &[u64], start: u64, d: u64, k: u64) -> u64
@@ -131,26 +134,34 @@ fn asked_in_range(b: &[u64], d: u64, clients: u64, items: u64) -> bool
     }
 }
 
-// The last ended transaction, a read.
-fn read_in_range(b: &[u64], d: u64, clients: u64, items: u64) -> bool
+// The read part of the last ended transaction, where its kind shows one.
+fn read_in_range(b: &[u64], d: u64, kind: u64, clients: u64, items: u64) -> bool
     requires { ⌜ (1 ≤ d) × (d ≤ mostClients) × (clients ≤ mostClients) × (items ≤ mostItems) × (needed ≤ length (now b)) ⌝ }
-    ensures { λ r. ⌜ r ≡ endedInRange (sized clients items) (lastRead (now (b .entry)) d) ⌝ }
+    ensures { λ r. ⌜ r ≡ lastReadTest (now (b .entry)) d kind clients items ⌝ }
 {
-    let set = client_fields::last_set(b, d);
-    itemset::all_below(set, items)
-        & (stamps_in_range(b, LAST_STAMPS, d, set, clients, items)
-            & values_in_range(b, LAST_VALUES, d, set, items))
+    if shows_read(kind) {
+        let set = client_fields::last_set(b, d);
+        itemset::all_below(set, items)
+            & (stamps_in_range(b, LAST_STAMPS, d, set, clients, items)
+                & values_in_range(b, LAST_VALUES, d, set, items))
+    } else {
+        true
+    }
 }
 
-// The last ended transaction, a write.
-fn write_in_range(b: &[u64], d: u64, clients: u64, items: u64) -> bool
+// Its write part, likewise.
+fn write_in_range(b: &[u64], d: u64, kind: u64, clients: u64, items: u64) -> bool
     requires { ⌜ (1 ≤ d) × (d ≤ mostClients) × (clients ≤ mostClients) × (items ≤ mostItems) × (needed ≤ length (now b)) ⌝ }
-    ensures { λ r. ⌜ r ≡ endedInRange (sized clients items) (lastWrite (now (b .entry)) d) ⌝ }
+    ensures { λ r. ⌜ r ≡ lastWriteTest (now (b .entry)) d kind clients items ⌝ }
 {
-    let set = client_fields::last_set(b, d);
-    itemset::all_below(set, items)
-        & stamp_in_range(clients, client_fields::last_stamp(b, d))
-        & values_in_range(b, LAST_VALUES, d, set, items)
+    if shows_write(kind) {
+        let set = client_fields::last_set(b, d);
+        itemset::all_below(set, items)
+            & stamp_in_range(clients, client_fields::last_stamp(b, d))
+            & values_in_range(b, LAST_VALUES, d, set, items)
+    } else {
+        true
+    }
 }
 
 fn last_in_range(b: &[u64], d: u64, clients: u64, items: u64) -> bool
@@ -158,13 +169,9 @@ fn last_in_range(b: &[u64], d: u64, clients: u64, items: u64) -> bool
     ensures { λ r. ⌜ r ≡ lastTest (now (b .entry)) d clients items ⌝ }
 {
     let kind = client_fields::last_kind(b, d);
-    if kind == 0 {
-        return true;
-    }
-    if kind == 1 {
-        return read_in_range(b, d, clients, items);
-    }
-    (kind < 3) & write_in_range(b, d, clients, items)
+    is_kind(kind)
+        & read_in_range(b, d, kind, clients, items)
+        & write_in_range(b, d, kind, clients, items)
 }
 
 // Its mode, count, set and awaited items: it is idle exactly when it awaits none, and those lie in its set.

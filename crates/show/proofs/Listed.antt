@@ -12,7 +12,7 @@ use Rattle.hex.proofs.Stores.{sets-join}
 use Rattle.itemset.specs.Set.{has, rank, upto, members}
 use Rattle.itemset.proofs.Members.{upto-suc, length-members-rank}
 use Rattle.itemset.proofs.Pass.{pass}
-use Rattle.protocol.specs.Frame.{listed}
+use Rattle.protocol.specs.LogFrame.{listed}
 use Rattle.protocol.proofs.Shown.{length-listed}
 use Rattle.show.specs.Show.{putItem}
 

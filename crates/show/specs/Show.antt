@@ -1,12 +1,12 @@
 -- The log frame that a block holds for a client, and its parts as the words of the block give them.
 use mathlib.Core.Bool.{cond}
-use mathlib.Core.List.{List, _∷_, _++_}
+use mathlib.Core.List.{List, [], _∷_, _++_}
 use Prim.Native.Nat.{ℕ, _+_, _*_}
 use lib.Seq.{sets}
 use Rattle.hex.specs.Number.{bigEndian}
-use Rattle.itemset.specs.Set.{has, rank, members}
-use Rattle.protocol.specs.Frame.{listed, shownEntry, frame}
-use Rattle.protocol.specs.Tables.{numberOf}
+use Rattle.itemset.specs.Set.{has, count, rank, members}
+use Rattle.protocol.specs.LogFrame.{listed, shownEntry, frame}
+use Rattle.protocol.specs.Tables.{showsRead, showsWrite, numberOf}
 use Rattle.layout.specs.Layout.{scalars, lastStamps, lastValues, at, lastStampAt, itemAt}
 use Rattle.layout.specs.Decode.{clientIn}
 
@@ -18,7 +18,7 @@ frameIn b d = frame d (clientIn b d .last)
 
 -- kind and client: what every frame begins with
 abbrev pub head : ℕ → ℕ → List ℕ
-head kind d = kind ∷ bigEndian 1 d
+head byte d = byte ∷ bigEndian 1 d
 
 -- item k of a last read: its number, writing client and value
 abbrev pub readItem : List ℕ → ℕ → ℕ → List ℕ
@@ -41,3 +41,17 @@ abbrev pub writePart : List ℕ → ℕ → ℕ → List ℕ
 writePart b d s =
     bigEndian 8 s ++ bigEndian 4 (numberOf (at b scalars (lastStampAt d)))
     ++ listed (writtenItem b d) (members 64 s)
+
+-- ---- and which of them there are, by the kind
+
+abbrev pub readShown : List ℕ → ℕ → ℕ → ℕ → List ℕ
+readShown b d kind s = cond (showsRead kind) (readPart b d s) []
+
+abbrev pub writeShown : List ℕ → ℕ → ℕ → ℕ → List ℕ
+writeShown b d kind s = cond (showsWrite kind) (writePart b d s) []
+
+abbrev pub readLength : ℕ → ℕ → ℕ
+readLength kind s = cond (showsRead kind) (8 + 9 * count s) 0
+
+abbrev pub writeLength : ℕ → ℕ → ℕ
+writeLength kind s = cond (showsWrite kind) (12 + 4 * count s) 0

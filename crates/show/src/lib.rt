@@ -6,24 +6,35 @@ ghost use lib.ListN.{length, drop};
 ghost use lib.Seq.{sets};
 ghost use Rattle.itemset.specs.Set.{count};
 ghost use Rattle.layout.specs.Layout.{at, scalars, lastStampAt};
+ghost use Rattle.protocol.specs.LogFrame.{frameByte};
 ghost use Rattle.protocol.specs.Tables.{numberOf};
 ghost use Rattle.show.specs.Show.{frameIn, head, readItem, writtenItem, putItem, readPart, writePart};
+ghost use Rattle.show.specs.Show.{readLength, writeLength, readShown, writeShown};
+use hex::put_bytes;
+use itemset::count;
+use itemset::has;
+use itemset::rank;
 use client_fields::last_kind;
 use client_fields::last_read_stamp;
 use client_fields::last_set;
 use client_fields::last_stamp;
 use client_fields::last_value;
-use hex::put_bytes;
-use itemset::count;
-use itemset::has;
-use itemset::rank;
+use protocol::kind::shows_read;
+use protocol::kind::shows_write;
+
+// The byte that the log frame of a kind begins with.
+fn frame_byte(kind: u64) -> u8
+    ensures { λ r. ⌜ r ≡ frameByte kind ⌝ }
+{
+    if kind == 1 { 0x21 } else { 0x20 }
+}
 
 // Kind and client: what every frame begins with.
-fn put_head(out: &mut [u8], kind: u8, d: u64)
+fn put_head(out: &mut [u8], byte: u8, d: u64)
     requires { ⌜ 2 ≤ length (now out) ⌝ }
-    ensures { λ _. ⌜ now (out .exit) ≡ sets (now (out .entry)) 0 (head kind d) ⌝ }
+    ensures { λ _. ⌜ now (out .exit) ≡ sets (now (out .entry)) 0 (head byte d) ⌝ }
 {
-    out[0] = kind;
+    out[0] = byte;
     put_bytes(out, 1, 1, d);
 }
 
@@ -97,16 +108,57 @@ fn put_write_part(b: &[u64], d: u64, s: u64, out: &mut [u8], at: usize)
     }
 }
 
+// The lengths of a read part and of a write part of set `s`; 0 where the kind doesn't show it.
+fn read_length(kind: u64, s: u64) -> u64
+    ensures { λ r. ⌜ r ≡ readLength kind s ⌝ }
+{
+    if shows_read(kind) {
+        8 + 9 * count(s)
+    } else {
+        0
+    }
+}
+
+fn write_length(kind: u64, s: u64) -> u64
+    ensures { λ r. ⌜ r ≡ writeLength kind s ⌝ }
+{
+    if shows_write(kind) {
+        12 + 4 * count(s)
+    } else {
+        0
+    }
+}
+
+// The read part and the write part of a last transaction of this kind and set `s`, if it shows it.
+fn put_shown_read(b: &[u64], d: u64, kind: u64, s: u64, out: &mut [u8], at: usize)
+    requires { ⌜ (1 ≤ d) × (d ≤ 8) × (at + readLength kind s ≤ length (now out)) ⌝ }
+    ensures { λ _. ⌜ now (out .exit) ≡ sets (now (out .entry)) at (readShown (now (b .entry)) d kind s) ⌝ }
+{
+    if shows_read(kind) {
+        put_read_part(b, d, s, out, at);
+    }
+}
+
+fn put_shown_write(b: &[u64], d: u64, kind: u64, s: u64, out: &mut [u8], at: usize)
+    requires { ⌜ (1 ≤ d) × (d ≤ 8) × (at + writeLength kind s ≤ length (now out)) ⌝ }
+    ensures { λ _. ⌜ now (out .exit) ≡ sets (now (out .entry)) at (writeShown (now (b .entry)) d kind s) ⌝ }
+{
+    if shows_write(kind) {
+        put_write_part(b, d, s, out, at);
+    }
+}
+
 // The length of the log frame of client `d` (document 01: desk); 0 where no transaction of its has ended.
 pub fn frame_length(b: &[u64], d: u64) -> u64
     requires { ⌜ (1 ≤ d) × (d ≤ 8) ⌝ }
     ensures { λ r. ⌜ r ≡ length (frameIn (now (b .entry)) d) ⌝ }
 {
     let s = last_set(b, d);
-    match last_kind(b, d) {
-        0 => 0,
-        1 => 10 + 9 * count(s),
-        _ => 14 + 4 * count(s),
+    let kind = last_kind(b, d);
+    if kind == 0 {
+        0
+    } else {
+        2 + read_length(kind, s) + write_length(kind, s)
     }
 }
 
@@ -116,15 +168,12 @@ pub fn write_frame(b: &[u64], d: u64, out: &mut [u8])
     ensures { λ _. ⌜ now (out .exit) ≡ frameIn (now (b .entry)) d ++ drop (length (frameIn (now (b .entry)) d)) (now (out .entry)) ⌝ }
 {
     let s = last_set(b, d);
-    match last_kind(b, d) {
-        0 => {}
-        1 => {
-            put_head(out, 0x21, d);
-            put_read_part(b, d, s, out, 2);
-        }
-        _ => {
-            put_head(out, 0x20, d);
-            put_write_part(b, d, s, out, 2);
-        }
+    let kind = last_kind(b, d);
+    if kind == 0 {
+        return;
     }
+    let behind = 2 + read_length(kind, s);
+    put_head(out, frame_byte(kind), d);
+    put_shown_read(b, d, kind, s, out, 2);
+    put_shown_write(b, d, kind, s, out, behind as usize);
 }

@@ -5,6 +5,7 @@ use mathlib.Core.Logic.{_≢_}
 use mathlib.Core.Path.{_≡_, refl, sym, ap, _∙_}
 use Prim.Native.Nat.{ℕ, zero, suc, _+_, _≤_, _<_}
 use native.Mathlib.Nat.{not-suc-le-zero, le-of-suc-le-suc, add-zero}
+use native.Mathlib.Numerals.{add-one, add-two, add-three}
 use native.Mathlib.Omega.{arith}
 use lib.ListN.{length, getD, set, take, drop, length-set, length-drop}
 use lib.Seq.{sets, length-sets, take-suc, length-take-le, getD-drop, getD-set-same, getD-set-other}
@@ -17,6 +18,13 @@ module _ {A : Type 0} where
   sets-snoc l i (v ∷ vs) a =
       sets-snoc (set l i v) (suc i) vs a
       ∙ ap (λ (k : ℕ). set (sets (set l i v) (suc i) vs) k a) (omega arith)
+
+  -- four words, one behind the other
+  pub four-sets : (l l₁ l₂ l₃ l₄ : List A) (i : ℕ) (w x y z : A)
+      → l₁ ≡ set l i w → l₂ ≡ set l₁ (i + 1) x → l₃ ≡ set l₂ (i + 2) y → l₄ ≡ set l₃ (i + 3) z
+      → l₄ ≡ sets l i (w ∷ x ∷ y ∷ z ∷ [])
+  four-sets l l₁ l₂ l₃ l₄ i w x y z first second third fourth =
+      rw (fourth, third, second, first, add-one i, add-two i, add-three i) refl
 
   -- outside a run nothing changes
   pub getD-sets-before : (l : List A) (i : ℕ) (vs : List A) (j : ℕ) (d : A) → j < i

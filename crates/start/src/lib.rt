@@ -1,13 +1,10 @@
-// The starts of a read and of a write on the block (document 01: Steps), for a caller that has tested that they are accepted.
+// What the starts of a read and of a write on the block share (document 01: Steps): a client becomes busy.
 ghost use mathlib.Core.Path.{_≡_};
 ghost use Prim.Native.Nat.{_≤_};
 ghost use Rattle.start.specs.Start.{busy};
 use client_fields::put_awaited;
 use client_fields::put_mode;
 use client_fields::put_set;
-
-pub mod read;
-pub mod write;
 
 // Client `d` is busy with the items of `s`, all of them awaited: mode 1 is a read, 2 a write.
 pub fn put_busy(b: &mut [u64], d: u64, mode: u64, s: u64)

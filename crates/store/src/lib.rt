@@ -7,8 +7,6 @@ ghost use Rattle.range.specs.Sized.{sizes};
 ghost use Rattle.block_calls.specs.Calls.{freshAnswerOn, freshAfter, freshTables, answerOn, outputOn, blockAfter, tablesAfter, Fits};
 use protocol::Answer;
 
-pub mod calls;
-
 // The number that tells this answer.
 fn number_of(a: Answer) -> u64
     requires { ⌜ Fits a ⌝ }
@@ -33,7 +31,7 @@ pub extern "C" fn koolvent_fresh(b: &mut [u64], clients: u64, partitions: u64, i
     ensures block { λ _. ⌜ now (b .exit) ≡ freshAfter (now (b .entry)) (sizes clients partitions items) ⌝ }
     ensures tables { λ _. ⌜ tablesOf (now (b .exit)) ≡ freshTables (now (b .entry)) (sizes clients partitions items) ⌝ }
 {
-    number_of(calls::fresh(b, clients, partitions, items))
+    number_of(store_calls::fresh(b, clients, partitions, items))
 }
 
 #[no_mangle]
@@ -42,7 +40,7 @@ pub extern "C" fn koolvent_start_read(b: &mut [u64], client: u64, set: u64) -> u
     ensures block { λ _. ⌜ now (b .exit) ≡ blockAfter (now (b .entry)) (startRead client set) ⌝ }
     ensures tables { λ _. ⌜ tablesOf (now (b .exit)) ≡ tablesAfter (now (b .entry)) (startRead client set) ⌝ }
 {
-    number_of(calls::start_read(b, client, set))
+    number_of(store_calls::start_read(b, client, set))
 }
 
 #[no_mangle]
@@ -52,7 +50,7 @@ pub extern "C" fn koolvent_start_write(b: &mut [u64], client: u64, set: u64, val
     ensures tables { λ _. ⌜ tablesOf (now (b .exit)) ≡ tablesAfter (now (b .entry)) (startWrite client set (now (values .entry))) ⌝ }
     ensures values { λ _. ⌜ now (values .exit) ≡ now (values .entry) ⌝ }
 {
-    number_of(calls::start_write(b, client, set, values))
+    number_of(store_calls::start_write(b, client, set, values))
 }
 
 #[no_mangle]
@@ -61,7 +59,7 @@ pub extern "C" fn koolvent_deliver(b: &mut [u64], place: u64) -> u64
     ensures block { λ _. ⌜ now (b .exit) ≡ blockAfter (now (b .entry)) (deliver place) ⌝ }
     ensures tables { λ _. ⌜ tablesOf (now (b .exit)) ≡ tablesAfter (now (b .entry)) (deliver place) ⌝ }
 {
-    number_of(calls::deliver(b, place))
+    number_of(deliver_call::deliver(b, place))
 }
 
 // The block is lent shared: a showing doesn't change it.
@@ -71,5 +69,5 @@ pub extern "C" fn koolvent_show(b: &[u64], client: u64, output: &mut [u8]) -> u6
     ensures block { λ _. ⌜ now (b .exit) ≡ blockAfter (now (b .entry)) (show client (now (output .entry))) ⌝ }
     ensures output { λ _. ⌜ now (output .exit) ≡ outputOn (now (b .entry)) (show client (now (output .entry))) ⌝ }
 {
-    number_of(calls::show(b, client, output))
+    number_of(store_calls::show(b, client, output))
 }

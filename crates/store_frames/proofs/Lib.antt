@@ -1,5 +1,5 @@
--- The proofs of `store_frames`, and the laws that they share.
+-- Laws of the frames and of the answers as lines, and rows of both.
 pub mod Parsing
 pub mod Reading
-mod Writing
+pub mod Writing
 mod Examples

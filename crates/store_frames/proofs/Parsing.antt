@@ -1,5 +1,5 @@
 -- What a frame tells of the bytes that it was parsed from.
-use mathlib.Core.Bool.{true, false}
+use mathlib.Core.Bool.{Bool, true, false, _&&_}
 use mathlib.Core.List.{List, []}
 use mathlib.Core.Path.{_≡_, refl, sym, subst}
 use Prim.Native.Nat.{ℕ, _+_, _*_, _≤_, _<_}
@@ -16,7 +16,17 @@ use Rattle.store_frames.specs.declared.Parsed.{Parsed}
 use Rattle.store_frames.specs.declared.Parsed.the-variants.{Frame, Malformed}
 use Rattle.store_frames.specs.StoreFrames.{kindOf, isStoreFrame, valuesIn, isWrite, parsed}
 
+-- ---- the same numbers make the same frame
+
+pub same-fresh : {clients partitions items c p i : ℕ} (n : ℕ) → clients ≡ c → partitions ≡ p
+    → items ≡ i → Frame (Fresh clients partitions items) n ≡ Frame (Fresh c p i) n
+same-fresh n c p i = rw (c, p, i) refl
+
 -- ---- the tests
+
+pub isWrite-values : (f : List ℕ) (values : ℕ) (framed : Bool) → values ≡ valuesIn (length f)
+    → framed ≡ isStoreFrame 0x03 (10 + 4 * values) f → (framed && leb values 64) ≡ isWrite f
+isWrite-values f values framed e told = rw (told, e) refl
 
 pub isStoreFrame-length : (kind n : ℕ) (f : List ℕ) → isStoreFrame kind n f ≡ true → length f ≡ n
 isStoreFrame-length kind n f e = eqb-true (length f) n

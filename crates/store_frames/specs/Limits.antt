@@ -1,6 +1,6 @@
 -- The most bytes of a store frame, of its line, and of a reply's line.
 use Prim.Native.Nat.{ℕ, _+_, _*_}
-use Rattle.protocol.specs.Frame.{mostLogFrame}
+use Rattle.protocol.specs.LogFrame.{mostLogFrame}
 
 -- a write of 64 values: kind, client and set, and 4 bytes each
 abbrev pub mostFrame : ℕ

@@ -1,2 +1,3 @@
--- The laws of the search.
+-- The laws of the search, and of a version's words.
+mod Words
 pub mod First

@@ -14,13 +14,13 @@ use lib.ListN.{replicate}
 use Rattle.basics.specs.Lists.{every, all, counted, without}
 use Rattle.hex.specs.Number.{bigEndian, numberAt}
 use Rattle.itemset.specs.Set.{has, upto, remove}
-use Rattle.protocol.specs.Tables.{stampOf}
+use Rattle.protocol.specs.Tables.{isKind, stampOf}
 use Rattle.protocol.specs.Range.{capacities, valid, inRange, stampInRange, sizesInRange}
 use Rattle.protocol.specs.Range.{entryInRange, versionInRange, messageInRange, endedInRange}
 use Rattle.protocol.specs.Range.{clientInRange, readPartInRange, writePartInRange, arrived}
 use Rattle.protocol.specs.Range.{total, load, occupied}
 use Rattle.protocol.specs.Steps.{choice, stored, found, delivered, joined, touches}
-use Rattle.protocol.specs.Frame.{listed, frame}
+use Rattle.protocol.specs.LogFrame.{listed, readBytes, writeBytes, frame}
 use Rattle.protocol.specs.Calls.{Call, startRead, startWrite, deliver, show, first, refusal}
 use Rattle.protocol.specs.Calls.{unexpected, missing, isNothing, outcomeOf, effect, reply}
 use Rattle.protocol.specs.Calls.{written, lent, step}
@@ -183,9 +183,9 @@ pub spans : all (λ b. b) rows ≡ true
 unfolding next after joining leaving staying begun withoutAll storing joiningOver leavingOver
     outcomeIn delivers stays startsFor rests step refusal first unexpected missing isNothing effect
     reply written lent outcomeOf valid inRange sizesInRange stampInRange entryInRange versionInRange
-    messageInRange endedInRange clientInRange readPartInRange writePartInRange load arrived total
-    occupied choice stored found delivered joined touches listed frame every all counted without has
-    upto remove ones onesIn bigEndian numberAt
+    messageInRange isKind endedInRange clientInRange readPartInRange writePartInRange load arrived
+    total occupied choice stored found delivered joined touches listed readBytes writeBytes frame
+    every all counted without has upto remove ones onesIn bigEndian numberAt
 spans = refl
 
 -- ---- A tie: both writes have number 1
@@ -213,9 +213,9 @@ pub ties : ShownOlder 1 own 0 (stampOf 1 2) × (ShownOlder 1 own 0 (stampOf 1 1)
 unfolding next after joining leaving staying begun withoutAll storing joiningOver leavingOver
     outcomeIn delivers stays startsFor rests step refusal first unexpected missing isNothing effect
     reply written lent outcomeOf valid inRange sizesInRange stampInRange entryInRange versionInRange
-    messageInRange endedInRange clientInRange readPartInRange writePartInRange load arrived total
-    occupied choice stored found delivered joined touches listed frame every all counted without has
-    upto remove ones onesIn bigEndian numberAt
+    messageInRange isKind endedInRange clientInRange readPartInRange writePartInRange load arrived
+    total occupied choice stored found delivered joined touches listed readBytes writeBytes frame
+    every all counted without has upto remove ones onesIn bigEndian numberAt
 ties = (
   inr (refl, below),
   ⊎-elim (never 1) (λ p. never 1 (p .1)),

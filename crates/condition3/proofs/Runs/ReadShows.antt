@@ -4,7 +4,7 @@ use mathlib.Core.Bool.{true}
 use mathlib.Core.List.{List, [], _∷_, _++_}
 use mathlib.Core.Logic.{_⊎_, inl, inr, ⊎-elim}
 use mathlib.Core.Path.{_≡_, refl, sym, ap, _∙_, subst}
-use Prim.Native.Nat.{ℕ, _+_, _*_, _^_, _≤_, _<_}
+use Prim.Native.Nat.{ℕ, _+_, _*_, _≤_, _<_}
 use native.Mathlib.Nat.{le-trans}
 use native.Mathlib.Omega.{arith}
 use lib.Dec.{eqb}
@@ -15,7 +15,7 @@ use Rattle.basics.specs.Lists.{In}
 use Rattle.basics.proofs.Lists.{in-left}
 use Rattle.itemset.specs.Set.{has, count}
 use Rattle.itemset.proofs.Laws.{has-empty, has-below}
-use Rattle.protocol.specs.Tables.{read, rested, numberOf, writerOf}
+use Rattle.protocol.specs.Tables.{Ended, rested, numberOf, writerOf}
 use Rattle.protocol.specs.Range.{Capacities}
 use Rattle.protocol.specs.Steps.{choice, nextStamp}
 use Rattle.protocol.specs.Calls.{Call, startRead, startWrite, show, step, written}
@@ -34,7 +34,7 @@ use Rattle.condition3.proofs.Link.Asks.{asked as write-asked, not-older
 use Rattle.condition3.proofs.Runs.Run.{after-append, after-inv, after-sizes, after-view}
 use Rattle.condition3.proofs.Runs.Run.{after-known, after-stores}
 use Rattle.condition3.proofs.Runs.ReadSpan.{Answer}
-use Rattle.condition3.proofs.Runs.ReadStep.{Finished}
+use Rattle.condition3.proofs.Runs.ReadStep.{Finished, wasRead}
 use Rattle.condition3.proofs.Runs.Spans.{at-rest, rest-stays}
 use Rattle.condition3.proofs.Runs.WriteSpan.{Writing, Seen, write-started, write-during}
 use Rattle.condition3.proofs.Runs.WriteSpan.{write-ends}
@@ -97,7 +97,10 @@ module _ (caps : Capacities) (w : World) (inv : Inv caps w) (d s : ℕ) (before 
   inv-shown = after-inv caps w inv (before ++ startRead d s ∷ during ++ end ∷ until)
 
   -- the client keeps what it read
-  kept : x .tables .client d ≡ rested (v .tables .client d) (read s stamps (done .values))
+  abbrev last : Ended
+  last = wasRead s stamps (done .values)
+
+  kept : x .tables .client d ≡ rested (v .tables .client d) last
   kept =
       ap (λ (y : World). y .tables .client d) shown-is
       ∙ at-rest caps (moved v end) inv-ended d
@@ -112,19 +115,16 @@ module _ (caps : Capacities) (w : World) (inv : Inv caps w) (d s : ℕ) (before 
   isClient : IsClient (x .tables .sizes) d
   isClient = subst (λ z. IsClient z d) (sym sizes-same) (start .client)
 
-  below : s < 2 ^ x .tables .sizes .items
-  below = subst (λ z. s < 2 ^ z .items) (sym sizes-same) (start .set)
-
   abbrev output : List ℕ
   output = step caps (x .tables) (show d room) .output
 
   number-shown : (k : ℕ) → has s k ≡ true → shownNumber s output k ≡ numberOf (stamps k)
-  number-shown k m = number-is caps x inv-shown d s (v .tables .client d) stamps
-      (done .values) room isClient below kept enough k m
+  number-shown k m = number-is caps x inv-shown d (v .tables .client d) last
+      room isClient refl kept enough k m
 
   writer-shown : (k : ℕ) → has s k ≡ true → shownWriter s output k ≡ writerOf (stamps k)
-  writer-shown k m = writer-is caps x inv-shown d s (v .tables .client d) stamps
-      (done .values) room isClient below kept enough k m
+  writer-shown k m = writer-is caps x inv-shown d (v .tables .client d) last
+      room isClient refl kept enough k m
 
   shown-with : (k : ℕ) → has s k ≡ true → (a : ℕ) → ShownWith s output k a → stamps k ≡ a
   shown-with k m a p = parts-same (stamps k) a (sym (number-shown k m) ∙ p .0)
@@ -219,8 +219,8 @@ module _ (caps : Capacities) (w : World) (inv : Inv caps w) (d s : ℕ) (before 
       × (isReplyFor d k l ≡ true) × StoredBefore (final .stores) a (answeredAt l))
 
   value-shown : (k : ℕ) → has s k ≡ true → shownValue s output k ≡ done .values k
-  value-shown k m = value-is caps x inv-shown d s (v .tables .client d) stamps
-      (done .values) room isClient below kept enough k m
+  value-shown k m = value-is caps x inv-shown d (v .tables .client d) last
+      room isClient refl kept enough k m
 
   -- the write that answered item k, as the whole list knows it, is the one chosen at the start
   chosen : (k : ℕ) (m : has s k ≡ true) → asks k m .write ≡ answer k m .write
@@ -334,10 +334,10 @@ module _ (caps : Capacities) (w : World) (inv : Inv caps w) (d s : ℕ) (before 
   pub shows : Shows caps w calls d s before during end until room
   shows =
       record {
-        shown = answer-is caps x inv-shown d s (v .tables .client d) stamps
-            (done .values) room isClient below kept enough;
-        head = head-is caps x inv-shown d s (v .tables .client d) stamps
-            (done .values) room isClient below kept enough;
+        shown = answer-is caps x inv-shown d (v .tables .client d) last
+            room isClient refl kept enough;
+        head = head-is caps x inv-shown d (v .tables .client d) last
+            room isClient refl kept enough;
         unfractured = unfractured;
         written = written-or-initial;
         own = own;

@@ -13,7 +13,7 @@ use Rattle.protocol.specs.declared.Version.{Version}
 use Rattle.protocol.specs.declared.Entry.{Entry}
 use Rattle.protocol.specs.declared.Message.{Message}
 use Rattle.protocol.specs.declared.Message.the-variants.{Got}
-use Rattle.protocol.specs.Tables.{Tables, Client, WritePart, ofRead, read, rested, put}
+use Rattle.protocol.specs.Tables.{Tables, Client, WritePart, Ended, noWrite, ofRead, rested, put}
 use Rattle.protocol.specs.Message.{ownerOf}
 use Rattle.protocol.specs.Range.{Capacities}
 use Rattle.protocol.specs.Steps.{delivered, got, answered, isLast, messageAt}
@@ -27,8 +27,8 @@ use Rattle.condition3.proofs.Link.{Inv}
 use Rattle.condition3.proofs.Link.Messages.{placed-message, fits}
 use Rattle.condition3.proofs.Link.Grows.{moved-grows, grows-self}
 use Rattle.condition3.proofs.Runs.Touch.{refused-outcome, delivered-outcome, no-requests}
-use Rattle.condition3.proofs.Runs.Touch.{Way}
-use Rattle.condition3.proofs.Runs.Touch.{quiet, starts, answers, way, answers-owner, got-of}
+use Rattle.condition3.proofs.Runs.Touch.{Way, quiet, starts, answers, way, answers-owner}
+use Rattle.condition3.proofs.Runs.Touch.{got-of}
 use Rattle.condition3.proofs.Runs.ReadSpan.{Answer, Reading, undisturbed, goes-on}
 use Rattle.condition3.proofs.Runs.ReadSpan.{all-answered, all-replied, once-each}
 
@@ -53,6 +53,15 @@ last-read : (c : Client) (k : ℕ) → c .write .awaited ≡ 0 → (b : Bool)
 last-read c k e true h = rw (e, h) refl
 last-read c k e false h = rw (e, h) refl
 
+-- the last ended transaction that a read leaves
+abbrev pub wasRead : ℕ → (ℕ → ℕ) → (ℕ → ℕ) → Ended
+wasRead s asked values =
+    record {
+      kind = 1;
+      read = record { set = s; awaited = 0; asked = asked; values = values };
+      write = noWrite;
+    }
+
 -- the read has ended: what its client keeps, and that every item has its answer
 pub record Finished (caps : Capacities) (d s : ℕ) (asked : ℕ → ℕ) (v : World) (c : Call)
     (left : List Labelled) : Type 0 where
@@ -63,7 +72,7 @@ pub record Finished (caps : Capacities) (d s : ℕ) (asked : ℕ → ℕ) (v : W
   pub requests : counted (isRequest d) (joining v c) ≡ 0
   pub values : ℕ → ℕ
   pub client : moved v c .tables .client d ≡ rested (v .tables .client d)
-      (read s asked values)
+      (wasRead s asked values)
   pub answered : (j : ℕ) → has s j ≡ true
       → Answer (moved v c) d j (asked j) (values j) (left ++ leaving v c)
 
@@ -124,7 +133,7 @@ module _ (caps : Capacities) (v : World) (inv : Inv caps v) (d s : ℕ) (asked :
           requests = no-requests caps v inv d i;
           values = put (c .read .values) (u .item) (u .value);
           client = record-after ∙ rw
-              (last-read c (u .item) no-more true last, no-set, r .set, r .asks) refl;
+              (last-read c (u .item) no-more true last, r .alone, r .set, r .asks) refl;
           answered = all-answered caps v inv d s asked left r i here u latest is-got
               (moved v (deliver i)) (moved-grows v (deliver i)) last;
         },

@@ -2,7 +2,7 @@
 -- output bytes say the read's stamps and values.
 use mathlib.Core.Bool.{true}
 use mathlib.Core.List.{List, _∷_, _++_}
-use mathlib.Core.Path.{_≡_, ap, _∙_, subst}
+use mathlib.Core.Path.{_≡_, refl, ap, _∙_, subst}
 use Prim.Native.Nat.{ℕ, _+_, _*_, _^_, _≤_, _<_}
 use native.Mathlib.Omega.{arith}
 use lib.Dec.{eqb}
@@ -13,14 +13,14 @@ use Rattle.hex.specs.Number.{numberAt, bigEndian}
 use Rattle.itemset.specs.Set.{has, count, rank}
 use Rattle.itemset.proofs.Laws.{below-le}
 use Rattle.protocol.specs.declared.Answer.the-variants.{Shown}
-use Rattle.protocol.specs.Tables.{Client, read, rested, numberOf, writerOf}
+use Rattle.protocol.specs.Tables.{Client, Ended, showsRead, rested, numberOf, writerOf}
 use Rattle.protocol.specs.Range.{Capacities}
-use Rattle.protocol.specs.Frame.{frame}
+use Rattle.protocol.specs.LogFrame.{frame}
 use Rattle.protocol.specs.Calls.{show, refusal, step, reply, written, isNothing, shownFrame}
 use Rattle.condition3.specs.World.{World}
 use Rattle.condition3.specs.Condition3.{shownNumber, shownWriter, shownValue}
 use Rattle.protocol.proofs.Ranges.Values.{SizesInRange, IsClient}
-use Rattle.protocol.proofs.Ranges.Clients.{ReadInRange, EndedInRange}
+use Rattle.protocol.proofs.Ranges.Clients.{ReadPartInRange, EndedInRange}
 use Rattle.protocol.proofs.Ranges.Tables.{Valid}
 use Rattle.protocol.proofs.Refusals.{accepted-show, idle-rested}
 use Rattle.protocol.proofs.Shown.{length-frame-read, frame-head-client, shown-number}
@@ -29,25 +29,37 @@ use Rattle.condition3.proofs.Link.{Inv}
 
 -- ---- a showing of a read that is the client's last transaction
 
-module _ (caps : Capacities) (x : World) (inv : Inv caps x) (d s : ℕ) (before : Client)
-    (stamps values : ℕ → ℕ) (room : List ℕ)
-    (isClient : IsClient (x .tables .sizes) d) (below : s < 2 ^ x .tables .sizes .items)
-    (kept : x .tables .client d ≡ rested before (read s stamps values))
-    (enough : 10 + 9 * count s ≤ length room) where
+module _ (caps : Capacities) (x : World) (inv : Inv caps x) (d : ℕ) (before : Client) (e : Ended)
+    (room : List ℕ) (isClient : IsClient (x .tables .sizes) d) (kind : e .kind ≡ 1)
+    (kept : x .tables .client d ≡ rested before e)
+    (enough : 10 + 9 * count (e .read .set) ≤ length room) where
   valid-here : Valid caps (x .tables)
   valid-here = inv .sound .valid
 
   sizes : SizesInRange (x .tables .sizes)
   sizes = valid-here .inRange .sizes
 
-  below-64 : s < 2 ^ 64
-  below-64 = below-le s (x .tables .sizes .items) 64 below (sizes .items)
+  abbrev s : ℕ
+  s = e .read .set
 
-  frame-is : shownFrame (x .tables) d ≡ frame d (read s stamps values)
+  abbrev stamps : ℕ → ℕ
+  stamps = e .read .asked
+
+  shows : showsRead (e .kind) ≡ true
+  shows = rw kind refl
+
+  ended : ReadPartInRange (x .tables .sizes) (e .read)
+  ended = subst (λ (c : Client). EndedInRange (x .tables .sizes) (c .last)) kept
+      (valid-here .inRange .client d isClient .last) .read shows
+
+  below-64 : s < 2 ^ 64
+  below-64 = below-le s (x .tables .sizes .items) 64 (ended .set) (sizes .items)
+
+  frame-is : shownFrame (x .tables) d ≡ frame d e
   frame-is = ap (λ (c : Client). frame d (c .last)) kept
 
   frame-length : length (shownFrame (x .tables) d) ≡ 10 + 9 * count s
-  frame-length = ap length frame-is ∙ length-frame-read d s stamps values below-64
+  frame-length = ap length frame-is ∙ length-frame-read d e kind below-64
 
   accepted : refusal caps (x .tables) (show d room) ≡ 0
   unfolding isNothing
@@ -56,8 +68,8 @@ module _ (caps : Capacities) (x : World) (inv : Inv caps x) (d s : ℕ) (before 
       (record {
         valid = valid-here;
         client = isClient;
-        idle = idle-rested before (read s stamps values) kept;
-        ended = ap (λ (c : Client). isNothing (c .last)) kept;
+        idle = idle-rested before e kept;
+        ended = ap (λ (c : Client). isNothing (c .last)) kept ∙ rw kind refl;
         room = omega (arith, frame-length, enough);
       })
 
@@ -71,33 +83,30 @@ module _ (caps : Capacities) (x : World) (inv : Inv caps x) (d s : ℕ) (before 
   abbrev rest : List ℕ
   rest = drop (length (shownFrame (x .tables) d)) room
 
-  output-is : output ≡ frame d (read s stamps values) ++ rest
+  output-is : output ≡ frame d e ++ rest
   unfolding step written
   output-is = rw accepted (ap (λ (f : List ℕ). f ++ rest) frame-is)
 
   pub head-is : take 10 output ≡ 0x21 ∷ d ∷ bigEndian 8 s
   head-is = ap (take 10) output-is
-      ∙ frame-head-client d s stamps values rest (omega (arith, isClient .1, sizes .clients))
-
-  ended : ReadInRange (x .tables .sizes) s stamps values
-  ended = subst (λ (c : Client). EndedInRange (x .tables .sizes) (c .last)) kept
-      (valid-here .inRange .client d isClient .last)
+      ∙ frame-head-client d e shows rest (omega (arith, isClient .1, sizes .clients))
+      ∙ rw kind refl
 
   module _ (k : ℕ) (member : has s k ≡ true) where
     number-fits : numberOf (stamps k) < 2 ^ 32
     number-fits =
         by-test (eqb (stamps k) 0)
         (λ e. let z : stamps k ≡ 0 = eqb-true (stamps k) 0 e in omega arith)
-        (λ e. ended .stamps k member (eqb-false (stamps k) 0 e) .fits)
+        (λ e. ended .asked k member (eqb-false (stamps k) 0 e) .fits)
 
     pub number-is : shownNumber s output k ≡ numberOf (stamps k)
     number-is = ap (λ (o : List ℕ). numberAt 4 o (10 + 9 * rank s k)) output-is
-        ∙ shown-number d s stamps values rest k member below-64 number-fits
+        ∙ shown-number d e shows rest k member below-64 number-fits
 
     pub writer-is : shownWriter s output k ≡ writerOf (stamps k)
     writer-is = ap (λ (o : List ℕ). numberAt 1 o (14 + 9 * rank s k)) output-is
-        ∙ shown-writer d s stamps values rest k member below-64
+        ∙ shown-writer d e shows rest k member below-64
 
-    pub value-is : shownValue s output k ≡ values k
+    pub value-is : shownValue s output k ≡ e .read .values k
     value-is = ap (λ (o : List ℕ). numberAt 4 o (15 + 9 * rank s k)) output-is
-        ∙ shown-value d s stamps values rest k member below-64 (ended .values k member)
+        ∙ shown-value d e shows rest k member below-64 (ended .values k member)

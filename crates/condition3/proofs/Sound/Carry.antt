@@ -14,7 +14,7 @@ use Rattle.protocol.specs.declared.Version.{Version}
 use Rattle.protocol.specs.declared.Entry.{Entry}
 use Rattle.protocol.specs.declared.Message.{Message}
 use Rattle.protocol.specs.declared.Message.the-variants.{Prepare, Prepared, Commit, Get, Got}
-use Rattle.protocol.specs.Tables.{Tables, Client, Ended, nothing, read, write, writerOf}
+use Rattle.protocol.specs.Tables.{Tables, Client, Ended, writerOf}
 use Rattle.protocol.specs.Tables.{laterOf}
 use Rattle.protocol.specs.Message.{partsOf, ownerOf}
 use Rattle.protocol.specs.Range.{Capacities}
@@ -206,7 +206,9 @@ recounted L client client′ rises v x =
 pub last-recounted : (L : Ledger) (client client′ : ℕ → Client)
     → ((d : ℕ) → client d .count ≤ client′ d .count)
     → (e : Ended) → Last L client e → Last L client′ e
-last-recounted L client client′ rises nothing x = tt
-last-recounted L client client′ rises (read s stamps values) x = tt
-last-recounted L client client′ rises (write s stamp values) x =
-    record { agrees = x .agrees; number = le-trans (x .number) (rises (writerOf stamp)) }
+last-recounted L client client′ rises e x shows =
+    let past = x shows in
+    record {
+      agrees = past .agrees;
+      number = le-trans (past .number) (rises (writerOf (e .write .stamp)));
+    }

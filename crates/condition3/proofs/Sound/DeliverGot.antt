@@ -18,7 +18,7 @@ use Rattle.protocol.specs.Tables.{laterOf, put}
 use Rattle.protocol.specs.Message.{ownerOf}
 use Rattle.protocol.specs.Range.{Capacities}
 use Rattle.protocol.specs.Steps.{delivered, joined, stored, seen, commits, got, answered}
-use Rattle.protocol.specs.Steps.{ended, isLast}
+use Rattle.protocol.specs.Steps.{endedRead, ended, isLast}
 use Rattle.protocol.proofs.Each.{Each, each-none, each-append}
 use Rattle.protocol.proofs.Put.{by-cond, put-every}
 use Rattle.protocol.proofs.Ranges.Values.{IsClient}
@@ -116,8 +116,8 @@ module _ (caps : Capacities) (L : Ledger) (t : Tables) (sound : SoundBy caps L t
   ended-here =
       by-test last
       (λ l. subst (λ (x : Client). Last L (put (t .client) d c′) (x .last)) (sym (by-cond-true l))
-      (ended-last caps L t sound d is-client (put (t .client) d c′) count (c .read .set)
-      (c .read .asked) (put (c .read .values) k (v .value))))
+      (ended-last caps L t sound d is-client (put (t .client) d c′) count
+      (endedRead (answered c k (v .value) .read))))
       (λ f. subst (λ (x : Client). Last L (put (t .client) d c′) (x .last)) (sym (by-cond-false f))
       (last-recounted L (t .client) (put (t .client) d c′) count (c .last)
       (sound .last d is-client)))

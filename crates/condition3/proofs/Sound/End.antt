@@ -16,10 +16,9 @@ use Rattle.itemset.proofs.Laws.{has-empty}
 use Rattle.protocol.specs.declared.Entry.{Entry}
 use Rattle.protocol.specs.declared.Message.{Message}
 use Rattle.protocol.specs.declared.Message.the-variants.{Commit}
-use Rattle.protocol.specs.Tables.{Tables, Client, Side, ofRead, ofWrite, read, write}
-use Rattle.protocol.specs.Tables.{writerOf}
+use Rattle.protocol.specs.Tables.{Tables, Client, ReadPart, Side, ofRead, ofWrite, writerOf}
 use Rattle.protocol.specs.Range.{Capacities}
-use Rattle.protocol.specs.Steps.{stored, seen, commits, touches}
+use Rattle.protocol.specs.Steps.{stored, seen, commits, touches, endedWrite}
 use Rattle.protocol.proofs.Each.{Each, each-upto}
 use Rattle.protocol.proofs.Ranges.Values.{IsClient}
 use Rattle.condition3.proofs.Sound.{Ledger, GoodEntry, Last, Fits, SoundBy}
@@ -63,17 +62,20 @@ module _ (caps : Capacities) (L : Ledger) (t : Tables) (sound : SoundBy caps L t
   stamp = c .write .stamp
 
   pub ended-last : (client′ : ℕ → Client) → ((e : ℕ) → t .client e .count ≤ client′ e .count)
-      → (s : ℕ) (stamps values : ℕ → ℕ)
-      → Last L client′ (cond (eqb (c .write .set) 0) (read s stamps values)
-      (write (c .write .set) stamp (c .write .values)))
-  ended-last client′ rises s stamps values =
+      → (p : ReadPart)
+      → Last L client′ (record {
+        kind = cond (eqb (c .write .set) 0) 1 2;
+        read = p;
+        write = endedWrite (c .write);
+      })
+  ended-last client′ rises p shows =
       by-test (eqb (c .write .set) 0)
-      (λ e. rw e tt)
+      (λ e. not-both (rw e at shows) refl)
       (λ e. let some = eqb-false (c .write .set) 0 e in
-      rw e (record {
+      record {
         agrees = sound .writes d is-client some .agrees;
         number = le-trans (write-counted caps L t sound d is-client some) (rises (writerOf stamp));
-      }))
+      })
 
   -- once every item of the write part is stored
   module _ (arrived : (j : ℕ) → has (c .write .set) j ≡ true → stored (t .versions) j stamp ≡ true)

@@ -16,8 +16,7 @@ use Rattle.itemset.specs.Set.{has, members}
 use Rattle.itemset.proofs.Laws.{has-empty}
 use Rattle.protocol.specs.declared.Version.{Version}
 use Rattle.protocol.specs.declared.Message.{Message}
-use Rattle.protocol.specs.Tables.{Tables, Client, Side, awaitedOf, Ended, nothing, read}
-use Rattle.protocol.specs.Tables.{write, withClient, withMessages}
+use Rattle.protocol.specs.Tables.{Tables, Client, Side, awaitedOf, Ended, withClient, withMessages}
 use Rattle.protocol.specs.Message.{ownerOf, itemOf}
 use Rattle.protocol.specs.Range.{Capacities}
 use Rattle.protocol.proofs.Each.{each-append}
@@ -117,12 +116,11 @@ module _ (caps : Capacities) (L : Ledger) (t : Tables) (sound : SoundBy caps L t
           (rw (sound .versions v i .agrees) at (sound .valid .inRange .versions v i .own))
 
   last-kept : (e : Ended) → Last L (t .client) e → Last L′ (t′ .client) e
-  last-kept nothing x = tt
-  last-kept (read r stamps values) x = tt
-  last-kept (write r stamp values) x =
+  last-kept e x shows =
+      let past = x shows in
       record {
-        agrees = x .agrees ∙ sym (carries stamp (x .number) .set);
-        number = le-trans (x .number) (counts _);
+        agrees = past .agrees ∙ sym (carries (e .write .stamp) (past .number) .set);
+        number = le-trans (past .number) (counts _);
       }
 
   pub begin-sound : Valid caps t′ → (L′ .set 0 ≡ 0) → ((k : ℕ) → L′ .value 0 k ≡ 0)

@@ -65,7 +65,7 @@ sound-fresh caps z ok =
       versions = λ v i. absurd i;
       distinct = refl;
       writes = λ d i m. absurd (m refl);
-      last = λ d i. tt;
+      last = λ d i shows. not-both shows refl;
       one = by-side (λ σ. (d k : ℕ) → IsClient z d → counted (isFor σ d k) [] ≡ cond
           (has (awaitedOf σ (resting 0 nothing)) k) 1 0)
           (λ d k i. rw (has-empty k) refl) (λ d k i. rw (has-empty k) refl);

@@ -1,5 +1,9 @@
 -- `deliver::deliver_message` meets its contract: the message is taken out, and does its work.
+use mathlib.Core.List.{List}
+use mathlib.Core.Path.{ap, _∙_}
+use Prim.Native.Nat.{ℕ}
 use borrow.Author.Needs.{needs}
+use Rattle.deliver.specs.Deliver.{messageDelivered}
 use Rattle.deliver.proofs.deliver_message.Statement.{statement}
 use Rattle.deliver.proofs.deliver_message.Tie as tie
 
@@ -13,7 +17,12 @@ same-length : tie.Need-same-length
 same-length c = search needs
 
 returns : tie.Need-returns
-returns c = cc
+returns c =
+    let worked = c .before .before in
+    let taken = worked .before .before .before .before in
+    let a = taken .before .before .before .args in
+    worked .work .ensures
+    ∙ ap (λ (w : List ℕ). messageDelivered w (a .counts) (a .value) (a .m)) (taken .take-out .ensures)
 
 pub deliver-message-spec : {M : Type 1} → statement M
 deliver-message-spec =

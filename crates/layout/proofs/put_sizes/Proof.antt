@@ -1,4 +1,8 @@
 -- `layout::put_sizes` meets its contract: its three stores are those of `storeSizes`.
+use mathlib.Core.List.{List}
+use mathlib.Core.Path.{ap, _∙_}
+use Prim.Native.Nat.{ℕ}
+use lib.ListN.{set}
 use borrow.Author.Needs.{needs}
 use Rattle.layout.proofs.put_sizes.Statement.{statement}
 use Rattle.layout.proofs.put_sizes.Tie as tie
@@ -16,7 +20,14 @@ same-length : tie.Need-same-length
 same-length c = search needs
 
 returns : tie.Need-returns
-returns c = cc
+returns c =
+    let third = c .before .before in
+    let second = third .before .before .before .before in
+    let first = second .before .before .before .before in
+    let a = first .before .before .before .args in
+    third .put-word3 .ensures
+    ∙ ap (λ (w : List ℕ). set w 2 (a .items)) (second .put-word2 .ensures
+    ∙ ap (λ (w : List ℕ). set w 1 (a .partitions)) (first .put-word .ensures))
 
 pub put-sizes-spec : {M : Type 1} → statement M
 put-sizes-spec =

@@ -1,10 +1,12 @@
 -- `messages::join` meets its contract: two runs of four words, side by side, are one of
 -- eight.
-use mathlib.Core.Path.{_≡_}
-use Prim.Native.Nat.{suc, _+_, _*_}
+use mathlib.Core.List.{List}
+use mathlib.Core.Path.{_≡_, ap, _∙_}
+use Prim.Native.Nat.{ℕ, suc, _+_, _*_}
 use native.Mathlib.Omega.{arith}
 use borrow.Author.Needs.{needs}
-use Rattle.layout.specs.Layout.{base, messages, messageAt}
+use Rattle.layout.specs.Layout.{header, base, messages, store, messagesAt, messageAt}
+use Rattle.messages.proofs.Words.{two-runs}
 use Rattle.messages.proofs.join.Statement.{statement}
 use Rattle.messages.proofs.join.Tie as tie
 
@@ -43,10 +45,17 @@ same-length c = search needs
 
 returns : tie.Need-returns
 returns c =
-    let a = c .before .before .before .before .before .before .before .before .before .before .before .before .before .args in
+    let counted = c .before .before in
+    let second = counted .before .before .before .before in
+    let first = second .before .before .before .before in
+    let a = first .before .before .before .args in
     let from = base messages + messageAt (a .n) 0 in
     let e : base messages + messageAt (a .n) 4 ≡ suc (suc (suc (suc from))) = omega arith in
-    cc
+    counted .put-message-count .ensures
+    ∙ ap (λ (w : List ℕ). store w header messagesAt (a .n + 1))
+    (two-runs (a .b .now) _ _ from (base messages + messageAt (a .n) 4)
+    (a .kind) (a .who) (a .item) (a .value) (a .stamp) (a .set) (a .latest-stamp) (a .latest-set) e
+    (first .put-four .ensures) (second .put-four2 .ensures))
 
 pub join-spec : {M : Type 1} → statement M
 join-spec =

@@ -1,5 +1,6 @@
 -- `messages::message` meets its contract: its eight words are those of `messageIn`.
 use borrow.Author.Needs.{needs}
+use Rattle.messages.proofs.Words.{same-message}
 use Rattle.layout.specs.Decode.{messageIn}
 use Rattle.messages.proofs.message.Statement.{statement}
 use Rattle.messages.proofs.message.Tie as tie
@@ -33,7 +34,16 @@ of-kind-requires c κs = search needs
 
 returns : tie.Need-returns
 unfolding messageIn
-returns c = cc
+returns c =
+    same-message (c .before .before .before .before .before .before .before .before .part .ensures)
+    (c .before .before .before .before .before .before .before .part2 .ensures)
+    (c .before .before .before .before .before .before .part3 .ensures)
+    (c .before .before .before .before .before .part4 .ensures)
+    (c .before .before .before .before .part5 .ensures)
+    (c .before .before .before .part6 .ensures)
+    (c .before .before .part7 .ensures)
+    (c .before .part8 .ensures)
+    (c .of-kind .ensures)
 
 pub message-spec : {M : Type 1} → statement M
 message-spec =

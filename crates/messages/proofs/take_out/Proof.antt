@@ -1,6 +1,10 @@
 -- `messages::take_out` meets its contract: the words of the later messages move, then the
 -- count falls.
+use mathlib.Core.List.{List}
+use mathlib.Core.Path.{ap, _∙_}
+use Prim.Native.Nat.{ℕ, _-_}
 use borrow.Author.Needs.{needs}
+use Rattle.layout.specs.Layout.{header, store, messagesAt}
 use Rattle.layout.specs.Store.{takeOut}
 use Rattle.messages.proofs.take_out.Statement.{statement}
 use Rattle.messages.proofs.take_out.Tie as tie
@@ -37,7 +41,12 @@ same-length c = search needs
 
 returns : tie.Need-returns
 unfolding takeOut
-returns c = cc
+returns c =
+    let counted = c .before .before in
+    let moved = counted .before .before .before .before in
+    let n = moved .before .before .before .args .n in
+    counted .put-message-count .ensures
+    ∙ ap (λ (w : List ℕ). store w header messagesAt (n - 1)) (moved .move-up .ensures)
 
 pub take-out-spec : {M : Type 1} → statement M
 take-out-spec =

@@ -5,8 +5,8 @@ use lib.ListN.{replicate}
 use Rattle.protocol.specs.declared.Version.{Version}
 use Rattle.protocol.specs.declared.Entry.{Entry}
 use Rattle.protocol.specs.declared.Message.the-variants.{Prepare, Prepared, Commit, Get, Got}
-use Rattle.protocol.specs.Tables.{Sizes, Tables, Client, noRead, noWrite, nothing, fresh}
-use Rattle.protocol.specs.Tables.{initial, resting, stampOf, put, withClient, withView}
+use Rattle.protocol.specs.Tables.{Sizes, Tables, Client, Ended, noRead, noWrite, nothing}
+use Rattle.protocol.specs.Tables.{fresh, initial, resting, stampOf, put, withClient, withView}
 use Rattle.protocol.specs.Tables.{withVersions, withMessages, withWrite}
 
 abbrev pub sizes : ℕ → ℕ → ℕ → Sizes
@@ -19,6 +19,23 @@ entry number writer set = record { stamp = stampOf number writer; set = set }
 abbrev pub version : ℕ → ℕ → ℕ → ℕ → ℕ → Version
 version k value number writer set =
     record { item = k; value = value; stamp = stampOf number writer; set = set }
+
+-- an ended read and an ended write of these items
+abbrev pub readOf : ℕ → (ℕ → ℕ) → (ℕ → ℕ) → Ended
+readOf set stamps values =
+    record {
+      kind = 1;
+      read = record { set = set; awaited = 0; asked = stamps; values = values };
+      write = noWrite;
+    }
+
+abbrev pub writeOf : ℕ → ℕ → (ℕ → ℕ) → Ended
+writeOf set stamp values =
+    record {
+      kind = 2;
+      read = noRead;
+      write = record { set = set; awaited = 0; stamp = stamp; values = values };
+    }
 
 -- a client after five writes: of its one part the items, those awaited, the stamps asked for or the
 -- stamp written, and the value of each item

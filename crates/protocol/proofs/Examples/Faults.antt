@@ -5,11 +5,12 @@ use Rattle.protocol.specs.declared.Version.{Version}
 use Rattle.protocol.specs.declared.Entry.{Entry}
 use Rattle.protocol.specs.declared.Message.{Message}
 use Rattle.protocol.specs.declared.Message.the-variants.{Prepare, Prepared, Commit, Get, Got}
-use Rattle.protocol.specs.Tables.{Sizes, Tables, Client, Ended, nothing, read, write, fresh}
-use Rattle.protocol.specs.Tables.{initial, resting, stampOf, put, withClient, withView}
+use Rattle.protocol.specs.Tables.{Sizes, Tables, Client, Ended, noRead, noWrite, nothing}
+use Rattle.protocol.specs.Tables.{fresh, initial, resting, stampOf, put, withClient}
+use Rattle.protocol.specs.Tables.{withView}
 use Rattle.protocol.specs.Tables.{withLatest, withVersions, withMessages}
 use Rattle.protocol.proofs.Examples.Begin.{sizes, entry, version, reader, writer, loaded}
-use Rattle.protocol.proofs.Examples.Begin.{holding, both}
+use Rattle.protocol.proofs.Examples.Begin.{readOf, writeOf, holding, both}
 
 -- ---- Fresh tables of two clients, partitions and items, but for one field
 
@@ -54,15 +55,15 @@ faults =
     ∷ withStored (version 1 4294967296 1 1 2) ∷ withMessage (Prepare (version 1 4294967296 1 1 2))
     ∷ withMessage (Got 1 (version 1 4294967296 0 0 0) initial)
     ∷ withBusy (reader 2 2 0 4294967296) ∷ withBusy (writer 2 2 (stampOf 1 2) 4294967296)
-    ∷ withLast (read 2 (λ k. 0) (λ k. 4294967296))
-    ∷ withLast (write 2 (stampOf 1 1) (λ k. 4294967296))
+    ∷ withLast (readOf 2 (λ k. 0) (λ k. 4294967296))
+    ∷ withLast (writeOf 2 (stampOf 1 1) (λ k. 4294967296))
     -- sets
     ∷ withLatestOf (entry 1 1 6) ∷ withViewOf (entry 1 1 6)
     ∷ withMessage (Got 1 (version 1 0 0 0 0) (entry 1 1 6))
     ∷ withStored (version 1 0 1 1 6) ∷ withMessage (Prepare (version 1 0 1 1 6))
     ∷ withBusy (reader 6 2 0 0) ∷ withBusy (writer 6 2 (stampOf 1 2) 0)
     ∷ withBusy (reader 2 6 0 0)
-    ∷ withLast (read 6 (λ k. 0) (λ k. 0)) ∷ withLast (write 6 (stampOf 1 1) (λ k. 0))
+    ∷ withLast (readOf 6 (λ k. 0) (λ k. 0)) ∷ withLast (writeOf 6 (stampOf 1 1) (λ k. 0))
     -- stamps
     ∷ withLatestOf (entry 0 1 2) ∷ withLatestOf (entry 1 0 2) ∷ withLatestOf (entry 1 3 2)
     ∷ withLatestOf (entry 4294967296 1 2)
@@ -73,7 +74,7 @@ faults =
     ∷ withMessage (Got 1 (version 1 0 1 3 0) initial)
     ∷ withMessage (Got 1 (version 1 0 0 0 0) (entry 1 3 2))
     ∷ withBusy (reader 2 2 (stampOf 1 3) 0) ∷ withBusy (writer 2 2 (stampOf 1 3) 0)
-    ∷ withLast (read 2 (λ k. stampOf 1 3) (λ k. 0)) ∷ withLast (write 2 (stampOf 1 3) (λ k. 0))
+    ∷ withLast (readOf 2 (λ k. stampOf 1 3) (λ k. 0)) ∷ withLast (writeOf 2 (stampOf 1 3) (λ k. 0))
     -- versions and prepares of the initial stamp, or with a set that lacks their item
     ∷ withStored (version 1 0 0 0 2) ∷ withMessage (Prepare (version 1 0 0 0 2))
     ∷ withStored (version 1 0 1 1 1) ∷ withMessage (Prepare (version 1 0 1 1 1))
@@ -83,6 +84,8 @@ faults =
     ∷ withBusy (reader 2 3 0 0) ∷ withBusy (writer 2 1 (stampOf 1 2) 0) ∷ withBusy (reader 0 2 0 0)
     ∷ withBusy (writer 0 2 (stampOf 1 2) 0) ∷ withBusy (writer 2 0 (stampOf 1 2) 0)
     ∷ withBusy (both (reader 2 2 0 0) (writer 1 1 (stampOf 1 2) 0))
+    -- a last transaction of no kind
+    ∷ withLast (record { kind = 3; read = noRead; write = noWrite })
     -- load 129; 513 versions; 512 and a prepare
     ∷ loaded 101 ∷ holding 513 ∷ withMessages (holding 512) (Prepare (version 1 7 1 2 2) ∷ [])
     ∷ []

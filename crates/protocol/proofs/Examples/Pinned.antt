@@ -1,18 +1,18 @@
 -- Rows that each refuse a wrong definition which the theorems let pass (docs/PINNED.md).
-use mathlib.Core.Bool.{Bool, false, _&&_}
+use mathlib.Core.Bool.{Bool, _&&_}
 use mathlib.Core.List.{List, [], _∷_}
 use Prim.Native.Nat.{ℕ, _+_, _^_}
 use lib.Dec.{eqb}
 use lib.ListN.{replicate}
 use Rattle.protocol.specs.declared.Message.the-variants.{Commit, Get, Got}
-use Rattle.protocol.specs.Tables.{Tables, Client, Ended, nothing, read, write, fresh, initial}
+use Rattle.protocol.specs.Tables.{Tables, Client, Ended, fresh, initial}
 use Rattle.protocol.specs.Tables.{resting, stampOf, put, withClient, withLatest, withVersions}
 use Rattle.protocol.specs.Tables.{withMessages, withLast}
 use Rattle.protocol.specs.Calls.{startRead, startWrite, deliver, show}
 use Rattle.protocol.proofs.Examples.Table.{Row, freshly, on, onEach, _⇒_, _keeping_}
 use Rattle.protocol.proofs.Examples.Table.{anything, messagesAre, entryIs}
 use Rattle.protocol.proofs.Examples.Begin.{sizes, entry, version, reader, writer, loaded}
-use Rattle.protocol.proofs.Examples.Begin.{seeing, spent}
+use Rattle.protocol.proofs.Examples.Begin.{readOf, writeOf, seeing, spent}
 
 -- an output of n bytes
 abbrev room : ℕ → List ℕ
@@ -61,7 +61,7 @@ fullAndWrong =
 abbrev busyShows : Row
 busyShows =
     record {
-      start = on (withSecond (withLast (reader 1 1 0 0) (write 1 (stampOf 1 2) (λ k. 7))));
+      start = on (withSecond (withLast (reader 1 1 0 0) (writeOf 1 (stampOf 1 2) (λ k. 7))));
       lines = show 2 (room 0) ⇒ "04"
           ∷ show 2 (room 18) ⇒ "04" keeping "eeeeeeeeeeeeeeeeeeeeeeeeeeeeeeeeeeee" ∷ [];
       after = anything;
@@ -108,23 +108,21 @@ firstAlikeCommitted =
 -- ---- The last ended transaction
 
 abbrev isWrite : Ended → ℕ → ℕ → ℕ → Bool
-isWrite nothing set stamp value = false
-isWrite (read s stamps values) set stamp value = false
-isWrite (write s stamp₀ values) set stamp value =
-    eqb s set && eqb stamp₀ stamp && eqb (values 0) value
+isWrite e set stamp value =
+    eqb (e .kind) 2 && eqb (e .write .set) set && eqb (e .write .stamp) stamp
+    && eqb (e .write .values 0) value
 
 abbrev isRead : Ended → ℕ → ℕ → ℕ → Bool
-isRead nothing set stamp value = false
-isRead (read s stamps values) set stamp value =
-    eqb s set && eqb (stamps 0) stamp && eqb (values 0) value
-isRead (write s stamp₀ values) set stamp value = false
+isRead e set stamp value =
+    eqb (e .kind) 1 && eqb (e .read .set) set && eqb (e .read .asked 0) stamp
+    && eqb (e .read .values 0) value
 
 -- It is kept while the next one is under way, up to that one's end.
 abbrev lastKept : Row
 lastKept =
     record {
-      start = on (withClient (withSecond (resting 0 (read 1 (λ k. 17) (λ k. 8)))) 1
-          (resting 1 (write 1 17 (λ k. 7))));
+      start = on (withClient (withSecond (resting 0 (readOf 1 (λ k. 17) (λ k. 8)))) 1
+          (resting 1 (writeOf 1 17 (λ k. 7))));
       lines = startRead 1 2 ⇒ "000001" ∷ startWrite 2 2 (replicate 4 0) ⇒ "000002"
           ∷ deliver 0 ⇒ "0004000200" ∷ deliver 0 ⇒ "0001000200" ∷ [];
       after = λ t. isWrite (t .client 1 .last) 1 17 7 && isRead (t .client 2 .last) 1 17 8;
@@ -162,7 +160,7 @@ oddReply =
 abbrev shownEmpty : Row
 shownEmpty =
     record {
-      start = on (withSecond (resting 0 (read 0 (λ k. 0) (λ k. 0))));
+      start = on (withSecond (resting 0 (readOf 0 (λ k. 0) (λ k. 0))));
       lines = show 2 (room 9) ⇒ "0e" keeping "eeeeeeeeeeeeeeeeee"
           ∷ show 2 (room 10) ⇒ "0021020000000000000000" ∷ [];
       after = anything;
@@ -176,8 +174,8 @@ abbrev wideFrames : Row
 wideFrames =
     record {
       start = on (withClient (withClient (fresh (sizes 8 8 64)) 2
-          (resting 0 (write wide (stampOf 0x01020304 2) (λ k. 0x05060708 + k)))) 8
-          (resting 0 (read wide (λ k. stampOf 0x01020304 8) (λ k. 0x05060708 + k))));
+          (resting 0 (writeOf wide (stampOf 0x01020304 2) (λ k. 0x05060708 + k)))) 8
+          (resting 0 (readOf wide (λ k. stampOf 0x01020304 8) (λ k. 0x05060708 + k))));
       lines =
           show 2 (room 22) ⇒ "0020028000000000000001010203040506070805060747"
           ∷ show 8 (room 28) ⇒ "0021088000000000000001010203040805060708010203040805060747"

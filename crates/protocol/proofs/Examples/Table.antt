@@ -18,13 +18,13 @@ use Rattle.protocol.specs.declared.Answer.{Answer}
 use Rattle.protocol.specs.declared.Answer.the-variants.{Refused, Made, Started, Delivered}
 use Rattle.protocol.specs.declared.Answer.the-variants.{Shown}
 use Rattle.protocol.specs.declared.Entry.{Entry}
-use Rattle.protocol.specs.Tables.{Sizes, Tables, fresh, numberOf, writerOf}
+use Rattle.protocol.specs.Tables.{Sizes, Tables, isKind, fresh, numberOf, writerOf}
 use Rattle.protocol.specs.Range.{capacities, valid, inRange, stampInRange, sizesInRange}
 use Rattle.protocol.specs.Range.{entryInRange, versionInRange, messageInRange, endedInRange}
 use Rattle.protocol.specs.Range.{clientInRange, readPartInRange, writePartInRange, arrived}
 use Rattle.protocol.specs.Range.{total, load, occupied}
 use Rattle.protocol.specs.Steps.{choice, stored, found, delivered, joined, touches}
-use Rattle.protocol.specs.Frame.{listed, frame}
+use Rattle.protocol.specs.LogFrame.{listed, readBytes, writeBytes, frame}
 use Rattle.protocol.specs.Calls.{Call, Given, first, refusal, freshAnswer, unexpected}
 use Rattle.protocol.specs.Calls.{missing, isNothing, outcomeOf, effect, reply, written, lent}
 use Rattle.protocol.specs.Calls.{step, bytesOfAnswer}
@@ -65,10 +65,10 @@ anything t = true
 
 unfoldable pub given : Tables → Call → Given
 unfolding step refusal first unexpected missing isNothing effect reply written lent outcomeOf valid
-    inRange sizesInRange stampInRange entryInRange versionInRange messageInRange endedInRange
-    clientInRange readPartInRange writePartInRange load arrived total occupied choice stored found
-    delivered joined touches listed frame every all counted without has upto remove ones onesIn
-    bigEndian numberAt
+    inRange sizesInRange stampInRange entryInRange versionInRange messageInRange isKind
+    endedInRange clientInRange readPartInRange writePartInRange load arrived total occupied choice
+    stored found delivered joined touches listed readBytes writeBytes frame every all counted
+    without has upto remove ones onesIn bigEndian numberAt
 given t c = step capacities t c
 
 unfoldable pub made : Sizes → Answer

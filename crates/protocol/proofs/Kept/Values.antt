@@ -15,10 +15,10 @@ use Rattle.itemset.specs.Set.{has, remove}
 use Rattle.itemset.proofs.Laws.{has-empty, has-remove, remove-le, set-empty}
 use Rattle.protocol.specs.declared.Version.{Version}
 use Rattle.protocol.specs.declared.Entry.{Entry}
-use Rattle.protocol.specs.Tables.{Sizes, Tables, Client, ReadPart, Ended, read, write, ofRead}
-use Rattle.protocol.specs.Tables.{ofWrite, noRead, noWrite, laterOf, partitionOf, resting}
-use Rattle.protocol.specs.Tables.{WritePart, put, withCount, withRead, withWrite, withLast}
-use Rattle.protocol.specs.Tables.{rested}
+use Rattle.protocol.specs.Tables.{Sizes, Tables, Client, ReadPart, Ended, nothing, isKind}
+use Rattle.protocol.specs.Tables.{ofRead, ofWrite, noRead, noWrite, laterOf, partitionOf}
+use Rattle.protocol.specs.Tables.{resting, rested, put, WritePart, withCount, withRead, withWrite}
+use Rattle.protocol.specs.Tables.{withLast}
 use Rattle.protocol.specs.Steps.{alike, stored, found, answered, isLast, ended, prepared, got}
 use Rattle.protocol.specs.Steps.{struck, seen, committed}
 use Rattle.protocol.proofs.Each.{Each}
@@ -113,12 +113,33 @@ range-resting z n e h r =
       last = r;
     }
 
+pub range-nothing : (z : Sizes) → EndedInRange z nothing
+unfolding isKind
+range-nothing z =
+    record { kind = refl; read = λ s. range-no-read z; write = λ s. range-no-write z }
+
+-- a part in range is so once nothing of it is awaited
 pub range-ended : (z : Sizes) (c : Client) → ReadPartInRange z (c .read)
     → WritePartInRange z (c .write) → EndedInRange z (ended c)
+unfolding isKind
 range-ended z c r w =
-    by-cond (EndedInRange z) (eqb (c .write .set) 0) _ _
-    (λ e. record { set = r .set; stamps = r .asked; values = r .values })
-    (λ e. record { set = w .set; stamp = w .stamp; values = w .values })
+    record {
+      kind = by-test (eqb (c .write .set) 0) (λ e. rw e refl) (λ e. rw e refl);
+      read = λ s. record {
+        set = r .set;
+        awaited = pow-pos (z .items);
+        within = λ k i. not-both i (has-empty k);
+        asked = r .asked;
+        values = r .values;
+      };
+      write = λ s. record {
+        set = w .set;
+        awaited = pow-pos (z .items);
+        within = λ k i. not-both i (has-empty k);
+        stamp = w .stamp;
+        values = w .values;
+      };
+    }
 
 -- another last transaction, another count, and other parts
 pub range-last : (z : Sizes) (c : Client) (e : Ended) → ClientInRange z c → EndedInRange z e

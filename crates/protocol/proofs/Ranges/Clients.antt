@@ -2,55 +2,21 @@
 -- facts, both ways.
 use mathlib.Core.Bool.{true}
 use mathlib.Core.Logic.{_↔_, _≢_}
-use mathlib.Core.Path.{_≡_, refl}
+use mathlib.Core.Path.{_≡_}
 use Prim.Native.Nat.{ℕ, _^_, _<_}
 use Rattle.itemset.specs.Set.{has}
 use Rattle.itemset.proofs.Laws.{has-below}
-use Rattle.protocol.specs.Tables.{Sizes, Client, ReadPart, WritePart, Ended, nothing, read}
-use Rattle.protocol.specs.Tables.{write}
+use Rattle.protocol.specs.Tables.{Sizes, Client, ReadPart, WritePart, Ended, isKind}
+use Rattle.protocol.specs.Tables.{showsRead, showsWrite}
 use Rattle.protocol.specs.Range.{readPartInRange, writePartInRange, clientInRange}
 use Rattle.protocol.specs.Range.{endedInRange}
+use Rattle.protocol.proofs.Tells.{tells-and, tells-or, tells-not-false}
 use Rattle.protocol.proofs.Ranges.Values.{StampInRange, parts}
-
--- ---- The last ended transaction, clients
-
-pub record ReadInRange (z : Sizes) (s : ℕ) (σ ν : ℕ → ℕ) : Type 0 where
-  pub set : s < 2 ^ z .items
-  pub stamps : (k : ℕ) → has s k ≡ true → StampInRange z (σ k)
-  pub values : (k : ℕ) → has s k ≡ true → ν k < 2 ^ 32
-
-pub record WriteInRange (z : Sizes) (s σ : ℕ) (ν : ℕ → ℕ) : Type 0 where
-  pub set : s < 2 ^ z .items
-  pub stamp : StampInRange z σ
-  pub values : (k : ℕ) → has s k ≡ true → ν k < 2 ^ 32
-
-abbrev pub EndedInRange : Sizes → Ended → Type 0
-EndedInRange z nothing = Unit
-EndedInRange z (read s stamps values) = ReadInRange z s stamps values
-EndedInRange z (write s stamp values) = WriteInRange z s stamp values
 
 -- a set's items exist
 each-has : {P : ℕ → Type 0} (s n : ℕ) → s < 2 ^ n → ((k : ℕ) → k < n → has s k ≡ true → P k)
     → (k : ℕ) → has s k ≡ true → P k
 each-has s n l h k e = h k (has-below s k n l e) e
-
-pub tells-ended : (z : Sizes) (e : Ended) → (endedInRange z e ≡ true) ↔ EndedInRange z e
-unfolding endedInRange
-tells-ended z nothing = (λ h. tt, λ r. refl)
-tells-ended z (read s stamps values) = (
-  λ h.
-      let f = simp parts at h in
-      let g = each-has s (z .items) (f .0) (f .1) in
-      record { set = f .0; stamps = λ k e. g k e .0; values = λ k e. g k e .1 },
-  λ r. simp parts (search (r .stamps, r .values)),
-)
-tells-ended z (write s stamp values) = (
-  λ h.
-      let f = simp parts at h in
-      let values = each-has s (z .items) (f .0 .0) (f .1) in
-      search,
-  λ r. simp parts (search (r .values)),
-)
 
 pub record ReadPartInRange (z : Sizes) (p : ReadPart) : Type 0 where
   pub set : p .set < 2 ^ z .items
@@ -104,6 +70,24 @@ tells-write-part z p = (
       },
   λ r. simp parts
       ((((r .set, r .awaited), λ k l. r .within k), r .stamp), λ k l. r .values k),
+)
+
+-- what a last ended transaction doesn't show may be anything
+pub record EndedInRange (z : Sizes) (e : Ended) : Type 0 where
+  pub kind : isKind (e .kind) ≡ true
+  pub read : showsRead (e .kind) ≡ true → ReadPartInRange z (e .read)
+  pub write : showsWrite (e .kind) ≡ true → WritePartInRange z (e .write)
+
+ruleset shown =
+    (tells-and, tells-or, tells-not-false, tells-read-part, tells-write-part)
+
+pub tells-ended : (z : Sizes) (e : Ended) → (endedInRange z e ≡ true) ↔ EndedInRange z e
+unfolding endedInRange
+tells-ended z e = (
+  λ h.
+      let f = simp shown at h in
+      record { kind = f .0 .0; read = f .0 .1; write = f .1 },
+  λ r. simp shown ((r .kind, r .read), r .write),
 )
 
 pub record ClientInRange (z : Sizes) (c : Client) : Type 0 where

@@ -1,4 +1,4 @@
--- `store::refusals::of_client_read` meets its contract: test by test, from the words that the
+-- `refusals::of_client_read` meets its contract: test by test, from the words that the
 -- tables are.
 use mathlib.Core.Path.{refl, sym, ap₂, _∙_}
 use Prim.Native.Nat.{ℕ, _+_}

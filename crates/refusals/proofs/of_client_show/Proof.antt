@@ -1,4 +1,4 @@
--- `store::refusals::of_client_show` meets its contract: test by test, from the words that the
+-- `refusals::of_client_show` meets its contract: test by test, from the words that the
 -- tables are.
 use mathlib.Core.Path.{refl, sym, ap, _∙_}
 use Prim.Native.Nat.{ℕ}

@@ -1,4 +1,4 @@
--- `store::refusals::of_client_write` meets its contract: test by test, from the words that the
+-- `refusals::of_client_write` meets its contract: test by test, from the words that the
 -- tables are.
 use mathlib.Core.Bool.{not}
 use mathlib.Core.Path.{refl, sym, ap, ap₂, _∙_}

@@ -1,4 +1,4 @@
--- `store::refusals::of_fresh` meets its contract: test by test.
+-- `refusals::of_fresh` meets its contract: test by test.
 use mathlib.Core.Bool.{cond, not}
 use mathlib.Core.Path.{ap, _∙_}
 use Prim.Native.Nat.{ℕ}

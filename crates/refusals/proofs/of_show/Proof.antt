@@ -1,4 +1,4 @@
--- `store::refusals::of_show` meets its contract: 1, else the tests behind it.
+-- `refusals::of_show` meets its contract: 1, else the tests behind it.
 use mathlib.Core.Path.{sym, _∙_}
 use borrow.Author.Needs.{needs}
 use Rattle.block_calls.proofs.Accepted.{refused-invalid, refusal-valid}

@@ -1,4 +1,4 @@
--- `store::refusals::of_valid_read` meets its contract: 3, else the tests behind it.
+-- `refusals::of_valid_read` meets its contract: 3, else the tests behind it.
 use mathlib.Core.Path.{sym, _∙_}
 use borrow.Author.Needs.{needs}
 use Rattle.block_calls.proofs.Tested.{read-nobody}

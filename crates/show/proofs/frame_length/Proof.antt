@@ -1,41 +1,48 @@
--- `show::frame_length` meets its contract: the frame's length by the kind of the last ended
--- transaction and the members of its set.
-use mathlib.Core.Path.{sym, ap, _∙_}
-use Prim.Native.Nat.{ℕ, _+_, _*_, _≤_}
+-- `show::frame_length` meets its contract: kind and client, and the parts that the kind shows.
+use mathlib.Core.Path.{sym, ap, ap₂, _∙_}
+use Prim.Native.Nat.{ℕ, _+_, _≤_}
 use native.Mathlib.Omega.{arith}
 use borrow.Author.Needs.{needs}
 use lib.ListN.{length}
-use Rattle.itemset.specs.Set.{count}
-use Rattle.itemset.proofs.Counts.{count-le}
-use Rattle.show.proofs.Frames.{frameIn-nothing, length-frameIn-read, length-frameIn-write}
+use Rattle.show.proofs.LogFrames.{frameIn-nothing, length-frameIn, readLength-le}
+use Rattle.show.proofs.LogFrames.{writeLength-le}
 use Rattle.show.proofs.frame_length.Statement.{statement}
 use Rattle.show.proofs.frame_length.Tie as tie
 
--- the set is a word, so it has at most 64 members
-few : (c : tie.After-last-kind) → count (c .before .last-set .result) ≤ 64
-few c = count-le (c .before .last-set .result) 64 (c .before .last-set .ok)
+read-le : (c : tie.After-read-length) → c .read-length .result ≤ 584
+read-le c =
+    let set = c .before .before .before in
+    omega (
+      arith,
+      c .read-length .ensures,
+      readLength-le (c .before .before .last-kind .result) (set .last-set .result)
+          (set .last-set .ok),
+    )
+
+write-le : (c : tie.After-write-length) → c .write-length .result ≤ 268
+write-le c =
+    let set = c .before .before .before .before in
+    omega (
+      arith,
+      c .write-length .ensures,
+      writeLength-le (c .before .before .before .last-kind .result) (set .last-set .result)
+          (set .last-set .ok),
+    )
 
 returns : tie.Need-returns
 returns c =
     let look = c .before in
     sym (ap length
     (frameIn-nothing _ _ (look .last-kind .ensures) (look .before .last-set .ensures)
-    (c .match .keys1)))
+    (c .if1 .taken)))
 
 returns-2 : tie.Need-returns-2
 returns-2 c =
-    let look = c .before .before in
-    ap (λ (n : ℕ). 10 + 9 * n) (c .count .ensures)
-    ∙ sym (length-frameIn-read _ _ (look .last-kind .ensures) (look .before .last-set .ensures)
-    (look .before .last-set .ok) (c .before .match .keys2))
-
-returns-3 : tie.Need-returns-3
-returns-3 c =
-    let look = c .before .before in
-    let other = c .before .match .rest in
-    ap (λ (n : ℕ). 14 + 4 * n) (c .count2 .ensures)
-    ∙ sym (length-frameIn-write _ _ (look .last-kind .ensures) (look .before .last-set .ensures)
-    (look .before .last-set .ok) (other .0 .1) (other .1))
+    let read = c .before in
+    let look = read .before .before in
+    ap₂ (λ (m n : ℕ). 2 + m + n) (read .read-length .ensures) (c .write-length .ensures)
+    ∙ sym (length-frameIn _ _ (look .last-kind .ensures) (look .before .last-set .ensures)
+    (look .before .last-set .ok) (read .before .if1 .left))
 
 pub frame-length-spec : {M : Type 1} → statement M
 frame-length-spec =
@@ -44,11 +51,8 @@ frame-length-spec =
     (λ c κs. search needs)
     (λ c κs. search needs)
     (λ c κs. search needs)
-    (λ c. omega (arith, few (c .before .before)))
-    (λ c. omega (arith, few (c .before .before)))
+    (λ c. omega (arith, read-le c))
     (λ c κs. search needs)
-    (λ c. omega (arith, few (c .before .before)))
-    (λ c. omega (arith, few (c .before .before)))
+    (λ c. omega (arith, read-le (c .before), write-le c))
     returns
-    returns-2
-    returns-3)
+    returns-2)

@@ -10,7 +10,7 @@ use lib.Seq.{sets}
 use Rattle.hex.specs.Number.{bigEndian}
 use Rattle.hex.proofs.Number.{length-bigEndian}
 use Rattle.hex.proofs.Stores.{sets-join}
-use Rattle.protocol.specs.Frame.{shownEntry}
+use Rattle.protocol.specs.LogFrame.{shownEntry}
 use Rattle.show.proofs.put_entry.Statement.{statement}
 use Rattle.show.proofs.put_entry.Tie as tie
 

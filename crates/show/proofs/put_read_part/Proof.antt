@@ -1,12 +1,12 @@
 -- `show::put_read_part` meets its contract: its loop stores the entries right behind the set.
-use mathlib.Core.Path.{sym, ap, _∙_}
+use mathlib.Core.Path.{sym, ap}
 use Prim.Native.Nat.{ℕ, _+_, _-_}
 use borrow.Author.Needs.{needs}
 use Rattle.basics.proofs.Turns.{Turns, turns-first, turns-next, turns-last}
 use Rattle.hex.specs.Number.{bigEndian}
 use Rattle.hex.proofs.Number.{length-bigEndian}
 use Rattle.show.specs.Show.{readItem, putItem}
-use Rattle.show.proofs.Frames.{length-readItem}
+use Rattle.show.proofs.LogFrames.{length-readItem}
 use Rattle.show.proofs.Listed.{listed-behind}
 use Rattle.show.proofs.put_read_part.Statement.{statement}
 use Rattle.show.proofs.put_read_part.Tie as tie

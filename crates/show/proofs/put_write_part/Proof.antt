@@ -5,14 +5,14 @@ use mathlib.Core.Path.{_≡_, ap, _∙_}
 use Prim.Native.Nat.{ℕ, _+_, _-_}
 use native.Mathlib.Omega.{arith}
 use borrow.Author.Needs.{needs}
-use lib.ListN.{length, length-append}
+use lib.ListN.{length-append}
 use lib.Seq.{sets}
 use Rattle.basics.proofs.Turns.{Turns, turns-first, turns-next, turns-last}
 use Rattle.hex.specs.Number.{bigEndian}
 use Rattle.hex.proofs.Number.{length-bigEndian}
 use Rattle.hex.proofs.Stores.{sets-join}
 use Rattle.show.specs.Show.{writtenItem, putItem}
-use Rattle.show.proofs.Frames.{length-writtenItem}
+use Rattle.show.proofs.LogFrames.{length-writtenItem}
 use Rattle.show.proofs.Listed.{listed-behind}
 use Rattle.show.proofs.put_write_part.Statement.{statement}
 use Rattle.show.proofs.put_write_part.Tie as tie

@@ -1,6 +1,6 @@
 -- `slots::put_four` meets its contract: its four stores are those of the run, in order.
-use native.Mathlib.Numerals.{add-one, add-two, add-three}
 use borrow.Author.Needs.{needs}
+use Rattle.slots.proofs.Runs.{four-sets}
 use Rattle.slots.proofs.put_four.Statement.{statement}
 use Rattle.slots.proofs.put_four.Tie as tie
 
@@ -30,8 +30,14 @@ same-length c = search needs
 
 returns : tie.Need-returns
 returns c =
-    let a = c .before .before .before .before .before .before .before .before .before .before .before .before .before .before .before .before .before .args in
-    cc (add-one (a .place), add-two (a .place), add-three (a .place))
+    let fourth = c .before .before in
+    let third = fourth .before .before .before .before in
+    let second = third .before .before .before .before in
+    let first = second .before .before .before .before in
+    let a = first .before .before .before .args in
+    four-sets (a .b .now) _ _ _ _ (a .place) (a .first) (a .second) (a .third) (a .fourth)
+    (first .put-word .ensures) (second .put-word2 .ensures) (third .put-word3 .ensures)
+    (fourth .put-word4 .ensures)
 
 pub put-four-spec : {M : Type 1} → statement M
 put-four-spec =

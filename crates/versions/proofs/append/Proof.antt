@@ -1,6 +1,10 @@
 -- `versions::append` meets its contract: the four words are stored as one run, then the
 -- count.
+use mathlib.Core.List.{List}
+use mathlib.Core.Path.{ap, _∙_}
+use Prim.Native.Nat.{ℕ, _+_}
 use borrow.Author.Needs.{needs}
+use Rattle.layout.specs.Layout.{header, store, versionsAt}
 use Rattle.layout.specs.Store.{appendVersion, storeVersion}
 use Rattle.versions.proofs.append.Statement.{statement}
 use Rattle.versions.proofs.append.Tie as tie
@@ -28,7 +32,12 @@ same-length c = search needs
 
 returns : tie.Need-returns
 unfolding appendVersion storeVersion
-returns c = cc
+returns c =
+    let counted = c .before .before in
+    let stored = counted .before .before .before .before in
+    let n = stored .before .before .before .args .n in
+    counted .put-version-count .ensures
+    ∙ ap (λ (w : List ℕ). store w header versionsAt (n + 1)) (stored .put-four .ensures)
 
 pub append-spec : {M : Type 1} → statement M
 append-spec =

@@ -1,6 +1,8 @@
 -- `versions::is_alike` meets its contract: where the stamps are equal the items decide,
 -- elsewhere nothing does.
-use mathlib.Core.Path.{_≡_, sym, _∙_}
+use mathlib.Core.Path.{_≡_, sym, ap, _∙_}
+use Prim.Native.Nat.{ℕ}
+use lib.Dec.{eqb}
 use denote.Ref.{now}
 use borrow.Author.Needs.{needs}
 use Rattle.layout.specs.Decode.{versionIn}
@@ -18,8 +20,9 @@ returns : tie.Need-returns
 returns c =
     let a = c .before .before .before .before .args in
     let v = versionIn (now (a .b)) (a .i) in
-    let e : v .stamp ≡ a .stamp = cc in
-    cc (alike-stamp v (a .item) (a .stamp) e)
+    let e : v .stamp ≡ a .stamp = sym (c .before .before .part .ensures) ∙ c .before .if1 .taken in
+    ap (λ (k : ℕ). eqb k (a .item)) (c .part2 .ensures)
+    ∙ sym (alike-stamp v (a .item) (a .stamp) e)
 
 returns-2 : tie.Need-returns-2
 returns-2 c =

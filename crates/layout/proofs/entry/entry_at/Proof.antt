@@ -1,5 +1,6 @@
 -- `layout::entry::entry_at` meets its contract: each word is the one that `word` returns.
 use borrow.Author.Needs.{needs}
+use Rattle.layout.proofs.SameEntry.{same-entry}
 use Rattle.layout.proofs.entry.entry_at.Statement.{statement}
 use Rattle.layout.proofs.entry.entry_at.Tie as tie
 
@@ -19,7 +20,7 @@ word-requires-2 : tie.Need-word-requires-2
 word-requires-2 c κs = search needs
 
 returns : tie.Need-returns
-returns c = cc
+returns c = same-entry (c .before .word .ensures) (c .word2 .ensures)
 
 pub entry-at-spec : {M : Type 1} → statement M
 entry-at-spec =

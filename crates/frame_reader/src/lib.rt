@@ -1,0 +1,133 @@
+// A line read as the frame that it is (document 01: store frames).
+use hex::Decoded;
+use store_frames::MOST_FRAME;
+use store_frames::MOST_LINE;
+use store_frames::Parsed;
+use store_frames::StoreFrame;
+ghost use mathlib.Core.Path.{_≡_};
+ghost use Prim.Native.Nat.{_≤_};
+ghost use lib.ListN.{length};
+ghost use lib.Seq.{sets};
+ghost use Rattle.store_frames.specs.Limits.{mostFrame};
+ghost use Rattle.store_frames.specs.StoreFrames.{isEnded, kindOf, isStoreFrame, valuesIn, isWrite};
+ghost use Rattle.store_frames.specs.StoreFrames.{parsed, storeFrameOf, isDecoded, decodedLine};
+ghost use Rattle.store_frames.specs.StoreFrames.{storedBytes};
+
+// The line's last byte is 0a.
+fn is_ended(line: &[u8]) -> bool
+    ensures { λ r. ⌜ r ≡ isEnded (now (line .entry)) ⌝ }
+{
+    let n = line.len();
+    if 0 < n { line[n - 1] == 0x0a } else { false }
+}
+
+// The line has its 0a, and is no longer than the longest frame's.
+fn is_decoded(line: &[u8]) -> bool
+    ensures { λ r. ⌜ r ≡ isDecoded (now (line .entry)) ⌝ }
+{
+    (line.len() <= MOST_LINE) & is_ended(line)
+}
+
+// The frame's first byte; 0 where it has none.
+fn kind(f: &[u8]) -> u8
+    ensures { λ r. ⌜ r ≡ kindOf (now (f .entry)) ⌝ }
+{
+    if 0 < f.len() { f[0] } else { 0 }
+}
+
+// A frame of that kind and that many bytes.
+fn is_frame(f: &[u8], k: u8, n: usize) -> bool
+    ensures { λ r. ⌜ r ≡ isStoreFrame k n (now (f .entry)) ⌝ }
+{
+    (kind(f) == k) & (f.len() == n)
+}
+
+// How many values of 4 bytes there are in `n` bytes, behind kind, client and set.
+fn values_in(n: usize) -> usize
+    ensures { λ r. ⌜ r ≡ valuesIn n ⌝ }
+{
+    if 10 <= n { (n - 10) / 4 } else { 0 }
+}
+
+// A write: whole values, 0 to 64 of them.
+fn is_write(f: &[u8]) -> bool
+    ensures { λ r. ⌜ r ≡ isWrite (now (f .entry)) ⌝ }
+{
+    let values = values_in(f.len());
+    is_frame(f, 3, 10 + 4 * values) & (values <= 64)
+}
+
+// The frame of some bytes.
+fn parse(f: &[u8]) -> Parsed
+    ensures { λ r. ⌜ r ≡ parsed (now (f .entry)) ⌝ }
+{
+    let length = f.len();
+    if is_frame(f, 1, 4) {
+        let clients = hex::number_at(f, 1, 1);
+        let partitions = hex::number_at(f, 2, 1);
+        let items = hex::number_at(f, 3, 1);
+        let frame = StoreFrame::Fresh {
+            clients,
+            partitions,
+            items,
+        };
+        return Parsed::Frame { frame, length };
+    }
+    if is_frame(f, 2, 10) {
+        let client = hex::number_at(f, 1, 1);
+        let set = hex::number_at(f, 2, 8);
+        let frame = StoreFrame::Read { client, set };
+        return Parsed::Frame { frame, length };
+    }
+    if is_write(f) {
+        let client = hex::number_at(f, 1, 1);
+        let set = hex::number_at(f, 2, 8);
+        let frame = StoreFrame::Write { client, set };
+        return Parsed::Frame { frame, length };
+    }
+    if is_frame(f, 4, 3) {
+        let place = hex::number_at(f, 1, 2);
+        let frame = StoreFrame::Deliver { place };
+        return Parsed::Frame { frame, length };
+    }
+    if is_frame(f, 5, 2) {
+        let client = hex::number_at(f, 1, 1);
+        let frame = StoreFrame::Show { client };
+        return Parsed::Frame { frame, length };
+    }
+    Parsed::Malformed
+}
+
+// Stores the bytes of a line's digits at the front of `bytes`.
+fn decode_line(line: &[u8], bytes: &mut [u8]) -> Decoded
+    requires { ⌜ mostFrame ≤ length (now bytes) ⌝ }
+    ensures { λ r. ⌜ r ≡ decodedLine (now (line .entry)) ⌝ }
+    ensures { λ _. ⌜ now (bytes .exit) ≡ sets (now (bytes .entry)) 0 (storedBytes (now (line .entry))) ⌝ }
+{
+    if is_decoded(line) {
+        let end = line.len() - 1;
+        hex::decode(&line[0..end], bytes)
+    } else {
+        Decoded::Malformed
+    }
+}
+
+fn read_into(line: &[u8], bytes: &mut [u8]) -> Parsed
+    requires { ⌜ mostFrame ≤ length (now bytes) ⌝ }
+    ensures { λ r. ⌜ r ≡ storeFrameOf (now (line .entry)) ⌝ }
+    ensures { λ _. ⌜ now (bytes .exit) ≡ sets (now (bytes .entry)) 0 (storedBytes (now (line .entry))) ⌝ }
+{
+    let text = decode_line(line, bytes);
+    let Decoded::Bytes(n) = text else {
+        return Parsed::Malformed;
+    };
+    parse(&bytes[0..n])
+}
+
+// Reads a line: its frame, whose bytes are then those of `bytes`, from the front on.
+pub fn read_frame(line: &[u8], bytes: &mut [u8; MOST_FRAME]) -> Parsed
+    ensures { λ r. ⌜ r ≡ storeFrameOf (now (line .entry)) ⌝ }
+    ensures { λ _. ⌜ now (bytes .exit) ≡ sets (now (bytes .entry)) 0 (storedBytes (now (line .entry))) ⌝ }
+{
+    read_into(line, bytes)
+}

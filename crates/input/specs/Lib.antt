@@ -1,0 +1,2 @@
+-- An input, whole and byte by byte.
+pub mod Input

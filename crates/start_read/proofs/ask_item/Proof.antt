@@ -1,0 +1,30 @@
+-- `start_read::ask_item` meets its contract: two stores or none, by the test on the set.
+use mathlib.Core.Path.{sym, ap, _∙_}
+use borrow.Author.Needs.{needs}
+use Rattle.start_read.proofs.ask_item.Statement.{statement}
+use Rattle.start_read.proofs.ask_item.Tie as tie
+
+returns : tie.Need-returns
+returns c =
+    let valued = c .before .before in
+    let asked = valued .before .before .before .before in
+    let chosen = asked .before .before in
+    let found = chosen .before .before in
+    rw (
+      sym (found .before .has .ensures) ∙ found .if1 .taken,
+      ← chosen .choose .ensures,
+      ← asked .put-asked .ensures,
+    )
+    (valued .put-value .ensures)
+
+pub ask-item-spec : {M : Type 1} → statement M
+ask-item-spec =
+    tie.close
+    (tie.spec
+    (λ c κs. search needs)
+    (λ c κs. search needs)
+    (λ c κs. search needs)
+    (λ c κs. search needs)
+    (λ c. search needs)
+    returns
+    (λ c. rw (sym (c .before .has .ensures) ∙ c .if1 .left)))

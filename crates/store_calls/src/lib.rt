@@ -1,0 +1,101 @@
+// The calls but a delivery, each with its answer. A refused one changes nothing.
+ghost use mathlib.Core.Path.{_≡_};
+ghost use Rattle.protocol.specs.Calls.{startRead, startWrite, show};
+ghost use Rattle.layout.specs.Decode.{tablesOf};
+ghost use Rattle.range.specs.Sized.{sizes};
+ghost use Rattle.block_calls.specs.Calls.{freshAnswerOn, freshAfter, freshTables, refusalOn, answerOn, outputOn, blockAfter, tablesAfter};
+use protocol::Answer;
+use show::frame_length;
+use show::write_frame;
+
+pub fn fresh(b: &mut [u64], clients: u64, partitions: u64, items: u64) -> Answer
+    ensures answer { λ r. ⌜ r ≡ freshAnswerOn (now (b .entry)) (sizes clients partitions items) ⌝ }
+    ensures block { λ _. ⌜ now (b .exit) ≡ freshAfter (now (b .entry)) (sizes clients partitions items) ⌝ }
+    ensures tables { λ _. ⌜ tablesOf (now (b .exit)) ≡ freshTables (now (b .entry)) (sizes clients partitions items) ⌝ }
+{
+    let refusal = refusals::of_fresh(b, clients, partitions, items);
+    if refusal == 0 {
+        layout::make_fresh(b, clients, partitions, items);
+        Answer::Made
+    } else {
+        Answer::Refused(refusal)
+    }
+}
+
+// A read that is accepted.
+fn read_on(b: &mut [u64], d: u64, s: u64) -> Answer
+    requires { ⌜ refusalOn (now b) (startRead d s) ≡ 0 ⌝ }
+    ensures answer { λ r. ⌜ r ≡ answerOn (now (b .entry)) (startRead d s) ⌝ }
+    ensures block { λ _. ⌜ now (b .exit) ≡ blockAfter (now (b .entry)) (startRead d s) ⌝ }
+{
+    let items = layout::items(b);
+    let messages = layout::message_count(b);
+    start_read::start_read(b, d, s, items, messages);
+    let length = layout::message_count(b);
+    Answer::Started { length }
+}
+
+pub fn start_read(b: &mut [u64], d: u64, s: u64) -> Answer
+    ensures answer { λ r. ⌜ r ≡ answerOn (now (b .entry)) (startRead d s) ⌝ }
+    ensures block { λ _. ⌜ now (b .exit) ≡ blockAfter (now (b .entry)) (startRead d s) ⌝ }
+    ensures tables { λ _. ⌜ tablesOf (now (b .exit)) ≡ tablesAfter (now (b .entry)) (startRead d s) ⌝ }
+{
+    let refusal = refusals::of_read(b, d, s);
+    if refusal == 0 {
+        read_on(b, d, s)
+    } else {
+        Answer::Refused(refusal)
+    }
+}
+
+// A write that is accepted.
+fn write_on(b: &mut [u64], d: u64, s: u64, bytes: &[u8]) -> Answer
+    requires { ⌜ refusalOn (now b) (startWrite d s (now bytes)) ≡ 0 ⌝ }
+    ensures answer { λ r. ⌜ r ≡ answerOn (now (b .entry)) (startWrite d s (now (bytes .entry))) ⌝ }
+    ensures block { λ _. ⌜ now (b .exit) ≡ blockAfter (now (b .entry)) (startWrite d s (now (bytes .entry))) ⌝ }
+{
+    let items = layout::items(b);
+    let messages = layout::message_count(b);
+    start_write::start_write(b, d, s, bytes, items, messages);
+    let length = layout::message_count(b);
+    Answer::Started { length }
+}
+
+pub fn start_write(b: &mut [u64], d: u64, s: u64, bytes: &[u8]) -> Answer
+    ensures answer { λ r. ⌜ r ≡ answerOn (now (b .entry)) (startWrite d s (now (bytes .entry))) ⌝ }
+    ensures block { λ _. ⌜ now (b .exit) ≡ blockAfter (now (b .entry)) (startWrite d s (now (bytes .entry))) ⌝ }
+    ensures tables { λ _. ⌜ tablesOf (now (b .exit)) ≡ tablesAfter (now (b .entry)) (startWrite d s (now (bytes .entry))) ⌝ }
+{
+    let refusal = refusals::of_write(b, d, s, bytes);
+    if refusal == 0 {
+        write_on(b, d, s, bytes)
+    } else {
+        Answer::Refused(refusal)
+    }
+}
+
+// A showing that is accepted.
+fn show_on(b: &[u64], d: u64, out: &mut [u8]) -> Answer
+    requires { ⌜ refusalOn (now b) (show d (now out)) ≡ 0 ⌝ }
+    ensures answer { λ r. ⌜ r ≡ answerOn (now (b .entry)) (show d (now (out .entry))) ⌝ }
+    ensures output { λ _. ⌜ now (out .exit) ≡ outputOn (now (b .entry)) (show d (now (out .entry))) ⌝ }
+{
+    write_frame(b, d, out);
+    Answer::Shown {
+        length: frame_length(b, d),
+    }
+}
+
+// The block is lent shared: a showing doesn't change it.
+pub fn show(b: &[u64], d: u64, out: &mut [u8]) -> Answer
+    ensures answer { λ r. ⌜ r ≡ answerOn (now (b .entry)) (show d (now (out .entry))) ⌝ }
+    ensures block { λ _. ⌜ now (b .exit) ≡ blockAfter (now (b .entry)) (show d (now (out .entry))) ⌝ }
+    ensures output { λ _. ⌜ now (out .exit) ≡ outputOn (now (b .entry)) (show d (now (out .entry))) ⌝ }
+{
+    let refusal = refusals::of_show(b, d, out);
+    if refusal == 0 {
+        show_on(b, d, out)
+    } else {
+        Answer::Refused(refusal)
+    }
+}
