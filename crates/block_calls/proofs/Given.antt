@@ -17,19 +17,19 @@ use Rattle.protocol.specs.Calls.{pick, shownFrame}
 use Rattle.protocol.proofs.Ranges.Tables.{Valid, valid-facts}
 use Rattle.protocol.proofs.Refusals.{accepted-read, accepted-write, accepted-show}
 use Rattle.layout.specs.Layout.{mostVersions, mostMessages, header, scalars, at, itemsAt}
-use Rattle.layout.specs.Layout.{messagesAt, countAt}
+use Rattle.layout.specs.Layout.{messagesAt, countAt, needed}
 use Rattle.layout.specs.Decode.{sizesIn, tablesOf, validBlock}
 use Rattle.start.specs.Start.{readStarted, writeStarted}
 use Rattle.start.proofs.Ready.{ready-start, ready-write}
 use Rattle.show.specs.Show.{frameIn}
 use Rattle.show.proofs.LogFrames.{shownFrame-tablesOf}
-use Rattle.encoding.proofs.WellFormed.{client-test}
+use Rattle.encoding.proofs.WellFormed.{client-test, tells-valid-block}
 use Rattle.block_calls.specs.Calls.{refusalOn, answerOn, outputOn, tablesAfter, changed}
 use Rattle.block_calls.specs.Calls.{blockAfter}
 use Rattle.block_calls.proofs.Accepted.{valid-tables, accepted-holds, accepted-tables}
 use Rattle.block_calls.proofs.Accepted.{answer-accepted, output-accepted, block-accepted}
 use Rattle.block_calls.proofs.Accepted.{count-accepted, answer-refused, output-refused}
-use Rattle.block_calls.proofs.Accepted.{block-refused, tables-after}
+use Rattle.block_calls.proofs.Accepted.{block-refused, tables-after, accepted-valid}
 use Rattle.block_calls.proofs.Tested.{sizes-read}
 
 -- ---- tests, one behind the other
@@ -77,11 +77,19 @@ module _ (b : List ℕ) (d s : ℕ) (e : refusalOn b (startRead d s) ≡ 0) wher
       → (1 ≤ d) × (d ≤ 8) × (items ≤ 64) × (n + count s ≤ mostMessages)
       × (items ≡ at b header itemsAt)
       × (n ≡ at b header messagesAt)
+      × (needed ≤ length b)
   read-ready items n i m =
       let r =
       ready-start b (tablesOf b) d s (accepted-holds b (startRead d s) e .encodes)
-      (accepted-read capacities (tablesOf b) d s .0 (accepted-tables b (startRead d s) e)) in
-      (r .first, r .last, omega (arith, r .items), omega (arith, r .messages), i, m)
+      (accepted-read capacities (tablesOf b) d s .0 (accepted-tables b (startRead d s) e)) in (
+        r .first,
+        r .last,
+        omega (arith, r .items),
+        omega (arith, r .messages),
+        i,
+        m,
+        tells-valid-block b .0 (accepted-valid b (startRead d s) e) .wellFormed .long,
+      )
 
   pub read-given : (after : List ℕ) (n : ℕ) → after ≡ readStarted b d s
       → n ≡ at after header messagesAt

@@ -74,6 +74,9 @@ module _ (b : List ℕ) (i : ℕ) (v : validBlock b ≡ true) where
     pub few-versions : at b header versionsAt ≤ mostVersions
     few-versions = words .versionCount
 
+    pub long-enough : needed ≤ length b
+    long-enough = words .long
+
     message-read : messageIn b i ≡ messageAt t i
     message-read = read-message held (holds-tables b v .masked .messages) i place (Commit 0 0)
 

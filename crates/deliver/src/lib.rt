@@ -22,7 +22,7 @@ pub struct Counts {
 
 // The work of message `m`, taken out before; a get is answered with `value`.
 fn work(b: &mut [u64], counts: Counts, value: u64, m: Message)
-    requires { ⌜ (1 ≤ counts .partitions) × (counts .partitions ≤ 8) × (counts .items ≤ 64) × (counts .versions ≤ mostVersions) × Bounded m ⌝ }
+    requires { ⌜ (1 ≤ counts .partitions) × (counts .partitions ≤ 8) × (counts .items ≤ 64) × (counts .versions ≤ mostVersions) × Bounded m × (needed ≤ length (now b)) ⌝ }
     ensures { λ _. ⌜ now (b .exit) ≡ messageDelivered (now (b .entry)) counts value m ⌝ }
 {
     match m {

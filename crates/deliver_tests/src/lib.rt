@@ -3,11 +3,12 @@ ghost use mathlib.Core.Bool.{cond, _||_};
 ghost use mathlib.Core.Path.{_≡_};
 ghost use Prim.Native.Nat.{_≤_, _<_};
 ghost use lib.Dec.{eqb};
+ghost use lib.ListN.{length};
 ghost use Rattle.basics.specs.Lists.{table};
 ghost use Rattle.protocol.specs.Steps.{stored, found};
 ghost use Rattle.layout.specs.Decode.{versionIn};
 ghost use Rattle.deliver_tests.specs.Tests.{Bounded, told, replyTested, testedIn};
-ghost use Rattle.layout.specs.Layout.{mostVersions};
+ghost use Rattle.layout.specs.Layout.{mostVersions, needed};
 use client_fields::asked;
 use client_fields::awaited;
 use client_fields::mode;
@@ -49,7 +50,7 @@ fn reply(b: &[u64], d: u64, kind: u64, item: u64, right: bool) -> Tested
 
 // A get of `item`, of exactly this stamp, among `n` stored versions: one search tells whether it is stored, and its value.
 fn get(b: &[u64], n: u64, item: u64, stamp: u64) -> Tested
-    requires { ⌜ n ≤ mostVersions ⌝ }
+    requires { ⌜ (n ≤ mostVersions) × (needed ≤ length (now b)) ⌝ }
     ensures { λ r. ⌜ r ≡ told (cond (eqb stamp 0 || stored (table n (versionIn (now (b .entry)))) item stamp) 0 12) 0 (found (table n (versionIn (now (b .entry)))) item stamp .value) ⌝ }
 {
     let place = find(b, n, item, stamp);
@@ -69,7 +70,7 @@ fn get(b: &[u64], n: u64, item: u64, stamp: u64) -> Tested
 
 // Message `m`, with `n` stored versions.
 pub fn test(b: &[u64], n: u64, m: Message) -> Tested
-    requires { ⌜ (n ≤ mostVersions) × Bounded m ⌝ }
+    requires { ⌜ (n ≤ mostVersions) × Bounded m × (needed ≤ length (now b)) ⌝ }
     ensures { λ r. ⌜ r ≡ testedIn (now (b .entry)) n m ⌝ }
 {
     match m {

@@ -1,6 +1,6 @@
 -- The choice of a stamp: one entry more, and that it depends on the own entry and the first n
 -- alone.
-use mathlib.Core.Bool.{Bool, cond}
+use mathlib.Core.Bool.{cond}
 use mathlib.Core.Path.{_≡_, refl, sym, ap, ap₂, _∙_}
 use Prim.Native.Nat.{ℕ, zero, suc, _+_, _<_, max}
 use native.Mathlib.Numerals.{add-one}
@@ -35,8 +35,3 @@ choice-ext view other k zero own h = ap (λ (e : Entry). e .stamp) own
 choice-ext view other k (suc n) own h =
     ap₂ max (choice-ext view other k n own (λ i l. h i (omega arith)))
     (ap (counts k) (h n (omega arith)))
-
--- an entry by its test
-pub counts-by : (e v : Entry) (k : ℕ) (t : Bool) → e ≡ v → has (e .set) k ≡ t
-    → cond t (e .stamp) 0 ≡ counts k v
-counts-by e v k t p q = rw (← q) (ap (counts k) p)

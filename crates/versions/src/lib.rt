@@ -1,8 +1,9 @@
 // The stored versions: item, value, stamp and set of each, in four words.
 ghost use mathlib.Core.Path.{_≡_};
 ghost use Prim.Native.Nat.{_≤_, _<_};
+ghost use lib.ListN.{length};
 ghost use Rattle.basics.specs.Lists.{table};
-ghost use Rattle.layout.specs.Layout.{mostVersions, versionWords, at, versions, versionAt};
+ghost use Rattle.layout.specs.Layout.{mostVersions, versionWords, needed, at, versions, versionAt};
 ghost use Rattle.layout.specs.Decode.{versionIn};
 ghost use Rattle.layout.specs.Store.{appendVersion};
 ghost use Rattle.protocol.specs.Steps.{alike, stored as storedIn};
@@ -13,7 +14,6 @@ use layout::VERSION_WORDS;
 use layout::VERSIONS;
 use layout::put_version_count;
 use layout::version_count;
-use layout::word;
 use protocol::Version;
 use slots::put_four;
 
@@ -23,17 +23,18 @@ pub enum Found {
     Nothing,
 }
 
-// Word `f` of the four of version `i`.
+// Word `f` of the four of version `i`, in a block that is long enough: a search looks at many.
 fn part(b: &[u64], i: u64, f: u64) -> u64
-    requires { ⌜ (i < mostVersions) × (f < versionWords) ⌝ }
+    requires { ⌜ (i < mostVersions) × (f < versionWords) × (needed ≤ length (now b)) ⌝ }
     ensures { λ r. ⌜ r ≡ at (now (b .entry)) versions (versionAt i f) ⌝ }
 {
-    word(b, (VERSIONS + (VERSION_WORDS * i + f)) as usize)
+    let place = (VERSIONS + (VERSION_WORDS * i + f)) as usize;
+    b[place]
 }
 
 // The version at place `i`.
 pub fn version(b: &[u64], i: u64) -> Version
-    requires { ⌜ i < mostVersions ⌝ }
+    requires { ⌜ (i < mostVersions) × (needed ≤ length (now b)) ⌝ }
     ensures { λ r. ⌜ r ≡ versionIn (now (b .entry)) i ⌝ }
 {
     Version {
@@ -46,7 +47,7 @@ pub fn version(b: &[u64], i: u64) -> Version
 
 // Its stamp alone.
 pub fn stamp_of(b: &[u64], i: u64) -> u64
-    requires { ⌜ i < mostVersions ⌝ }
+    requires { ⌜ (i < mostVersions) × (needed ≤ length (now b)) ⌝ }
     ensures { λ r. ⌜ r ≡ versionIn (now (b .entry)) i .stamp ⌝ }
 {
     part(b, i, 2)
@@ -80,7 +81,7 @@ pub fn keep(b: &mut [u64], v: Version)
 
 // Whether version `i` is of `item` with exactly this `stamp`: most differ in the stamp.
 fn is_alike(b: &[u64], i: u64, item: u64, stamp: u64) -> bool
-    requires { ⌜ i < mostVersions ⌝ }
+    requires { ⌜ (i < mostVersions) × (needed ≤ length (now b)) ⌝ }
     ensures { λ r. ⌜ r ≡ alike item stamp (versionIn (now (b .entry)) i) ⌝ }
 {
     if part(b, i, 2) == stamp {
@@ -92,7 +93,7 @@ fn is_alike(b: &[u64], i: u64, item: u64, stamp: u64) -> bool
 
 // The place of the first of `n` versions of `item` with exactly this `stamp`.
 pub fn find(b: &[u64], n: u64, item: u64, stamp: u64) -> Found
-    requires { ⌜ n ≤ mostVersions ⌝ }
+    requires { ⌜ (n ≤ mostVersions) × (needed ≤ length (now b)) ⌝ }
     ensures { λ r. ⌜ r ≡ firstAlike (now (b .entry)) n item stamp ⌝ }
 {
     let mut i = 0;
@@ -107,7 +108,7 @@ pub fn find(b: &[u64], n: u64, item: u64, stamp: u64) -> Found
 
 // Whether one of `n` versions is of `item` with exactly this `stamp`.
 pub fn is_stored(b: &[u64], n: u64, item: u64, stamp: u64) -> bool
-    requires { ⌜ n ≤ mostVersions ⌝ }
+    requires { ⌜ (n ≤ mostVersions) × (needed ≤ length (now b)) ⌝ }
     ensures { λ r. ⌜ r ≡ storedIn (table n (versionIn (now (b .entry)))) item stamp ⌝ }
 {
     let place = find(b, n, item, stamp);

@@ -8,6 +8,7 @@ use Rattle.protocol.specs.Calls.{deliver}
 use Rattle.deliver_tests.specs.Tests.{Bounded, testedIn}
 use Rattle.block_calls.proofs.Given.{refused-given}
 use Rattle.block_calls.proofs.Places.{few-places, few-versions, bounded-message, told-refusal}
+use Rattle.block_calls.proofs.Places.{long-enough}
 use Rattle.deliver_call.proofs.deliver_at.Statement.{statement}
 use Rattle.deliver_call.proofs.deliver_at.Tie as tie
 
@@ -29,6 +30,7 @@ test-requires c κs =
       ),
       subst Bounded (sym (c .before .before .message .ensures))
           (bounded-message (start .args .b .now) (start .args .i) (search needs) (search needs)),
+      long-enough (start .args .b .now) (start .args .i) (search needs) (search needs),
     )
 
 deliver-on-requires : tie.Need-deliver-on-requires

@@ -29,11 +29,8 @@ version-requires c κs =
     let i = c .before .place .given .0 .0 in
     let e : firstAlike (now (a .b)) (a .n) (a .item) (a .stamp) ≡ At i =
     sym (c .before .before .before .find .ensures) ∙ c .before .place .given .1 in
-    omega (
-      arith,
-      first-below (λ j. alike (a .item) (a .stamp) (versionIn (now (a .b)) j))
-          (a .n) i e,
-    )
+    let l = first-below (λ j. alike (a .item) (a .stamp) (versionIn (now (a .b)) j)) (a .n) i e in
+    (omega (arith, l), search needs)
 
 enum-told : tie.Need-enum-told
 enum-told c = search needs
