@@ -48,7 +48,6 @@ mode-below c =
     by-test (isIdle c) (λ i. rw i (omega arith))
     (λ i. rw i (by-test (isWriting c) (λ w. rw w (omega arith)) (λ w. rw w (omega arith))))
 
-
 -- ---- Fields that a block holds are in range where those of the tables are
 
 module _ (b : List ℕ) (z : Sizes) where

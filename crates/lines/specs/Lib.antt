@@ -1,2 +1,3 @@
--- What a line does and how it is answered.
+-- The definitions that the contracts of `lines` cite.
 pub mod Lines
+pub mod Input

@@ -1,4 +1,6 @@
 // A line of the store's driver: parsed, carried out on the block, and answered by a line (document 01: store frames).
+pub mod input;
+
 use protocol::Answer;
 use store_frames::MOST_FRAME;
 use store_frames::MOST_LOG_FRAME;

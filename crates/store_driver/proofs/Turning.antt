@@ -6,8 +6,8 @@ use Prim.Native.Nat.{ℕ, _≤_}
 use native.Mathlib.Omega.{arith}
 use lib.ListN.{length, take, length-take}
 use lib.Seq.{take-take}
-use Rattle.input.specs.Input.{Lent, fedAll, closed}
-use Rattle.input.proofs.Feeding.{fedAll-append}
+use Rattle.lines.specs.Input.{Lent, fedAll, closed}
+use Rattle.lines.proofs.Feeding.{fedAll-append}
 use Rattle.store_driver.specs.Turn.{TookOf, turned, TurnOf, ServedBy}
 
 turned-append : (ended : Bool) (s : Lent) (xs ys : List ℕ) → turned ended (fedAll s xs) ys ≡ turned

@@ -6,7 +6,7 @@ use mathlib.Core.List.{List}
 use mathlib.Core.Path.{_≡_}
 use Prim.Native.Nat.{ℕ, _≤_}
 use lib.ListN.{length, take}
-use Rattle.input.specs.Input.{Lent, fedAll, closed}
+use Rattle.lines.specs.Input.{Lent, fedAll, closed}
 
 -- so many bytes of the input were taken: all of them, unless a reply couldn't be written
 pub record TookOf (before after : Lent) (input : List ℕ) (taken : ℕ) (on : Bool) : Type 0 where

@@ -1,13 +1,13 @@
 // Reads store frames from standard input, a line each, and prints the line that answers each before it waits for more (document 01: store frames).
-// It sees only the promises of `input`, and the length of a block. The block starts as zeros, on which every well-formed frame but an `01` is refused by 1.
-use input::MOST_KEPT;
-use input::end;
-use input::feed;
+// It sees only the promises of `lines`, and the length of a block. The block starts as zeros, on which every well-formed frame but an `01` is refused by 1.
 use libc::STDIN_FILENO;
 use libc::STDOUT_FILENO;
+use lines::input::MOST_KEPT;
+use lines::input::end;
+use lines::input::feed;
 use store_frames::MOST_REPLY;
 ghost use mathlib.Core.Path.{_≡_};
-ghost use Rattle.input.specs.Input.{lent, fed, closed};
+ghost use Rattle.lines.specs.Input.{lent, fed, closed};
 ghost use Rattle.store_driver.specs.Turn.{TookOf, TurnOf, ServedBy};
 
 // After one byte of the input: how many bytes of a line are kept, and whether the program goes on.

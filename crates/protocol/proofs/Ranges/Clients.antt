@@ -1,16 +1,17 @@
 -- What the tests of a client, its mode and its last ended transaction tell, as records of plain
 -- facts, both ways.
-use mathlib.Core.Bool.{true}
+use mathlib.Core.Bool.{Bool, true, false, not, _||_}
 use mathlib.Core.Logic.{_↔_, _≢_}
-use mathlib.Core.Path.{_≡_}
+use mathlib.Core.Path.{_≡_, refl}
 use Prim.Native.Nat.{ℕ, _^_, _<_}
+use Rattle.basics.proofs.Cases.{not-both}
 use Rattle.itemset.specs.Set.{has}
 use Rattle.itemset.proofs.Laws.{has-below}
 use Rattle.protocol.specs.Tables.{Sizes, Client, ReadPart, WritePart, Ended, isKind}
 use Rattle.protocol.specs.Tables.{showsRead, showsWrite}
 use Rattle.protocol.specs.Range.{readPartInRange, writePartInRange, clientInRange}
 use Rattle.protocol.specs.Range.{endedInRange}
-use Rattle.protocol.proofs.Tells.{tells-and, tells-or, tells-not-false}
+use Rattle.protocol.proofs.Tells.{tells-and}
 use Rattle.protocol.proofs.Ranges.Values.{StampInRange, parts}
 
 -- a set's items exist
@@ -78,8 +79,11 @@ pub record EndedInRange (z : Sizes) (e : Ended) : Type 0 where
   pub read : showsRead (e .kind) ≡ true → ReadPartInRange z (e .read)
   pub write : showsWrite (e .kind) ≡ true → WritePartInRange z (e .write)
 
-ruleset shown =
-    (tells-and, tells-or, tells-not-false, tells-read-part, tells-write-part)
+tells-shown : (shows b : Bool) → ((not shows || b) ≡ true) ↔ (shows ≡ true → b ≡ true)
+tells-shown true b = (λ e s. e, λ h. h refl)
+tells-shown false b = (λ e s. not-both s refl, λ h. refl)
+
+ruleset shown = (tells-and, tells-shown, tells-read-part, tells-write-part)
 
 pub tells-ended : (z : Sizes) (e : Ended) → (endedInRange z e ≡ true) ↔ EndedInRange z e
 unfolding endedInRange

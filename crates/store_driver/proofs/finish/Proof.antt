@@ -1,6 +1,6 @@
 -- `store_driver::finish` meets its contract: it ends the input, and printing changes nothing.
 use borrow.Author.Needs.{needs}
-use Rattle.input.proofs.Feeding.{closed-lent}
+use Rattle.lines.proofs.Feeding.{closed-lent}
 use Rattle.store_driver.proofs.finish.Statement.{statement}
 use Rattle.store_driver.proofs.finish.Tie as tie
 

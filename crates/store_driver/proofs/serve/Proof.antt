@@ -5,7 +5,7 @@ use mathlib.Core.List.{List, []}
 use mathlib.Core.Path.{_≡_, refl}
 use Prim.Native.Nat.{ℕ}
 use lib.ListN.{length}
-use Rattle.input.specs.Input.{lent, fedAll}
+use Rattle.lines.specs.Input.{lent, fedAll}
 use Rattle.store_driver.proofs.Turning.{TakenBy, went-on, stopped, served}
 use Rattle.store_driver.proofs.serve.Statement.{statement}
 use Rattle.store_driver.proofs.serve.Tie as tie

@@ -1,6 +1,6 @@
 -- `store_driver::take_byte` meets its contract: it feeds the byte, and printing changes nothing.
 use borrow.Author.Needs.{needs}
-use Rattle.input.proofs.Feeding.{fed-lent}
+use Rattle.lines.proofs.Feeding.{fed-lent}
 use Rattle.store_driver.proofs.take_byte.Statement.{statement}
 use Rattle.store_driver.proofs.take_byte.Tie as tie
 

@@ -5,8 +5,8 @@ use mathlib.Core.Path.{_≡_, refl, sym, ap, _∙_}
 use Prim.Native.Nat.{_-_, _≤_}
 use native.Mathlib.Omega.{arith}
 use lib.ListN.{length, getD, take}
-use Rattle.input.specs.Input.{Lent, lent, fed, fedAll}
-use Rattle.input.proofs.Feeding.{fedAll-next}
+use Rattle.lines.specs.Input.{Lent, lent, fed, fedAll}
+use Rattle.lines.proofs.Feeding.{fedAll-next}
 use Rattle.store_driver.proofs.take_bytes.Statement.{statement}
 use Rattle.store_driver.proofs.take_bytes.Tie as tie
 

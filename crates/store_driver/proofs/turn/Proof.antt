@@ -3,7 +3,7 @@
 use borrow.Author.Needs.{needs}
 use mathlib.Core.Bool.{false≢true}
 use mathlib.Core.Path.{refl}
-use Rattle.input.specs.Input.{fedAll}
+use Rattle.lines.specs.Input.{fedAll}
 use Rattle.store_driver.specs.Turn.{turned}
 use Rattle.store_driver.proofs.Turning.{took-part}
 use Rattle.store_driver.proofs.turn.Statement.{statement}

@@ -1,10 +1,10 @@
--- `input::end` meets its contract: where no byte is kept there is no line.
+-- `lines::input::end` meets its contract: where no byte is kept there is no line.
 use borrow.Author.Needs.{needs}
 use native.Mathlib.Omega.{arith}
 use lib.ListN.{take}
-use Rattle.input.proofs.Kept.{end-none, end-some, take-some}
-use Rattle.input.proofs.end.Statement.{statement}
-use Rattle.input.proofs.end.Tie as tie
+use Rattle.lines.proofs.Kept.{end-none, end-some, take-some}
+use Rattle.lines.proofs.input.end.Statement.{statement}
+use Rattle.lines.proofs.input.end.Tie as tie
 
 answer-front-requires : tie.Need-answer-front-requires
 answer-front-requires c κs = search needs

@@ -26,9 +26,9 @@ use Rattle.store_frames.specs.declared.Parsed.{Parsed}
 use Rattle.store_frames.specs.declared.Parsed.the-variants.{Frame, Malformed}
 use Rattle.store_frames.specs.Answers.{answerLine}
 use Rattle.store_frames.specs.StoreFrames.{frameBytes, storeFrameOf}
-use Rattle.input.specs.Input.{linesBlock}
+use Rattle.lines.specs.Input.{linesBlock}
 use Rattle.lines.specs.Lines.{callAnswer, callBlock, parsedAnswer, parsedBlock, blank}
 use Rattle.lines.specs.Lines.{lineAnswer, lineBlock, lineReply}
 
 -- every word is 0
 abbrev pub Zeros : List ℕ → Type 0

@@ -13,13 +13,12 @@ use borrow.Author.Tests.{leb-true, leb-false}
 use Rattle.basics.proofs.Cases.{by-test}
 use Rattle.store_frames.proofs.Reading.{storeFrameOf-long}
 use Rattle.store_frames.specs.Limits.{mostLine}
-use Rattle.input.specs.Input.{mostKept, lastLine, linesFrom, linesOf, repliesTo, joined}
-use Rattle.input.specs.Input.{keptAfter}
-use Rattle.input.specs.Input.{byteReply, byteBlock, endReply, endBlock, inputReply}
-use Rattle.input.specs.Input.{linesBlock, Lent, lent, keptOf, fed, fedAll, closed}
+use Rattle.lines.specs.Input.{mostKept, lastLine, linesFrom, linesOf, repliesTo, joined}
+use Rattle.lines.specs.Input.{keptAfter, byteReply, byteBlock, endReply, endBlock, inputReply}
+use Rattle.lines.specs.Input.{linesBlock, Lent, lent, keptOf, fed, fedAll, closed}
 use Rattle.lines.specs.Lines.{lineReply, lineBlock}
-use Rattle.input.proofs.Kept.{joined-set}
-use Rattle.input.proofs.Unmade.{malformed-reply, malformed-block}
+use Rattle.lines.proofs.Kept.{joined-set}
+use Rattle.lines.proofs.Unmade.{malformed-reply, malformed-block}
 
 -- ---- a line, and what is kept of it
 

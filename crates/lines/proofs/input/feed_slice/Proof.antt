@@ -1,11 +1,11 @@
--- `input::feed_slice` meets its contract: a 0a ends the line that is kept with it, any other
+-- `lines::input::feed_slice` meets its contract: a 0a ends the line that is kept with it, any other
 -- byte is only kept.
 use borrow.Author.Needs.{needs}
 use lib.ListN.{take}
 use borrow.Author.Tests.{eq-eqb, ne-eqb}
-use Rattle.input.proofs.Kept.{fed-end, fed-within}
-use Rattle.input.proofs.feed_slice.Statement.{statement}
-use Rattle.input.proofs.feed_slice.Tie as tie
+use Rattle.lines.proofs.Kept.{fed-end, fed-within}
+use Rattle.lines.proofs.input.feed_slice.Statement.{statement}
+use Rattle.lines.proofs.input.feed_slice.Tie as tie
 
 keep-requires : tie.Need-keep-requires
 keep-requires c κs = search needs

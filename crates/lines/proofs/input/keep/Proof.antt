@@ -1,12 +1,12 @@
--- `input::keep` meets its contract: behind fewer than `mostKept` bytes one more is kept, behind as
--- many none.
+-- `lines::input::keep` meets its contract: behind fewer than `mostKept` bytes one more is kept,
+-- behind as many none.
 use borrow.Author.Needs.{needs}
 use mathlib.Core.Path.{refl, sym}
 use native.Mathlib.Omega.{arith}
 use lib.Seq.{set-out}
-use Rattle.input.proofs.Kept.{joined-short, joined-full, length-short, length-full}
-use Rattle.input.proofs.keep.Statement.{statement}
-use Rattle.input.proofs.keep.Tie as tie
+use Rattle.lines.proofs.Kept.{joined-short, joined-full, length-short, length-full}
+use Rattle.lines.proofs.input.keep.Statement.{statement}
+use Rattle.lines.proofs.input.keep.Tie as tie
 
 slice-write-line : tie.Need-slice-write-line
 slice-write-line c = search needs

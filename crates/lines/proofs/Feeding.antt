@@ -5,8 +5,8 @@ use Prim.Native.Nat.{ℕ, _+_, _<_}
 use native.Mathlib.Numerals.{add-one}
 use lib.ListN.{length, getD, take, set}
 use lib.Seq.{sets, take-suc}
-use Rattle.input.specs.Input.{Lent, lent, fed, fedAll, closed, keptAfter, byteReply}
-use Rattle.input.specs.Input.{byteBlock, endReply, endBlock}
+use Rattle.lines.specs.Input.{Lent, lent, fed, fedAll, closed, keptAfter, byteReply}
+use Rattle.lines.specs.Input.{byteBlock, endReply, endBlock}
 
 -- ---- what `feed` and `end` promise, as one equation each
 

@@ -10,9 +10,9 @@ use lib.ListN.{length, take, set, length-append, length-set}
 use lib.Seq.{sets, set-out, take-all, take-suc-set, take-append-le, length-take-le}
 use borrow.Author.Tests.{ltb-true, ltb-false}
 use Rattle.basics.proofs.Cases.{by-test}
-use Rattle.input.specs.Input.{mostKept, joined, keptAfter, byteReply, byteBlock, endReply}
-use Rattle.input.specs.Input.{endBlock}
+use Rattle.lines.specs.Input.{mostKept, joined, keptAfter, byteReply, byteBlock, endReply}
+use Rattle.lines.specs.Input.{endBlock}
 use Rattle.lines.specs.Lines.{lineReply, lineBlock}
 
 -- ---- a byte is kept
 

@@ -1,13 +1,13 @@
 // The input byte by byte: a line is kept until its 0a comes, and then answered.
-use lines::answer_line;
+use crate::answer_line;
 use store_frames::MOST_LINE;
 use store_frames::MOST_REPLY;
 ghost use mathlib.Core.Path.{_≡_};
 ghost use lib.ListN.{length, take, set};
 ghost use lib.Seq.{sets};
-ghost use Rattle.input.specs.Input.{mostKept, joined, keptAfter, byteReply, byteBlock};
-ghost use Rattle.input.specs.Input.{endReply, endBlock};
+ghost use Rattle.lines.specs.Input.{mostKept, joined, keptAfter, byteReply, byteBlock};
+ghost use Rattle.lines.specs.Input.{endReply, endBlock};
 ghost use Rattle.lines.specs.Lines.{lineReply, lineBlock};
 
 // The most bytes that are kept of a line: one more than any frame's has.
 pub const MOST_KEPT: usize = MOST_LINE + 1;

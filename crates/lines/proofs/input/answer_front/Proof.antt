@@ -1,4 +1,4 @@
--- `input::answer_front` meets its contract: a part longer than the whole is the whole.
+-- `lines::input::answer_front` meets its contract: a part longer than the whole is the whole.
 use borrow.Author.Needs.{needs}
 use mathlib.Core.Path.{sym, ap}
 use Prim.Native.Nat.{ℕ}
@@ -6,9 +6,9 @@ use native.Mathlib.Nat.{sub-zero}
 use native.Mathlib.Omega.{arith}
 use lib.ListN.{take}
 use lib.Seq.{take-all}
-use Rattle.input.proofs.Kept.{answered-same}
-use Rattle.input.proofs.answer_front.Statement.{statement}
-use Rattle.input.proofs.answer_front.Tie as tie
+use Rattle.lines.proofs.Kept.{answered-same}
+use Rattle.lines.proofs.input.answer_front.Statement.{statement}
+use Rattle.lines.proofs.input.answer_front.Tie as tie
 
 sub-answer-line : tie.Need-sub-answer-line
 sub-answer-line c = search needs

@@ -12,9 +12,9 @@ use Rattle.hex.specs.Text.{isHex, bytesOf, hexText}
 use Rattle.protocol.specs.Calls.{bytesOfAnswer}
 use Rattle.store_frames.specs.Answers.{answerLine}
 use Rattle.store_frames.specs.StoreFrames.{frameBytes, parsed}
 use Rattle.lines.specs.Lines.{parsedAnswer, parsedBlock, parsedOutput}
-use Rattle.input.specs.Input.{lastLine, linesFrom, linesOf, inputReply, keptAfter}
-use Rattle.input.specs.Input.{byteReply, byteBlock, endReply, endBlock}
+use Rattle.lines.specs.Input.{lastLine, linesFrom, linesOf, inputReply, keptAfter}
+use Rattle.lines.specs.Input.{byteReply, byteBlock, endReply, endBlock}
 
 -- the bytes of a text
 bytes : String → List ℕ

@@ -1,2 +1,0 @@
--- An input, whole and byte by byte.
-pub mod Input
