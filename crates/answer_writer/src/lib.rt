@@ -70,7 +70,8 @@ fn put_into(out: &mut [u8], a: Answer, shown: &[u8]) -> usize
     }
 }
 
-// Writes an answer's line to the front of `out`, and answers its length. What a show wrote is the front of `shown`.
+// Writes an answer's line to the front of `out`, and answers its length. What a show wrote is the
+// front of `shown`.
 pub fn put_answer(a: Answer, shown: &[u8; MOST_LOG_FRAME], out: &mut [u8; MOST_REPLY]) -> usize
     ensures { λ r. ⌜ r ≡ length (answerLine a (now (shown .entry))) ⌝ }
     ensures { λ _. ⌜ now (out .exit) ≡ sets (now (out .entry)) 0 (answerLine a (now (shown .entry))) ⌝ }

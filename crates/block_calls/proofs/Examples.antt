@@ -8,7 +8,7 @@ use Rattle.protocol.specs.declared.Answer.{Answer}
 use Rattle.protocol.specs.declared.Answer.the-variants.{Refused, Made, Started, Delivered, Shown}
 use Rattle.protocol.specs.Range.{sizesInRange}
 use Rattle.protocol.specs.Calls.{first, numberOfAnswer}
-use Rattle.range.specs.Sized.{sizes}
+use Rattle.gather.specs.Sized.{sizes}
 use Rattle.layout.specs.Layout.{needed}
 use Rattle.block_calls.specs.Calls.{freshRefusalOn, freshAnswerOn}
 

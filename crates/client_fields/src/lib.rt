@@ -1,8 +1,10 @@
-// The fields of a client (document 01: desk) but its view: eight of its own, and four words for each item.
+// The fields of a client (document 01: desk) but its view: eight of its own, and four words for
+// each item.
 ghost use mathlib.Core.Path.{_≡_};
 ghost use Prim.Native.Nat.{_≤_, _<_};
 ghost use Rattle.layout.specs.Layout.{at, store, scalars, asked, values, lastStamps, lastValues};
-ghost use Rattle.layout.specs.Layout.{clientWords, scalarAt, modeAt, countAt, setAt, awaitedAt, stampAt, lastKindAt, lastSetAt, lastStampAt, itemAt};
+ghost use Rattle.layout.specs.Layout.{clientWords, scalarAt, modeAt, countAt, setAt, awaitedAt};
+ghost use Rattle.layout.specs.Layout.{stampAt, lastKindAt, lastSetAt, lastStampAt, itemAt};
 use layout::ASKED;
 use layout::CLIENT_WORDS;
 use layout::LAST_STAMPS;

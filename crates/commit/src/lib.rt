@@ -1,4 +1,5 @@
-// Commits: each item of the partition with a stored version of the stamp takes it as latest, if it is later. One pass over the versions.
+// Commits: each item of the partition with a stored version of the stamp takes it as latest, if it
+// is later. One pass over the versions.
 ghost use mathlib.Core.Path.{_≡_};
 ghost use Prim.Native.Nat.{_≤_, _<_};
 ghost use lib.ListN.{length};

@@ -17,7 +17,6 @@ use Rattle.protocol.specs.Steps.{version, found, delivered, joined, isLast, com
 use Rattle.protocol.proofs.Ranges.Values.{MessageInRange}
 use Rattle.protocol.proofs.Ranges.Tables.{InRange}
 use Rattle.protocol.proofs.Ranges.Clients.{ClientInRange}
-use Rattle.protocol.specs.Message.{partsOf, isGet, itemOf}
 use Rattle.protocol.proofs.Refusals.{Expected, tells-prepared, tells-got}
 use Rattle.protocol.proofs.Commits.{no-commits}
 use Rattle.layout.specs.Decode.{latestIn}

@@ -1,4 +1,5 @@
-// Prepared and got replies: each strikes its item from those awaited, and the last one ends the transaction.
+// Prepared and got replies: each strikes its item from those awaited, and the last one ends the
+// transaction.
 ghost use mathlib.Core.Path.{_≡_};
 ghost use Prim.Native.Nat.{_≤_, _<_};
 ghost use Rattle.protocol.specs.Tables.{writerOf};
@@ -28,7 +29,8 @@ pub fn prepared(b: &mut [u64], partitions: u64, items: u64, item: u64, stamp: u6
     }
 }
 
-// The version is the answer for its item, and the item's view entry becomes the later of itself and the reply's latest.
+// The version is the answer for its item, and the item's view entry becomes the later of itself and
+// the reply's latest.
 fn answer(b: &mut [u64], d: u64, v: Version, latest: Entry)
     requires { ⌜ (1 ≤ d) × (d ≤ 8) × (v .item < 64) ⌝ }
     ensures { λ _. ⌜ now (b .exit) ≡ keptAnswer (now (b .entry)) d v latest ⌝ }

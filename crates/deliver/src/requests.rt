@@ -22,7 +22,8 @@ pub fn prepare(b: &mut [u64], v: Version)
     );
 }
 
-// The reply to client `d` joins: the version of `item` with this stamp, whose value is `value`, and the item's latest.
+// The reply to client `d` joins: the version of `item` with this stamp, whose value is `value`, and
+// the item's latest.
 pub fn get(b: &mut [u64], value: u64, d: u64, item: u64, stamp: u64)
     requires { ⌜ item < 64 ⌝ }
     ensures { λ _. ⌜ now (b .exit) ≡ getDelivered (now (b .entry)) value d item stamp ⌝ }

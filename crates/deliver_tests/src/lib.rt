@@ -1,4 +1,5 @@
-// What is told of a message before it is delivered: refusal 11 or 12, the outcome, and the value that answers a get.
+// What is told of a message before it is delivered: refusal 11 or 12, the outcome, and the value
+// that answers a get.
 ghost use mathlib.Core.Bool.{cond, _||_};
 ghost use mathlib.Core.Path.{_≡_};
 ghost use Prim.Native.Nat.{_≤_, _<_};
@@ -21,8 +22,8 @@ use versions::find;
 use versions::is_stored;
 use versions::version;
 
-// What is told of a message before it is delivered: the refusal (11, 12 or 0), the outcome (0 none ended, 1 a read ended, 2 a write
-// ended), and the value that answers a get.
+// What is told of a message before it is delivered: the refusal (11, 12 or 0), the outcome (0 none
+// ended, 1 a read ended, 2 a write ended), and the value that answers a get.
 pub struct Tested {
     pub refusal: u64,
     pub outcome: u64,
@@ -48,7 +49,8 @@ fn reply(b: &[u64], d: u64, kind: u64, item: u64, right: bool) -> Tested
     }
 }
 
-// A get of `item`, of exactly this stamp, among `n` stored versions: one search tells whether it is stored, and its value.
+// A get of `item`, of exactly this stamp, among `n` stored versions: one search tells whether it is
+// stored, and its value.
 fn get(b: &[u64], n: u64, item: u64, stamp: u64) -> Tested
     requires { ⌜ (n ≤ mostVersions) × (needed ≤ length (now b)) ⌝ }
     ensures { λ r. ⌜ r ≡ told (cond (eqb stamp 0 || stored (table n (versionIn (now (b .entry)))) item stamp) 0 12) 0 (found (table n (versionIn (now (b .entry)))) item stamp .value) ⌝ }

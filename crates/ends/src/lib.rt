@@ -11,7 +11,8 @@ use client_fields::put_set;
 pub mod read;
 pub mod write;
 
-// A transaction of client `d` with set `s` ends: a read (1) or a write (2). The client is idle, with no set.
+// A transaction of client `d` with set `s` ends: a read (1) or a write (2). The client is idle,
+// with no set.
 fn end(b: &mut [u64], d: u64, kind: u64, s: u64)
     requires { ⌜ (1 ≤ d) × (d ≤ 8) ⌝ }
     ensures { λ _. ⌜ now (b .exit) ≡ ended (now (b .entry)) d kind s ⌝ }

@@ -1,9 +1,10 @@
-// The end of a write: the view takes it, item by item, the last ended transaction takes its values and its stamp, and one commit joins
-// for each partition that it touched.
+// The end of a write: the view takes it, item by item, the last ended transaction takes its values
+// and its stamp, and one commit joins for each partition that it touched.
 ghost use mathlib.Core.Path.{_≡_};
 ghost use Prim.Native.Nat.{_≤_, _<_};
 ghost use Rattle.basics.specs.Fold.{upTo};
-ghost use Rattle.ends.specs.Ends.{seeItem, keepValue, touchItem, touched, sendCommit, writeKept, writeEnded};
+ghost use Rattle.ends.specs.Ends.{seeItem, keepValue, touchItem, touched, sendCommit};
+ghost use Rattle.ends.specs.Ends.{writeKept, writeEnded};
 use crate::end;
 use client_fields::put_last_stamp;
 use client_fields::put_last_value;

@@ -1,5 +1,5 @@
-// What the judge answers. The findings and the verdict on a log are definitions, in specs/; what the
-// verdict says in the words of the sources is proved in proofs/.
+// What the judge answers. The findings and the verdict on a log are definitions, in specs/; what
+// the verdict says in the words of the sources is proved in proofs/.
 
 pub enum Verdict {
     // Over 32,768 bytes or over 256 line ends: refusal 16.

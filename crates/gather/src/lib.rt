@@ -1,5 +1,5 @@
-// Stamps, entries and versions in range, on plain numbers: one at a time, or all that a loop meets, gathered by `|` and `&` into words
-// that are tested once.
+// Stamps, entries and versions in range, on plain numbers: one at a time, or all that a loop meets,
+// gathered by `|` and `&` into words that are tested once.
 ghost use mathlib.Core.Bool.{not, cond};
 ghost use mathlib.Core.Path.{_≡_};
 ghost use Prim.Native.Nat.{_<_, _≤_, _-_};
@@ -7,7 +7,8 @@ ghost use lib.Dec.{ltb};
 ghost use Rattle.itemset.specs.Set.{has};
 ghost use Rattle.protocol.specs.Range.{stampInRange, entryInRange, versionInRange};
 ghost use Rattle.gather.specs.Sized.{sized};
-ghost use Rattle.gather.specs.Words.{mixed, roomed, owned, restOf, stampsTest, entriesTest, ownsTest, versionsTest};
+ghost use Rattle.gather.specs.Words.{mixed, roomed, owned, restOf, stampsTest, entriesTest};
+ghost use Rattle.gather.specs.Words.{ownsTest, versionsTest};
 use protocol::Entry;
 use protocol::Version;
 
@@ -28,9 +29,10 @@ pub fn lacks(set: u64, k: u64) -> bool
     (set >> k) % 2 == 0
 }
 
-// What a loop gathers of a stamp by `|` beside the stamp: a word whose bit 3 is clear where number and writer are both 0, or neither
-// and the writer is at most 8, and one whose bit 3 is then clear where the writer is a client. Of 8 clients nothing has to be gathered
-// there, and the compiler makes a loop of its own for them.
+// What a loop gathers of a stamp by `|` beside the stamp: a word whose bit 3 is clear where number
+// and writer are both 0, or neither and the writer is at most 8, and one whose bit 3 is then clear
+// where the writer is a client. Of 8 clients nothing has to be gathered there, and the compiler
+// makes a loop of its own for them.
 pub fn mixed(stamp: u64) -> u64
     ensures { λ r. ⌜ r ≡ mixed stamp ⌝ }
 {
@@ -76,8 +78,8 @@ pub fn entries_pass(
     stamps_pass(clients, stamps, mixes, rooms) & itemset::all_below(sets, items)
 }
 
-// What a loop gathers by `|` of a stamp that is not to be initial: a word below 2 to the power 36, with bit 3 clear, where the stamp is
-// in range and has a writer.
+// What a loop gathers by `|` of a stamp that is not to be initial: a word below 2 to the power 36,
+// with bit 3 clear, where the stamp is in range and has a writer.
 pub fn owned(stamp: u64, clients: u64, rest: u64) -> u64
     requires { ⌜ (clients ≤ 8) × (rest ≡ restOf clients) ⌝ }
     ensures { λ r. ⌜ r ≡ owned clients stamp ⌝ }
@@ -103,7 +105,8 @@ pub fn owns_pass(owns: u64) -> bool
     (owns < STAMPS_END) & lacks(owns, 3)
 }
 
-// The one test of all versions: items, values, stamps and sets gathered by `|`, and by `&` the sets shifted by their items.
+// The one test of all versions: items, values, stamps and sets gathered by `|`, and by `&` the sets
+// shifted by their items.
 pub fn versions_pass(items: u64, ks: u64, values: u64, owns: u64, sets: u64, shifts: u64) -> bool
     ensures { λ r. ⌜ r ≡ versionsTest items ks values owns sets shifts ⌝ }
 {

@@ -1,4 +1,5 @@
-// Bytes as lowercase hexadecimal text: two digits a byte, most significant byte first, one frame a line.
+// Bytes as lowercase hexadecimal text: two digits a byte, most significant byte first, one frame a
+// line.
 ghost use mathlib.Core.Path.{_≡_};
 ghost use Prim.Native.Nat.{_+_, _*_, _/_, _≤_, _<_};
 ghost use lib.ListN.{length};
@@ -58,7 +59,8 @@ pub fn number_at(s: &[u8], at: usize, n: usize) -> u64
     number
 }
 
-// The place of the first byte 0a of `s` at or after `at`; the length of `s` where there is none, and `at` where that is past the end.
+// The place of the first byte 0a of `s` at or after `at`; the length of `s` where there is none,
+// and `at` where that is past the end.
 pub fn line_end(s: &[u8], at: usize) -> usize
     ensures { λ r. ⌜ r ≡ lineEnd (now (s .entry)) at ⌝ }
 {
@@ -95,7 +97,8 @@ pub fn put_number(out: &mut [u8], at: usize, n: usize, x: u64)
     }
 }
 
-// Writes the `n` lowest bytes of `x` into `out` from `at`, most significant first: the bytes themselves, not their digits.
+// Writes the `n` lowest bytes of `x` into `out` from `at`, most significant first: the bytes
+// themselves, not their digits.
 pub fn put_bytes(out: &mut [u8], at: usize, n: usize, x: u64)
     requires { ⌜ at + n ≤ length (now out) ⌝ }
     ensures { λ _. ⌜ now (out .exit) ≡ sets (now (out .entry)) at (bigEndian n x) ⌝ }
@@ -129,7 +132,8 @@ pub enum Decoded {
     Malformed,
 }
 
-// Writes the bytes of `line` to the front of `out`: of a malformed line, those before the first pair that isn't two digits.
+// Writes the bytes of `line` to the front of `out`: of a malformed line, those before the first
+// pair that isn't two digits.
 pub fn decode(line: &[u8], out: &mut [u8]) -> Decoded
     requires { ⌜ length (now line) / 2 ≤ length (now out) ⌝ }
     ensures answer { λ r. ⌜ r ≡ decoded (now (line .entry)) ⌝ }

@@ -1,4 +1,5 @@
-// Sets of items as 64-bit numbers: item k is the bit worth 2 to the power k. No set has an item of 64 or more.
+// Sets of items as 64-bit numbers: item k is the bit worth 2 to the power k. No set has an item of
+// 64 or more.
 ghost use mathlib.Core.Path.{_≡_};
 ghost use Prim.Native.Nat.{_-_};
 ghost use Rattle.itemset.specs.Set.{has, count, rank, insert64, remove, allBelow, leastFrom};
@@ -57,7 +58,8 @@ pub fn all_below(set: u64, n: u64) -> bool
     if n < 64 { set >> n == 0 } else { true }
 }
 
-// The least member of `set` at or above `item`, and 64 where there is none; an item of 64 or more is its own answer.
+// The least member of `set` at or above `item`, and 64 where there is none; an item of 64 or more
+// is its own answer.
 pub fn least_from(set: u64, item: u64) -> u64
     ensures { λ r. ⌜ r ≡ leastFrom (64 - item) set item ⌝ }
 {

@@ -1,4 +1,5 @@
-// The judge of a log (document 01: findings). It knows the published definitions and nothing of the store.
+// The judge of a log (document 01: findings). It knows the published definitions and nothing of the
+// store.
 mod search;
 
 use crate::search::first_fault;
@@ -82,7 +83,8 @@ pub fn judge(log: &[u8]) -> Verdict
     judge_within(log)
 }
 
-// The verdict as one number: the lowest byte is 0 or the refusal, bits 8 to 15 the finding, bits 16 to 31 the line.
+// The verdict as one number: the lowest byte is 0 or the refusal, bits 8 to 15 the finding, bits 16
+// to 31 the line.
 fn packed(v: Verdict) -> u64
     ensures { λ r. ⌜ r ≡ numberOf v ⌝ }
 {

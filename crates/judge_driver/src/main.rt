@@ -1,4 +1,5 @@
-// Reads a log from standard input and prints the judge's verdict as a line of hexadecimal (document 01: frames). It sees only the judge's promise.
+// Reads a log from standard input and prints the judge's verdict as a line of hexadecimal (document
+// 01: frames). It sees only the judge's promise.
 use findings::Verdict;
 use libc::STDIN_FILENO;
 use libc::STDOUT_FILENO;

@@ -1,4 +1,5 @@
-// The three findings at one item that a read shows, each a search over the writes of the log (document 01: findings).
+// The three findings at one item that a read shows, each a search over the writes of the log
+// (document 01: findings).
 use judge_frames::cut::frame;
 use judge_frames::fields::client;
 use judge_frames::fields::shown;
@@ -12,7 +13,8 @@ ghost use lib.Dec.{ltb};
 ghost use lib.ListN.{length, getD};
 ghost use Rattle.itemset.specs.Set.{has};
 ghost use Rattle.judge_frames.specs.Cut.{frameIn, framesIn};
-ghost use Rattle.findings.specs.Findings.{wrote as wroteBy, isUnwritten, behind as isBehind, fractures as fracturesAt, outdates as outdatesAt};
+ghost use Rattle.findings.specs.Findings.{wrote as wroteBy, isUnwritten, behind as isBehind};
+ghost use Rattle.findings.specs.Findings.{fractures as fracturesAt, outdates as outdatesAt};
 ghost use Rattle.judge_findings.specs.Marks.{markOf, Table};
 ghost use Rattle.judge_findings.specs.Tests.{behindAt, faultsOf};
 ghost use Rattle.log.specs.Some.{some};
@@ -144,7 +146,8 @@ pub fn outdates(w: &[u8], of: u64, item: u64, stamp: u64) -> bool
     }
 }
 
-// Line `write` has the read `r`, line `line`, at fault at the item: fractured, or its own write missed.
+// Line `write` has the read `r`, line `line`, at fault at the item: fractured, or its own write
+// missed.
 pub fn faults_at(
     bytes: &[u8],
     starts: &[usize],

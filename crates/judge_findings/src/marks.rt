@@ -1,4 +1,5 @@
-// A table with the stamp of each line's write, 0 where there is none, so that the searches look only at the frames that it doesn't rule out.
+// A table with the stamp of each line's write, 0 where there is none, so that the searches look
+// only at the frames that it doesn't rule out.
 use judge_frames::cut::frame;
 use judge_frames::fields::written;
 use judge_frames::fields::written_stamp;

@@ -11,7 +11,8 @@ use judge_frames::fields::write_number;
 use judge_frames::fields::written;
 ghost use mathlib.Core.Path.{_≡_};
 ghost use Prim.Native.Nat.{_≤_};
-ghost use Rattle.log.specs.Log.{isClient, isWhole, entryNumber, entryWriter, entriesWhole, readShaped, writeShaped, shaped as shapedAs, reaches as reachesOf};
+ghost use Rattle.log.specs.Log.{isClient, isWhole, entryNumber, entryWriter, entriesWhole};
+ghost use Rattle.log.specs.Log.{readShaped, writeShaped, shaped as shapedAs, reaches as reachesOf};
 ghost use Rattle.judge_form.specs.Parsed.{parsed};
 
 // What a line's frame parses to.

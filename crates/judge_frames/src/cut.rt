@@ -1,4 +1,5 @@
-// Frames that lie one after another in an array of bytes, cut at the starts that a second array holds.
+// Frames that lie one after another in an array of bytes, cut at the starts that a second array
+// holds.
 ghost use mathlib.Core.Path.{_≡_};
 ghost use Prim.Native.Nat.{_≤_};
 ghost use lib.ListN.{getD};

@@ -1,11 +1,14 @@
-// The parts and fields of a log frame, a field 0 where the frame is too short to have it (document 01: log frames).
+// The parts and fields of a log frame, a field 0 where the frame is too short to have it (document
+// 01: log frames).
 ghost use mathlib.Core.Path.{_≡_};
 ghost use Prim.Native.Nat.{_≤_, _<_};
 ghost use lib.ListN.{getD};
 ghost use Rattle.hex.specs.Number.{numberAt};
 ghost use Rattle.itemset.specs.Set.{rank};
-ghost use Rattle.log.specs.Log.{kindOf, clientOf, count64, hasRead, hasWrite, shownStamp, shownValue, writeAt, numberOf};
-ghost use Rattle.log.specs.Log.{writtenStamp, writtenValue, endOf, written as writtenItems, shown as shownItems};
+ghost use Rattle.log.specs.Log.{kindOf, clientOf, count64, hasRead, hasWrite, shownStamp};
+ghost use Rattle.log.specs.Log.{shownValue, writeAt, numberOf};
+ghost use Rattle.log.specs.Log.{writtenStamp, writtenValue, endOf, written as writtenItems};
+ghost use Rattle.log.specs.Log.{shown as shownItems};
 
 pub fn byte(f: &[u8], at: usize) -> u64
     ensures { λ r. ⌜ r ≡ getD (now (f .entry)) at 0 ⌝ }

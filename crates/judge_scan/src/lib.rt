@@ -1,4 +1,5 @@
-// A log's lines, found once: each is decoded behind the last one, parsed, and marked by its start (document 01: frames).
+// A log's lines, found once: each is decoded behind the last one, parsed, and marked by its start
+// (document 01: frames).
 use hex::Decoded;
 use judge_form::Parsed;
 use judge_form::parse;

@@ -1,8 +1,7 @@
 -- The changes of a block, one for each field, and for whole entries, versions and messages: what
 -- the setters write.
-use mathlib.Core.Bool.{cond}
 use mathlib.Core.List.{List, [], _∷_, _++_}
-use Prim.Native.Nat.{ℕ, zero, suc, _+_, _-_, _*_}
+use Prim.Native.Nat.{ℕ, _+_, _-_, _*_}
 use lib.ListN.{getD, take, drop, replicate}
 use lib.Seq.{sets}
 use Rattle.protocol.specs.declared.Version.{Version}

@@ -1,4 +1,5 @@
-// Whole entries, by value: an item's latest committed write, and what a client last saw of an item (its view).
+// Whole entries, by value: an item's latest committed write, and what a client last saw of an item
+// (its view).
 ghost use mathlib.Core.Path.{_≡_};
 ghost use Prim.Native.Nat.{_+_, _≤_, _<_};
 ghost use lib.ListN.{getD, set};

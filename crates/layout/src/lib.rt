@@ -1,15 +1,19 @@
-// Where each field of the tables lies in the lent block of 64-bit words (docs/LAYOUT.md). A word past the end of a block is
-// read as 0, and a store there changes nothing.
+// Where each field of the tables lies in the lent block of 64-bit words (docs/LAYOUT.md). A word
+// past the end of a block is read as 0, and a store there changes nothing.
 ghost use mathlib.Core.Path.{_≡_};
 ghost use Prim.Native.Nat.{_≤_};
 ghost use lib.ListN.{length, getD, set};
-ghost use Rattle.layout.specs.Layout.{needed, at, store, header, clientsAt, partitionsAt, itemsAt, versionsAt, messagesAt};
+ghost use Rattle.layout.specs.Layout.{needed, at, store, header, clientsAt, partitionsAt};
+ghost use Rattle.layout.specs.Layout.{itemsAt, versionsAt, messagesAt};
 ghost use Rattle.layout.specs.Store.{storeSizes, blank, freshBlock};
 
 pub mod entry;
 
-// The most clients, items, stored versions and messages in flight that there are words for.
+// The most clients, partitions and items that a fresh start allows, and the most stored versions
+// and messages in flight that there are words for.
 pub const MOST_CLIENTS: u64 = 8;
+
+pub const MOST_PARTITIONS: u64 = 8;
 
 pub const MOST_ITEMS: u64 = 64;
 

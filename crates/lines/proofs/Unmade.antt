@@ -18,7 +18,7 @@ use Rattle.protocol.specs.Range.{sizesInRange}
 use Rattle.layout.specs.Layout.{needed}
 use Rattle.layout.specs.Decode.{wellFormed, validBlock}
 use Rattle.layout.specs.Store.{freshBlock}
-use Rattle.range.specs.Sized.{sizes}
+use Rattle.gather.specs.Sized.{sizes}
 use Rattle.block_calls.specs.Calls.{freshRefusalOn, freshAnswerOn, freshAfter, refusalOn, answerOn}
 use Rattle.block_calls.specs.Calls.{blockAfter}
 use Rattle.store_frames.specs.declared.StoreFrame.the-variants.{Fresh, Read, Write, Deliver, Show}

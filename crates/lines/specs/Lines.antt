@@ -8,7 +8,7 @@ use Rattle.protocol.specs.declared.Answer.{Answer}
 use Rattle.protocol.specs.declared.Answer.the-variants.{Refused}
 use Rattle.protocol.specs.LogFrame.{mostLogFrame}
 use Rattle.protocol.specs.Calls.{startRead, startWrite, deliver, show}
-use Rattle.range.specs.Sized.{sizes}
+use Rattle.gather.specs.Sized.{sizes}
 use Rattle.block_calls.specs.Calls.{freshAnswerOn, freshAfter, answerOn, outputOn, blockAfter}
 use Rattle.store_frames.specs.declared.StoreFrame.{StoreFrame}
 use Rattle.store_frames.specs.declared.StoreFrame.the-variants.{Fresh, Read, Write, Deliver, Show}

@@ -12,13 +12,15 @@ ghost use Rattle.lines.specs.Lines.{lineReply, lineBlock};
 // The most bytes that are kept of a line: one more than any frame's has.
 pub const MOST_KEPT: usize = MOST_LINE + 1;
 
-// What one byte leads to: so many bytes are kept of the line begun, and the reply has this length, 0 where there is none.
+// What one byte leads to: so many bytes are kept of the line begun, and the reply has this length,
+// 0 where there is none.
 pub struct Fed {
     pub at: usize,
     pub length: usize,
 }
 
-// Keeps byte `c` behind the first `at` bytes of `line`, and answers how many are kept; a full line stays.
+// Keeps byte `c` behind the first `at` bytes of `line`, and answers how many are kept; a full line
+// stays.
 fn keep(line: &mut [u8], at: usize, c: u8) -> usize
     requires { ⌜ length (now line) ≡ mostKept ⌝ }
     ensures { λ r. ⌜ r ≡ length (joined (take at (now (line .entry))) c) ⌝ }
@@ -70,7 +72,8 @@ fn feed_slice(
     }
 }
 
-// Takes byte `c` of the input, behind the first `at` bytes of `line`: at its 0a the line is carried out, and its reply is at the front of `output`.
+// Takes byte `c` of the input, behind the first `at` bytes of `line`: at its 0a the line is carried
+// out, and its reply is at the front of `output`.
 pub fn feed(
     b: &mut [u64],
     line: &mut [u8; MOST_KEPT],
@@ -88,7 +91,8 @@ pub fn feed(
     feed_slice(b, line, at, c, output)
 }
 
-// At the end of the input: replies to the first `at` bytes of `line`, a line without its 0a, where there are any.
+// At the end of the input: replies to the first `at` bytes of `line`, a line without its 0a, where
+// there are any.
 pub fn end(b: &mut [u64], line: &[u8; MOST_KEPT], at: usize, output: &mut [u8; MOST_REPLY]) -> usize
     ensures { λ r. ⌜ r ≡ length (endReply (now (b .entry)) (take at (now (line .entry)))) ⌝ }
     ensures { λ _. ⌜ now (output .exit) ≡ sets (now (output .entry)) 0 (endReply (now (b .entry)) (take at (now (line .entry)))) ⌝ }

@@ -1,4 +1,5 @@
-// A line of the store's driver: parsed, carried out on the block, and answered by a line (document 01: store frames).
+// A line of the store's driver: parsed, carried out on the block, and answered by a line (document
+// 01: store frames).
 pub mod input;
 
 use protocol::Answer;
@@ -12,7 +13,8 @@ ghost use lib.ListN.{length};
 ghost use lib.Seq.{sets};
 ghost use Rattle.store_frames.specs.Limits.{mostFrame};
 ghost use Rattle.store_frames.specs.StoreFrames.{frameBytes, storeFrameOf, parsed};
-ghost use Rattle.lines.specs.Lines.{callAnswer, callBlock, callOutput, parsedAnswer, parsedBlock, parsedOutput, blank, lineReply, lineBlock};
+ghost use Rattle.lines.specs.Lines.{callAnswer, callBlock, callOutput, parsedAnswer};
+ghost use Rattle.lines.specs.Lines.{parsedBlock, parsedOutput, blank, lineReply, lineBlock};
 
 // The call of a frame, whose bytes are `f`. A write's values are those from byte 10 on.
 fn call(b: &mut [u64], frame: StoreFrame, f: &[u8], shown: &mut [u8]) -> Answer
@@ -62,7 +64,8 @@ fn carry_out(b: &mut [u64], line: &[u8], shown: &mut [u8]) -> Answer
     call(b, frame, &bytes[0..length], shown)
 }
 
-// Carries out a line on the block, writes the line that answers it to the front of `output`, and gives that line's length.
+// Carries out a line on the block, writes the line that answers it to the front of `output`, and
+// gives that line's length.
 pub fn answer_line(b: &mut [u64], line: &[u8], output: &mut [u8; MOST_REPLY]) -> usize
     ensures { λ r. ⌜ r ≡ length (lineReply (now (b .entry)) (now (line .entry))) ⌝ }
     ensures { λ _. ⌜ now (output .exit) ≡ sets (now (output .entry)) 0 (lineReply (now (b .entry)) (now (line .entry))) ⌝ }

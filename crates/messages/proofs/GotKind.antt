@@ -1,4 +1,4 @@
--- The message of a kind: which of its words a kind uses.
+-- From kind 5 on, the words of a message are a got's.
 use mathlib.Core.Path.{_≡_}
 use Prim.Native.Nat.{ℕ, _≤_}
 use Rattle.protocol.specs.declared.Entry.{Entry}

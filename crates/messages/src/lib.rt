@@ -1,10 +1,12 @@
-// The messages in flight (document 01: the pile): eight words each, of which a message's kind says which it uses.
+// The messages in flight (document 01: the pile): eight words each, of which a message's kind says
+// which it uses.
 ghost use mathlib.Core.Path.{_≡_};
 ghost use mathlib.Core.List.{[], _∷_};
 ghost use Prim.Native.Nat.{_+_, _≤_, _<_};
 ghost use lib.ListN.{length, take, drop};
 ghost use lib.Seq.{sets};
-ghost use Rattle.layout.specs.Layout.{mostMessages, messageWords, needed, at, store, base, header, messages, messagesAt, messageAt};
+ghost use Rattle.layout.specs.Layout.{mostMessages, messageWords, needed, at, store, base, header};
+ghost use Rattle.layout.specs.Layout.{messages, messagesAt, messageAt};
 ghost use Rattle.layout.specs.Decode.{kindIn, messageIn, messageOf};
 ghost use Rattle.layout.specs.Store.{appendMessage, takeOut};
 ghost use Rattle.slots.specs.Room.{send};

@@ -1,5 +1,5 @@
--- Document 01's examples, what each test and frame tells, what the steps do, that valid tables stay
--- valid, the invariant, runs of calls, and condition 3.
+-- Document 01's examples, what each test and frame tells, what the steps do, and that valid tables
+-- stay valid.
 pub mod Examples
 pub mod Stamp
 pub mod Tells

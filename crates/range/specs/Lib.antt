@@ -1,4 +1,3 @@
 -- What the contracts of `range` cite besides the layout and the protocol.
-pub mod Sized
 pub mod Entries
 pub mod Block

@@ -1,5 +1,5 @@
-// The load (messages in flight, and prepared replies that have come to clients still writing), and the versions in use (stored, and
-// in prepares).
+// The load (messages in flight, and prepared replies that have come to clients still writing), and
+// the versions in use (stored, and in prepares).
 ghost use mathlib.Core.Bool.{cond};
 ghost use mathlib.Core.Path.{_≡_};
 ghost use Prim.Native.Nat.{_+_, _*_, _≤_, _<_};
@@ -11,7 +11,8 @@ ghost use Rattle.layout.specs.Layout.{mostClients, mostItems, mostVersions, mos
 ghost use Rattle.layout.specs.Decode.{clientIn, messageIn};
 use range_message::message_word;
 
-// The prepared replies that have come to client `d`; a mode above 2 is no mode, and refused elsewhere.
+// The prepared replies that have come to client `d`; a mode above 2 is no mode, and refused
+// elsewhere.
 fn arrived_at(b: &[u64], d: u64) -> u64
     requires { ⌜ (1 ≤ d) × (d ≤ mostClients) ⌝ }
     ensures { λ r. ⌜ r ≡ arrived (clientIn (now (b .entry)) d) ⌝ }

@@ -1,4 +1,5 @@
-// Entries: the latest of each item and the views of the clients, where latest lies as a view before the first would.
+// Entries: the latest of each item and the views of the clients, where latest lies as a view before
+// the first would.
 ghost use mathlib.Core.Path.{_≡_};
 ghost use Prim.Native.Nat.{suc, _≤_, _<_};
 ghost use lib.ListN.{length, getD};

@@ -16,6 +16,7 @@ mod entry;
 use layout::MOST_CLIENTS;
 use layout::MOST_ITEMS;
 use layout::MOST_MESSAGES;
+use layout::MOST_PARTITIONS;
 use layout::MOST_VERSIONS;
 use layout::NEEDED;
 
@@ -26,7 +27,7 @@ fn header_in_range(clients: u64, partitions: u64, items: u64, versions: u64, mes
     (1 <= clients)
         & (clients <= MOST_CLIENTS)
         & (1 <= partitions)
-        & (partitions <= 8)
+        & (partitions <= MOST_PARTITIONS)
         & (1 <= items)
         & (items <= MOST_ITEMS)
         & (versions <= MOST_VERSIONS)

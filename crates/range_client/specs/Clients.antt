@@ -1,4 +1,4 @@
--- The test of a client, part by part, as `range` goes through it.
+-- The test of a client, part by part, as `range_client` goes through it.
 use mathlib.Core.Bool.{Bool, cond, not, Bool·beq, _&&_, _||_}
 use mathlib.Core.List.{List}
 use Prim.Native.Nat.{ℕ}

@@ -1,4 +1,5 @@
-// Clients (document 01: desks): the transaction under way and the last ended one, with the stamps and values of their items.
+// Clients (document 01: desks): the transaction under way and the last ended one, with the stamps
+// and values of their items.
 ghost use mathlib.Core.Path.{_≡_};
 ghost use Prim.Native.Nat.{suc, _+_, _≤_, _<_};
 ghost use lib.ListN.{length, getD};
@@ -6,7 +7,8 @@ ghost use Rattle.basics.specs.Lists.{every};
 ghost use Rattle.protocol.specs.Range.{fits, each, stampInRange};
 ghost use Rattle.layout.specs.Layout.{mostClients, mostItems, needed, base, lastValues, itemAt};
 ghost use Rattle.gather.specs.Sized.{sized};
-ghost use Rattle.range_client.specs.Clients.{askedTest, lastReadTest, lastWriteTest, lastTest, stateTest, valuesTest, clientTest};
+ghost use Rattle.range_client.specs.Clients.{askedTest, lastReadTest, lastWriteTest};
+ghost use Rattle.range_client.specs.Clients.{lastTest, stateTest, valuesTest, clientTest};
 use gather::lacks;
 use gather::mixed;
 use gather::room;
@@ -65,7 +67,8 @@ fn some_stamps_in_range(b: &[u64], start: u64, d: u64, set: u64, clients: u64, i
     ok
 }
 
-// The same: words that a store has written are in range in or out of the set, so that the set is seldom looked at.
+// The same: words that a store has written are in range in or out of the set, so that the set is
+// seldom looked at.
 fn stamps_in_range(b: &[u64], start: u64, d: u64, set: u64, clients: u64, items: u64) -> bool
     requires { ⌜ (start ≤ base lastValues) × (1 ≤ d) × (d ≤ mostClients) × (clients ≤ mostClients) × (items ≤ mostItems) × (needed ≤ length (now b)) ⌝ }
     ensures { λ r. ⌜ r ≡ each (sized clients items) set (λ k. stampInRange (sized clients items) (getD (now (b .entry)) (start + itemAt d k) 0)) ⌝ }
@@ -174,7 +177,8 @@ fn last_in_range(b: &[u64], d: u64, clients: u64, items: u64) -> bool
         & write_in_range(b, d, kind, clients, items)
 }
 
-// Its mode, count, set and awaited items: it is idle exactly when it awaits none, and those lie in its set.
+// Its mode, count, set and awaited items: it is idle exactly when it awaits none, and those lie in
+// its set.
 fn state_in_range(b: &[u64], d: u64, items: u64) -> bool
     requires { ⌜ (1 ≤ d) × (d ≤ mostClients) ⌝ }
     ensures { λ r. ⌜ r ≡ stateTest (now (b .entry)) d items ⌝ }

@@ -1,4 +1,4 @@
--- The tests of stored versions and messages in flight, as `range` goes through them.
+-- The test of a message in flight, as `range_message` goes through it.
 use mathlib.Core.Bool.{Bool, _&&_}
 use mathlib.Core.List.{List}
 use Prim.Native.Nat.{ℕ}

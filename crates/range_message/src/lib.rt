@@ -7,7 +7,8 @@ ghost use lib.Dec.{leb};
 ghost use Rattle.basics.specs.Lists.{every};
 ghost use Rattle.protocol.specs.Message.{kinds};
 ghost use Rattle.protocol.specs.Range.{versionInRange, messageInRange};
-ghost use Rattle.layout.specs.Layout.{mostClients, mostItems, mostVersions, mostMessages, versionWords, messageWords, needed};
+ghost use Rattle.layout.specs.Layout.{mostClients, mostItems, mostVersions, mostMessages};
+ghost use Rattle.layout.specs.Layout.{versionWords, messageWords, needed};
 ghost use Rattle.layout.specs.Layout.{at, versions, messages, versionAt, messageAt};
 ghost use Rattle.layout.specs.Decode.{messageOf, versionIn};
 ghost use Rattle.gather.specs.Sized.{sizes, sized};
@@ -70,8 +71,9 @@ pub fn message_word(b: &[u64], i: u64, f: u64) -> u64
     b[place]
 }
 
-// The words of a message that its kind uses: 1 prepare, 2 prepared, 3 commit, 4 get, 5 got. In two groups, since the compiler would
-// make a table of jumps of more than three kinds, which takes longer than to compare.
+// The words of a message that its kind uses: 1 prepare, 2 prepared, 3 commit, 4 get, 5 got. In two
+// groups, since the compiler would make a table of jumps of more than three kinds, which takes
+// longer than to compare.
 fn words_in_range(
     kind: u64,
     who: u64,

@@ -9,13 +9,16 @@ ghost use Rattle.protocol.specs.Range.{capacities, isClient};
 ghost use Rattle.protocol.specs.Calls.{startRead, startWrite, show, refusal};
 ghost use Rattle.layout.specs.Layout.{header, scalars, at, itemsAt, modeAt};
 ghost use Rattle.layout.specs.Decode.{sizesIn, tablesOf, validBlock};
-ghost use Rattle.range.specs.Sized.{sizes};
+ghost use Rattle.gather.specs.Sized.{sizes};
 ghost use Rattle.block_calls.specs.Calls.{freshRefusalOn, refusalOn};
 use client_fields::last_kind;
 use client_fields::mode;
 use itemset::all_below;
 use itemset::count;
+use layout::MOST_CLIENTS;
+use layout::MOST_ITEMS;
 use layout::MOST_MESSAGES;
+use layout::MOST_PARTITIONS;
 use layout::MOST_VERSIONS;
 use layout::NEEDED;
 use range::load;
@@ -35,11 +38,11 @@ pub fn of_fresh(b: &[u64], clients: u64, partitions: u64, items: u64) -> u64
     ensures { λ r. ⌜ r ≡ freshRefusalOn (now (b .entry)) (sizes clients partitions items) ⌝ }
 {
     let in_range = (1 <= clients)
-        & (clients <= 8)
+        & (clients <= MOST_CLIENTS)
         & (1 <= partitions)
-        & (partitions <= 8)
+        & (partitions <= MOST_PARTITIONS)
         & (1 <= items)
-        & (items <= 64);
+        & (items <= MOST_ITEMS);
     refuse(2, !in_range, refuse(1, b.len() < NEEDED, 0))
 }
 

@@ -1,4 +1,5 @@
-// The log frame of a client's last ended transaction, from the words of the block into a lent output.
+// The log frame of a client's last ended transaction, from the words of the block into a lent
+// output.
 ghost use mathlib.Core.List.{_++_};
 ghost use mathlib.Core.Path.{_≡_};
 ghost use Prim.Native.Nat.{_+_, _*_, _≤_, _<_};
@@ -8,7 +9,8 @@ ghost use Rattle.itemset.specs.Set.{count};
 ghost use Rattle.layout.specs.Layout.{at, scalars, lastStampAt};
 ghost use Rattle.protocol.specs.LogFrame.{frameByte};
 ghost use Rattle.protocol.specs.Tables.{numberOf};
-ghost use Rattle.show.specs.Show.{frameIn, head, readItem, writtenItem, putItem, readPart, writePart};
+ghost use Rattle.show.specs.Show.{frameIn, head, readItem, writtenItem, putItem, readPart};
+ghost use Rattle.show.specs.Show.{writePart};
 ghost use Rattle.show.specs.Show.{readLength, writeLength, readShown, writeShown};
 use client_fields::last_kind;
 use client_fields::last_read_stamp;
@@ -74,7 +76,8 @@ fn put_read_part(b: &[u64], d: u64, s: u64, out: &mut [u8], at: usize)
     }
 }
 
-// Item `k` where the last write's set `s` has it, its value (4), behind the items below it, which begin at `at`.
+// Item `k` where the last write's set `s` has it, its value (4), behind the items below it, which
+// begin at `at`.
 fn put_written_item(b: &[u64], d: u64, s: u64, out: &mut [u8], at: usize, k: u64)
     requires { ⌜ (1 ≤ d) × (d ≤ 8) × (k < 64) × (at + 4 * count s ≤ length (now out)) ⌝ }
     ensures { λ _. ⌜ now (out .exit) ≡ putItem (writtenItem (now (b .entry)) d) at 4 s (now (out .entry)) k ⌝ }
@@ -92,7 +95,8 @@ fn last_number(b: &[u64], d: u64) -> u64
     last_stamp(b, d) / 16
 }
 
-// The write part of a last write of set `s`: the set, the write's number, then the values, ascending.
+// The write part of a last write of set `s`: the set, the write's number, then the values,
+// ascending.
 fn put_write_part(b: &[u64], d: u64, s: u64, out: &mut [u8], at: usize)
     requires { ⌜ (1 ≤ d) × (d ≤ 8) × (at + 12 + 4 * count s ≤ length (now out)) ⌝ }
     ensures { λ _. ⌜ now (out .exit) ≡ sets (now (out .entry)) at (writePart (now (b .entry)) d s) ⌝ }
@@ -148,7 +152,8 @@ fn put_shown_write(b: &[u64], d: u64, kind: u64, s: u64, out: &mut [u8], at: usi
     }
 }
 
-// The length of the log frame of client `d` (document 01: desk); 0 where no transaction of its has ended.
+// The length of the log frame of client `d` (document 01: desk); 0 where no transaction of its has
+// ended.
 pub fn frame_length(b: &[u64], d: u64) -> u64
     requires { ⌜ (1 ≤ d) × (d ≤ 8) ⌝ }
     ensures { λ r. ⌜ r ≡ length (frameIn (now (b .entry)) d) ⌝ }

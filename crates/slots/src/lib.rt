@@ -1,4 +1,5 @@
-// What the stored versions and the messages in flight share: each is a run of words at the end of those that are there.
+// What the stored versions and the messages in flight share: each is a run of words at the end of
+// those that are there.
 ghost use mathlib.Core.Path.{_≡_};
 ghost use mathlib.Core.List.{[], _∷_};
 ghost use Prim.Native.Nat.{_<_};

@@ -1,4 +1,5 @@
-// What the starts of a read and of a write on the block share (document 01: Steps): a client becomes busy.
+// What the starts of a read and of a write on the block share (document 01: Steps): a client
+// becomes busy.
 ghost use mathlib.Core.Path.{_≡_};
 ghost use Prim.Native.Nat.{_≤_};
 ghost use Rattle.start.specs.Start.{busy};

@@ -28,7 +28,8 @@ fn later(x: u64, y: u64) -> u64
     if x < y { y } else { x }
 }
 
-// The set of entry `i` in the view of client `d`, and its stamp, from a block that is long enough: a choice looks at all sets.
+// The set of entry `i` in the view of client `d`, and its stamp, from a block that is long enough:
+// a choice looks at all sets.
 fn seen_set(b: &[u64], d: u64, i: u64) -> u64
     requires { ⌜ (1 ≤ d) × (d ≤ 8) × (i < 64) × (needed ≤ length (now b)) ⌝ }
     ensures { λ r. ⌜ r ≡ viewIn (now (b .entry)) d i .set ⌝ }
@@ -47,7 +48,8 @@ fn seen_stamp(b: &[u64], d: u64, i: u64) -> u64
     b[stamp]
 }
 
-// The stamp of entry `i` in the view of client `d`, if its write set contains `k`; else the initial stamp.
+// The stamp of entry `i` in the view of client `d`, if its write set contains `k`; else the initial
+// stamp.
 fn sibling(b: &[u64], d: u64, k: u64, i: u64) -> u64
     requires { ⌜ (1 ≤ d) × (d ≤ 8) × (i < 64) × (needed ≤ length (now b)) ⌝ }
     ensures { λ r. ⌜ r ≡ cond (has (viewIn (now (b .entry)) d i .set) k) (viewIn (now (b .entry)) d i .stamp) 0 ⌝ }
@@ -59,8 +61,8 @@ fn sibling(b: &[u64], d: u64, k: u64, i: u64) -> u64
     }
 }
 
-// The stamp that client `d` asks for at item `k`: the latest among its own entry and those of the first `items` whose write set
-// contains `k`.
+// The stamp that client `d` asks for at item `k`: the latest among its own entry and those of the
+// first `items` whose write set contains `k`.
 pub fn choose(b: &[u64], d: u64, k: u64, items: u64) -> u64
     requires { ⌜ (1 ≤ d) × (d ≤ 8) × (k < 64) × (items ≤ 64) × (needed ≤ length (now b)) ⌝ }
     ensures { λ r. ⌜ r ≡ choice (viewIn (now (b .entry)) d) k items ⌝ }
@@ -97,7 +99,8 @@ fn ask_items(b: &mut [u64], d: u64, s: u64, items: u64)
     }
 }
 
-// A get of item `k` of set `s`, with the stamp asked for, joins the `n` messages and those of the items below it.
+// A get of item `k` of set `s`, with the stamp asked for, joins the `n` messages and those of the
+// items below it.
 fn get_item(b: &mut [u64], n: u64, d: u64, s: u64, k: u64)
     requires { ⌜ (n + count s ≤ mostMessages) × (1 ≤ d) × (d ≤ 8) × (k < 64) ⌝ }
     ensures { λ _. ⌜ now (b .exit) ≡ sendGet n d s (now (b .entry)) k ⌝ }

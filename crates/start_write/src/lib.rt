@@ -1,10 +1,12 @@
-// The start of a write: the value of each item of the set, one stamp for all of them, and a prepare for each.
+// The start of a write: the value of each item of the set, one stamp for all of them, and a prepare
+// for each.
 ghost use mathlib.Core.Path.{_≡_};
 ghost use Prim.Native.Nat.{_+_, _*_, _^_, _≤_, _<_};
 ghost use lib.ListN.{length};
 ghost use Rattle.basics.specs.Fold.{upTo};
 ghost use Rattle.itemset.specs.Set.{count};
-ghost use Rattle.layout.specs.Layout.{mostMessages, header, scalars, at, itemsAt, messagesAt, countAt};
+ghost use Rattle.layout.specs.Layout.{mostMessages, header, scalars, at, itemsAt, messagesAt};
+ghost use Rattle.layout.specs.Layout.{countAt};
 ghost use Rattle.start.specs.Start.{valueItem, sendPrepare, writeStarted};
 use client_fields::count;
 use client_fields::put_count;
@@ -41,7 +43,8 @@ fn keep_items(b: &mut [u64], d: u64, s: u64, bytes: &[u8], items: u64)
     }
 }
 
-// A prepare of item `k` of set `s`, with the value kept for it, joins the `n` messages and those of the items below it.
+// A prepare of item `k` of set `s`, with the value kept for it, joins the `n` messages and those of
+// the items below it.
 fn prepare_item(b: &mut [u64], n: u64, d: u64, s: u64, stamp: u64, k: u64)
     requires { ⌜ (n + count s ≤ mostMessages) × (1 ≤ d) × (d ≤ 8) × (k < 64) ⌝ }
     ensures { λ _. ⌜ now (b .exit) ≡ sendPrepare n d s stamp (now (b .entry)) k ⌝ }
@@ -72,7 +75,8 @@ fn prepare_items(b: &mut [u64], n: u64, d: u64, s: u64, stamp: u64, items: u64)
     }
 }
 
-// Client `d` starts a write of set `s` with these value bytes, four for each item, in a block with `items` items and `n` messages.
+// Client `d` starts a write of set `s` with these value bytes, four for each item, in a block with
+// `items` items and `n` messages.
 pub fn start_write(b: &mut [u64], d: u64, s: u64, bytes: &[u8], items: u64, n: u64)
     requires { ⌜ (1 ≤ d) × (d ≤ 8) × (items ≤ 64) × (n + count s ≤ mostMessages) × (items ≡ at (now b) header itemsAt) × (n ≡ at (now b) header messagesAt) × (at (now b) scalars (countAt d) < 2 ^ 32) × (4 * count s ≤ length (now bytes)) ⌝ }
     ensures { λ _. ⌜ now (b .exit) ≡ writeStarted (now (b .entry)) d s (now (bytes .entry)) ⌝ }

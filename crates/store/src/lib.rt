@@ -1,10 +1,12 @@
-// The store: five calls on one lent block of words (document 01: fresh, start a read, start a write, deliver, show), for C. Each returns a
-// number: refused, the refusal; accepted, 0 in the lowest byte and the answer above it (`numberOfAnswer`).
+// The store: five calls on one lent block of words (document 01: fresh, start a read, start a
+// write, deliver, show), for C. Each returns a number: refused, the refusal; accepted, 0 in the
+// lowest byte and the answer above it (`numberOfAnswer`).
 ghost use mathlib.Core.Path.{_≡_};
 ghost use Rattle.protocol.specs.Calls.{startRead, startWrite, deliver, show, numberOfAnswer};
 ghost use Rattle.layout.specs.Decode.{tablesOf};
-ghost use Rattle.range.specs.Sized.{sizes};
-ghost use Rattle.block_calls.specs.Calls.{freshAnswerOn, freshAfter, freshTables, answerOn, outputOn, blockAfter, tablesAfter, Fits};
+ghost use Rattle.gather.specs.Sized.{sizes};
+ghost use Rattle.block_calls.specs.Calls.{freshAnswerOn, freshAfter, freshTables, answerOn};
+ghost use Rattle.block_calls.specs.Calls.{outputOn, blockAfter, tablesAfter, Fits};
 use protocol::Answer;
 
 // The number that tells this answer.

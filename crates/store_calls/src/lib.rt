@@ -2,8 +2,9 @@
 ghost use mathlib.Core.Path.{_≡_};
 ghost use Rattle.protocol.specs.Calls.{startRead, startWrite, show};
 ghost use Rattle.layout.specs.Decode.{tablesOf};
-ghost use Rattle.range.specs.Sized.{sizes};
-ghost use Rattle.block_calls.specs.Calls.{freshAnswerOn, freshAfter, freshTables, refusalOn, answerOn, outputOn, blockAfter, tablesAfter};
+ghost use Rattle.gather.specs.Sized.{sizes};
+ghost use Rattle.block_calls.specs.Calls.{freshAnswerOn, freshAfter, freshTables, refusalOn};
+ghost use Rattle.block_calls.specs.Calls.{answerOn, outputOn, blockAfter, tablesAfter};
 use protocol::Answer;
 use show::frame_length;
 use show::write_frame;

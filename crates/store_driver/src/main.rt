@@ -1,5 +1,7 @@
-// Reads store frames from standard input, a line each, and prints the line that answers each before it waits for more (document 01: store frames).
-// It sees only the promises of `lines`, and the length of a block. The block starts as zeros, on which every well-formed frame but an `01` is refused by 1.
+// Reads store frames from standard input, a line each, and prints the line that answers each before
+// it waits for more (document 01: store frames). It sees only the promises of `lines`, and the
+// lengths of a block and a reply. The block starts as zeros, on which every well-formed frame but
+// an `01` is refused by 1.
 use libc::STDIN_FILENO;
 use libc::STDOUT_FILENO;
 use lines::input::MOST_KEPT;
@@ -100,7 +102,8 @@ fn finish(b: &mut [u64], line: &mut [u8; MOST_KEPT], at: usize, reply: &mut [u8;
     say(reply, n);
 }
 
-// One read of the input, and what it leads to. It goes on until the input ends, or a read or a write fails.
+// One read of the input, and what it leads to. It goes on until the input ends, or a read or a
+// write fails.
 fn turn(
     b: &mut [u64],
     line: &mut [u8; MOST_KEPT],
@@ -138,7 +141,8 @@ fn turn(
     }
 }
 
-// Reads and answers, and gives how many bytes are kept at the end. A function ends, so that there is a last read: the 18,446,744,073,709,551,615th.
+// Reads and answers, and gives how many bytes are kept at the end. A function ends, so that there
+// is a last read: the 18,446,744,073,709,551,615th.
 fn serve(
     b: &mut [u64],
     line: &mut [u8; MOST_KEPT],

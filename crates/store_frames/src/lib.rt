@@ -2,11 +2,11 @@
 
 // The most bytes: of a store frame, of its line, of the log frame that a showing writes, and of a
 // reply's line.
-pub const MOST_FRAME: usize = 266;
+pub const MOST_FRAME: usize = 10 + 4 * 64;
 
 pub const MOST_LINE: usize = 2 * MOST_FRAME + 1;
 
-pub const MOST_LOG_FRAME: usize = 586;
+pub const MOST_LOG_FRAME: usize = 10 + 9 * 64;
 
 pub const MOST_REPLY: usize = 2 * (1 + MOST_LOG_FRAME) + 1;
 

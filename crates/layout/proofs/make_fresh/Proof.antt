@@ -1,3 +1,4 @@
+-- `layout::make_fresh` meets its contract: the words are blanked, and then the sizes stored.
 use mathlib.Core.List.{List}
 use mathlib.Core.Path.{_∙_, ap}
 use Prim.Native.Nat.{ℕ}

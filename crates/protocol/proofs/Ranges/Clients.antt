@@ -1,4 +1,4 @@
--- What the tests of a client, its mode and its last ended transaction tell, as records of plain
+-- What the tests of a client, its parts and its last ended transaction tell, as records of plain
 -- facts, both ways.
 use mathlib.Core.Bool.{Bool, true, false, not, _||_}
 use mathlib.Core.Logic.{_↔_, _≢_}

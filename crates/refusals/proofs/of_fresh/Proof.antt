@@ -5,7 +5,7 @@ use Prim.Native.Nat.{ℕ}
 use borrow.Author.Needs.{needs}
 use Rattle.protocol.specs.Calls.{first}
 use Rattle.protocol.specs.Range.{sizesInRange}
-use Rattle.range.specs.Sized.{sizes}
+use Rattle.gather.specs.Sized.{sizes}
 use Rattle.block_calls.specs.Calls.{freshRefusalOn}
 use Rattle.refusals.proofs.of_fresh.Statement.{statement}
 use Rattle.refusals.proofs.of_fresh.Tie as tie

@@ -1,7 +1,7 @@
 -- `store_calls::fresh` meets its contract: by the refusal, a fresh block or the block as it was.
 use mathlib.Core.Path.{sym, _∙_}
 use borrow.Author.Needs.{needs}
-use Rattle.range.specs.Sized.{sizes}
+use Rattle.gather.specs.Sized.{sizes}
 use Rattle.block_calls.proofs.Fresh.{fresh-accepted, fresh-given, fresh-refused}
 use Rattle.store_calls.proofs.fresh.Statement.{statement}
 use Rattle.store_calls.proofs.fresh.Tie as tie

@@ -1,2 +1,0 @@
--- The sizes that a test looks at.
-pub use Rattle.gather.specs.Sized.{sizes, sized}
