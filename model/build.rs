@@ -1,5 +1,5 @@
-//! With the feature `proved`, the linker looks for static libraries where `rt staticlib` writes
-//! them.
+//! With the feature `proved`, the linker looks for static libraries where `tools/prove staticlib`
+//! writes them.
 
 use std::env;
 use std::path::PathBuf;

@@ -39,6 +39,14 @@ pub fn steps<'a>(mut step: impl FnMut() + 'a) -> Contender<'a> {
     })
 }
 
+/// The quickest, in each round, of several ways to take a step.
+pub fn quickest_way<'a>(mut ways: Vec<Contender<'a>>) -> Contender<'a> {
+    Box::new(move || {
+        let samples = ways.iter_mut().map(|way| way());
+        samples.min_by(|one, other| one.step.total_cmp(&other.step)).expect("a way")
+    })
+}
+
 /// The step, less what it takes to undo it: the time of both, and then that of undoing alone.
 pub fn steps_undone<'a, State: 'a>(
     mut state: State,

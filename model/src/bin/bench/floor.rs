@@ -1,7 +1,11 @@
 //! The floor: one plain pass over the words in use.
 
+use crate::clock::{quickest_way, steps, Contender};
 use koolvent_model::layout::{decode, fields};
+use std::arch::asm;
+use std::hint::black_box;
 use std::ops::Range;
+use std::rc::Rc;
 
 /// Words between two fields that a pass goes over rather than around: those of a cache line.
 const GAP: usize = 8;
@@ -22,8 +26,44 @@ pub fn in_use(block: &[u64]) -> Vec<Range<usize>> {
     stretches
 }
 
-/// The sum of the words.
-pub fn sum(block: &[u64], stretches: &[Range<usize>]) -> u64 {
+/// A pass over each of these lists of stretches, one after the other.
+pub fn passes<'a>(block: &[u64], of_each: Vec<Vec<Range<usize>>>) -> Contender<'a> {
+    let passed = Rc::new((block.to_vec(), of_each));
+    let with = |sum: Sum| {
+        let passed = passed.clone();
+        steps(move || {
+            let (block, of_each) = &*passed;
+            for stretches in of_each {
+                black_box(sum(black_box(block), stretches));
+            }
+        })
+    };
+    quickest_way(SUMS.map(with).into())
+}
+
+type Sum = fn(&[u64], &[Range<usize>]) -> u64;
+
+/// Copies of the sum for each place in a line of the instruction cache where a loop may start. It is
+/// a loop of seven instructions, and takes 1.6 times as long where these lie across two lines, which
+/// any change of this program may bring about: the quickest copy counts.
+const SUMS: [Sum; 4] = [sum::<0>, sum::<1>, sum::<2>, sum::<3>];
+
+/// The sum of the words; its loops lie so many times 16 bytes further past the start of a line than
+/// those of the first copy.
+#[inline(never)]
+fn sum<const PAST: usize>(block: &[u64], stretches: &[Range<usize>]) -> u64 {
+    // Safety: these instructions do nothing, and are there for their length.
+    unsafe {
+        asm!(
+            ".p2align 6",
+            ".rept {past}",
+            "nop",
+            ".p2align 4",
+            ".endr",
+            past = const PAST,
+            options(nomem, nostack, preserves_flags),
+        );
+    }
     stretches.iter().fold(0, |sum, stretch| {
         let words = block[stretch.clone()].iter();
         words.fold(sum, |sum, word| sum.wrapping_add(*word))
