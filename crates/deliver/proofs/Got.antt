@@ -11,7 +11,7 @@ use Rattle.itemset.specs.Set.{has, remove}
 use Rattle.itemset.proofs.Laws.{has-empty}
 use Rattle.protocol.specs.declared.Version.{Version}
 use Rattle.protocol.specs.declared.Entry.{Entry}
-use Rattle.protocol.specs.Tables.{Tables, Client, ofRead, laterOf, resting, put}
+use Rattle.protocol.specs.Tables.{Tables, Client, ofRead, laterOf, rested, put}
 use Rattle.protocol.specs.Tables.{withClient, withView}
 use Rattle.protocol.specs.Range.{isIdle, isWriting}
 use Rattle.protocol.specs.Steps.{answered, isLast, ended, got, seen}
@@ -93,7 +93,7 @@ module _ {b : List ℕ} {t : Tables} (d : ℕ) (v : Version) (latest : Entry) (n
 
   ends : Encodes (readEnded (keptAnswer b d v latest) (t .sizes .items) d)
       (withClient (withView t d view) d
-      (resting (c .count) (ended (answered c (v .item) (v .value)))))
+      (rested c (ended (answered c (v .item) (v .value)))))
   ends =
       encodes-read-ended (answered c (v .item) (v .value)) encodes-seen-later r narrow last
       (range .read .set) kept reads (held .count) (held .read reads .set)

@@ -13,7 +13,7 @@ use Rattle.basics.specs.Fold.{upTo}
 use Rattle.itemset.specs.Set.{has, remove}
 use Rattle.protocol.specs.declared.Message.{Message}
 use Rattle.protocol.specs.declared.Message.the-variants.{Prepared}
-use Rattle.protocol.specs.Tables.{Tables, Client, ofWrite, writerOf, resting, put}
+use Rattle.protocol.specs.Tables.{Tables, Client, ofWrite, writerOf, rested, put}
 use Rattle.protocol.specs.Tables.{withClient}
 use Rattle.protocol.specs.Tables.{withView, withMessages}
 use Rattle.protocol.specs.Range.{isIdle, isWriting}
@@ -67,14 +67,14 @@ module _ {b : List ℕ} (t : Tables) (ms : List Message) (k stamp : ℕ)
 
   -- with the last one
   abbrev over : Tables
-  over = withView (withClient t d (resting (c .count) (ended c))) d
+  over = withView (withClient t d (rested c (ended c))) d
       (seen (t .view d) (c .write .set) stamp)
 
-  rested : Encodes (writeKept b (t .sizes .items) d (c .write .set) stamp) (withMessages over ms)
-  rested = encodes-write-kept d stamp n r first last writes (range .write .set) own
+  kept : Encodes (writeKept b (t .sizes .items) d (c .write .set) stamp) (withMessages over ms)
+  kept = encodes-write-kept d stamp n r first last writes (range .write .set) own
 
   room-over : HasRoom (withMessages over ms)
-  room-over = room-client (withMessages t ms) d (resting (c .count) (ended c)) r
+  room-over = room-client (withMessages t ms) d (rested c (ended c)) r
       (narrow-last c (r .client d first last))
 
   ends : length (ms ++ commits t (c .write .set) stamp) ≤ mostMessages
@@ -92,7 +92,7 @@ module _ {b : List ℕ} (t : Tables) (ms : List Message) (k stamp : ℕ)
       (touched (t .sizes .partitions) (c .write .set) (t .sizes .items)) stamp
       (t .sizes .partitions)
       (λ p. touches t (c .write .set) p (t .sizes .items))
-      (λ p l. has-touched t some few (c .write .set) (t .sizes .items) p) room-over room rested)
+      (λ p l. has-touched t some few (c .write .set) (t .sizes .items) p) room-over room kept)
 
   -- before the last one
   goes-on : isLast ofWrite c k ≡ false

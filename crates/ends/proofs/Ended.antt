@@ -10,7 +10,7 @@ use Rattle.basics.specs.Fold.{upTo}
 use Rattle.itemset.specs.Set.{has}
 use Rattle.itemset.proofs.Laws.{has-below}
 use Rattle.itemset.proofs.Pass.{filled-at}
-use Rattle.protocol.specs.Tables.{Tables, Client, resting, withClient, withView}
+use Rattle.protocol.specs.Tables.{Tables, Client, rested, withClient, withView}
 use Rattle.protocol.specs.Range.{isWriting}
 use Rattle.protocol.specs.Steps.{ended as lastOf, seen}
 use Rattle.layout.specs.Layout.{scalars, asked, values}
@@ -30,7 +30,7 @@ pub encodes-write-kept : {b : List ℕ} {t : Tables} (d stamp : ℕ) → Encodes
     → isWriting (t .client d) ≡ true → t .client d .write .set < 2 ^ t .sizes .items
     → t .client d .write .stamp ≡ stamp
     → Encodes (writeKept b (t .sizes .items) d (t .client d .write .set) stamp)
-    (withView (withClient t d (resting (t .client d .count) (lastOf (t .client d)))) d
+    (withView (withClient t d (rested (t .client d) (lastOf (t .client d)))) d
     (seen (t .view d) (t .client d .write .set) stamp))
 unfolding writeKept
 encodes-write-kept {b} {t} d stamp n r first last writes set own =
@@ -56,14 +56,14 @@ pub encodes-read-ended : {a b : List ℕ} {t : Tables} {d : ℕ} {w : Words} (c 
     → isWriting c ≡ false → w scalars 1 ≡ c .count → w scalars 2 ≡ c .read .set
     → ((k : ℕ) → has (c .read .set) k ≡ true → w asked k ≡ c .read .asked k)
     → ((k : ℕ) → has (c .read .set) k ≡ true → w values k ≡ c .read .values k)
-    → Encodes (readEnded b (t .sizes .items) d) (withClient t d (resting (c .count) (lastOf c)))
+    → Encodes (readEnded b (t .sizes .items) d) (withClient t d (rested c (lastOf c)))
 unfolding readEnded
 encodes-read-ended {a} {b} {t} {d} {w} c n r narrow last set ch reads counted same asks answers =
     let s = c .read .set in
     let items = t .sizes .items in
     let v = answers-taken s ch items (r .items) in
     subst (λ (z : ℕ). Encodes (ended (upTo (keepAnswer d z) b items) d 1 z)
-    (withClient t d (resting (c .count) (lastOf c))))
+    (withClient t d (rested c (lastOf c))))
     (sym (ch .words .row scalars 2 (lit< tt) ∙ same))
     (encodes-changed n r last (ended-changed 1 s v) (narrow-last c narrow)
     (rests-read _ c reads counted

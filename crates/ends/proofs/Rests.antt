@@ -7,7 +7,7 @@ use lib.Dec.{eqb, lit<}
 use Rattle.basics.proofs.Cases.{not-both, not-true, not-false}
 use Rattle.itemset.specs.Set.{has}
 use Rattle.itemset.proofs.Laws.{has-empty}
-use Rattle.protocol.specs.Tables.{Client, Ended, resting}
+use Rattle.protocol.specs.Tables.{Client, Ended, resting, rested}
 use Rattle.protocol.specs.Range.{isWriting}
 use Rattle.protocol.specs.Steps.{ended as lastOf}
 use Rattle.layout.specs.Layout.{scalars, lastStamps, lastValues}
@@ -59,7 +59,7 @@ kind-write c w = rw (not-true (eqb (c .write .set) 0) w) refl
 pub rests-read : (w : Words) (c : Client) → isWriting c ≡ false → w scalars 1 ≡ c .count
     → ((k : ℕ) → has (c .read .set) k ≡ true → w lastStamps k ≡ c .read .asked k)
     → ((k : ℕ) → has (c .read .set) k ≡ true → w lastValues k ≡ c .read .values k)
-    → WordsHold (endedWords w 1 (c .read .set)) (resting (c .count) (lastOf c))
+    → WordsHold (endedWords w 1 (c .read .set)) (rested c (lastOf c))
 rests-read w c reads counted stamps values =
     rests (endedWords w 1 (c .read .set)) (c .count) (lastOf c) refl counted refl refl
     (record {
@@ -72,7 +72,7 @@ pub rests-write : (w : Words) (c : Client) (stamp : ℕ) → c .write .stamp ≡
     → isWriting c ≡ true → w scalars 1 ≡ c .count
     → ((k : ℕ) → has (c .write .set) k ≡ true → w lastValues k ≡ c .write .values k)
     → WordsHold (putWord (endedWords w 2 (c .write .set)) scalars 7 stamp)
-    (resting (c .count) (lastOf c))
+    (rested c (lastOf c))
 rests-write w c stamp own writes counted values =
     rests (putWord (endedWords w 2 (c .write .set)) scalars 7 stamp) (c .count) (lastOf c) refl counted
     refl refl
@@ -84,7 +84,7 @@ rests-write w c stamp own writes counted values =
 
 -- ---- its sets are narrow where the client's are
 
-pub narrow-last : (c : Client) → NarrowClient c → NarrowClient (resting (c .count) (lastOf c))
+pub narrow-last : (c : Client) → NarrowClient c → NarrowClient (rested c (lastOf c))
 narrow-last c n = record {
   read = λ k e. not-both e (has-empty k);
   write = λ k e. not-both e (has-empty k);
