@@ -1,11 +1,11 @@
 //! The floor: one plain pass over the words in use.
 
+use crate::call::BLOCKS;
 use crate::clock::{quickest_way, steps, Contender};
 use koolvent_model::layout::{decode, fields};
 use std::arch::asm;
 use std::hint::black_box;
 use std::ops::Range;
-use std::rc::Rc;
 
 /// Words between two fields that a pass goes over rather than around: those of a cache line.
 const GAP: usize = 8;
@@ -26,15 +26,14 @@ pub fn in_use(block: &[u64]) -> Vec<Range<usize>> {
     stretches
 }
 
-/// A pass over each of these lists of stretches, one after the other.
-pub fn passes<'a>(block: &[u64], of_each: Vec<Vec<Range<usize>>>) -> Contender<'a> {
-    let passed = Rc::new((block.to_vec(), of_each));
+/// A pass over each of these lists of stretches, one after the other; each copy of it on a block of
+/// its own.
+pub fn passes<'a>(block: &[u64], of_each: &[Vec<Range<usize>>]) -> Contender<'a> {
     let with = |sum: Sum| {
-        let passed = passed.clone();
+        let (block, of_each) = (block.to_vec(), of_each.to_vec());
         steps(move || {
-            let (block, of_each) = &*passed;
-            for stretches in of_each {
-                black_box(sum(black_box(block), stretches));
+            for stretches in &of_each {
+                black_box(sum(black_box(&block), stretches));
             }
         })
     };
@@ -46,7 +45,7 @@ type Sum = fn(&[u64], &[Range<usize>]) -> u64;
 /// Copies of the sum for each place in a line of the instruction cache where a loop may start. It is
 /// a loop of seven instructions, and takes 1.6 times as long where these lie across two lines, which
 /// any change of this program may bring about: the quickest copy counts.
-const SUMS: [Sum; 4] = [sum::<0>, sum::<1>, sum::<2>, sum::<3>];
+const SUMS: [Sum; BLOCKS] = [sum::<0>, sum::<1>, sum::<2>, sum::<3>];
 
 /// The sum of the words; its loops lie so many times 16 bytes further past the start of a line than
 /// those of the first copy.

@@ -134,7 +134,7 @@ fn passes<'a>(block: &[u64]) -> Contender<'a> {
     write_and_read(&watched, &mut Lent::new(block, block), 1);
     let calls = watched.in_use.into_inner();
     assert_eq!(calls.len(), 22);
-    floor::passes(block, calls)
+    floor::passes(block, &calls)
 }
 
 /// The proved store, and the words in use before each call of it.
