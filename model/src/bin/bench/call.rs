@@ -14,9 +14,9 @@ use std::hint::black_box;
 
 const ROUNDS: usize = 301;
 
-/// The store and the floor are timed on so many copies of the block, and the quickest counts: now and
-/// then the memory that a copy happens to get makes one call or pass slower by some 5 to 20 % in a
-/// whole run.
+/// The store and the floor are timed on so many copies of the block, and the quickest counts: now
+/// and then the memory that a copy happens to get makes one call or pass slower by some 5 to 20 %
+/// in a whole run.
 pub const BLOCKS: usize = 4;
 
 /// Nanoseconds of one call, and the store's time as a multiple of each other's.

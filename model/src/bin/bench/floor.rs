@@ -42,9 +42,9 @@ pub fn passes<'a>(block: &[u64], of_each: &[Vec<Range<usize>>]) -> Contender<'a>
 
 type Sum = fn(&[u64], &[Range<usize>]) -> u64;
 
-/// Copies of the sum for each place in a line of the instruction cache where a loop may start. It is
-/// a loop of seven instructions, and takes 1.6 times as long where these lie across two lines, which
-/// any change of this program may bring about: the quickest copy counts.
+/// Copies of the sum for each place in a line of the instruction cache where a loop may start. It
+/// is a loop of seven instructions, and takes 1.6 times as long where these lie across two lines,
+/// which any change of this program may bring about: the quickest copy counts.
 const SUMS: [Sum; BLOCKS] = [sum::<0>, sum::<1>, sum::<2>, sum::<3>];
 
 /// The sum of the words; its loops lie so many times 16 bytes further past the start of a line than
