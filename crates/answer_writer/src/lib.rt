@@ -14,7 +14,8 @@ ghost use Rattle.store_frames.specs.Answers.{lineOf, answerLine};
 fn put_line(out: &mut [u8], size: usize, number: u64) -> usize
     requires { ⌜ 2 * size + 1 ≤ length (now out) ⌝ }
     ensures { λ r. ⌜ r ≡ length (lineOf (bigEndian size number)) ⌝ }
-    ensures { λ _. ⌜ now (out .exit) ≡ sets (now (out .entry)) 0 (lineOf (bigEndian size number)) ⌝ }
+    ensures { λ _. ⌜ now (out .exit) ≡ sets (now (out .entry)) 0
+        (lineOf (bigEndian size number)) ⌝ }
 {
     hex::put_number(out, 0, size, number);
     out[2 * size] = 0x0a;
@@ -25,7 +26,8 @@ fn put_line(out: &mut [u8], size: usize, number: u64) -> usize
 fn put_shown(out: &mut [u8], bytes: &[u8]) -> usize
     requires { ⌜ 2 * length (now bytes) + 3 ≤ length (now out) ⌝ }
     ensures { λ r. ⌜ r ≡ length (lineOf (0 ∷ now (bytes .entry))) ⌝ }
-    ensures { λ _. ⌜ now (out .exit) ≡ sets (now (out .entry)) 0 (lineOf (0 ∷ now (bytes .entry))) ⌝ }
+    ensures { λ _. ⌜ now (out .exit) ≡ sets (now (out .entry)) 0
+        (lineOf (0 ∷ now (bytes .entry))) ⌝ }
 {
     let n = bytes.len();
     hex::put_byte(out, 0, 0);
@@ -51,7 +53,8 @@ fn put_into(out: &mut [u8], a: Answer, shown: &[u8]) -> usize
     requires { ⌜ 11 ≤ length (now out) ⌝ }
     requires { ⌜ 2 * length (now shown) + 3 ≤ length (now out) ⌝ }
     ensures { λ r. ⌜ r ≡ length (answerLine a (now (shown .entry))) ⌝ }
-    ensures { λ _. ⌜ now (out .exit) ≡ sets (now (out .entry)) 0 (answerLine a (now (shown .entry))) ⌝ }
+    ensures { λ _. ⌜ now (out .exit) ≡ sets (now (out .entry)) 0
+        (answerLine a (now (shown .entry))) ⌝ }
 {
     match a {
         Answer::Refused(n) => put_line(out, 1, n),
@@ -74,7 +77,8 @@ fn put_into(out: &mut [u8], a: Answer, shown: &[u8]) -> usize
 // front of `shown`.
 pub fn put_answer(a: Answer, shown: &[u8; MOST_LOG_FRAME], out: &mut [u8; MOST_REPLY]) -> usize
     ensures { λ r. ⌜ r ≡ length (answerLine a (now (shown .entry))) ⌝ }
-    ensures { λ _. ⌜ now (out .exit) ≡ sets (now (out .entry)) 0 (answerLine a (now (shown .entry))) ⌝ }
+    ensures { λ _. ⌜ now (out .exit) ≡ sets (now (out .entry)) 0
+        (answerLine a (now (shown .entry))) ⌝ }
 {
     put_into(out, a, shown)
 }

@@ -42,7 +42,8 @@ fn commit_version(b: &mut [u64], partitions: u64, p: u64, stamp: u64, i: u64)
 // A commit of this stamp to partition `p`, with so many stored versions.
 pub fn commit(b: &mut [u64], partitions: u64, versions: u64, p: u64, stamp: u64)
     requires { ⌜ (1 ≤ partitions) × (versions ≤ mostVersions) × (needed ≤ length (now b)) ⌝ }
-    ensures { λ _. ⌜ now (b .exit) ≡ commitDelivered (now (b .entry)) partitions versions p stamp ⌝ }
+    ensures { λ _. ⌜ now (b .exit) ≡ commitDelivered (now (b .entry)) partitions
+        versions p stamp ⌝ }
 {
     let mut i = 0;
     while i < versions {

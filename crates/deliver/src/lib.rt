@@ -22,7 +22,8 @@ pub struct Counts {
 
 // The work of message `m`, taken out before; a get is answered with `value`.
 fn work(b: &mut [u64], counts: Counts, value: u64, m: Message)
-    requires { ⌜ (1 ≤ counts .partitions) × (counts .partitions ≤ 8) × (counts .items ≤ 64) × (counts .versions ≤ mostVersions) × Bounded m × (needed ≤ length (now b)) ⌝ }
+    requires { ⌜ (1 ≤ counts .partitions) × (counts .partitions ≤ 8) × (counts .items ≤ 64)
+        × (counts .versions ≤ mostVersions) × Bounded m × (needed ≤ length (now b)) ⌝ }
     ensures { λ _. ⌜ now (b .exit) ≡ messageDelivered (now (b .entry)) counts value m ⌝ }
 {
     match m {
@@ -57,8 +58,10 @@ fn work(b: &mut [u64], counts: Counts, value: u64, m: Message)
 // Of `n` messages the one at place `i`, which is `m`, is delivered; a get is answered with `value`.
 pub fn deliver_message(b: &mut [u64], n: u64, i: u64, counts: Counts, value: u64, m: Message)
     requires { ⌜ (i < n) × (n ≤ mostMessages) × (needed ≤ length (now b)) ⌝ }
-    requires { ⌜ (1 ≤ counts .partitions) × (counts .partitions ≤ 8) × (counts .items ≤ 64) × (counts .versions ≤ mostVersions) × Bounded m ⌝ }
-    ensures { λ _. ⌜ now (b .exit) ≡ messageDelivered (takeOut (now (b .entry)) n i) counts value m ⌝ }
+    requires { ⌜ (1 ≤ counts .partitions) × (counts .partitions ≤ 8) × (counts .items ≤ 64)
+        × (counts .versions ≤ mostVersions) × Bounded m ⌝ }
+    ensures { λ _. ⌜ now (b .exit) ≡ messageDelivered (takeOut (now (b .entry)) n i)
+        counts value m ⌝ }
 {
     take_out(b, n, i);
     work(b, counts, value, m);

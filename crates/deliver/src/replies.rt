@@ -18,7 +18,8 @@ use protocol::Version;
 // The prepared reply for `item`, to the client of this stamp.
 pub fn prepared(b: &mut [u64], partitions: u64, items: u64, item: u64, stamp: u64)
     requires { ⌜ (1 ≤ partitions) × (items ≤ 64) × (1 ≤ writerOf stamp) × (writerOf stamp ≤ 8) ⌝ }
-    ensures { λ _. ⌜ now (b .exit) ≡ preparedDelivered (now (b .entry)) partitions items item stamp ⌝ }
+    ensures { λ _. ⌜ now (b .exit) ≡ preparedDelivered (now (b .entry)) partitions items
+        item stamp ⌝ }
 {
     let d = stamp % 16;
     let rest = remove(awaited(b, d), item);

@@ -19,7 +19,8 @@ use range::valid_block;
 
 // Message `m` at place `i`, of which `t` is told: a delivery that is accepted.
 fn deliver_on(b: &mut [u64], i: u64, t: Tested, m: Message) -> Answer
-    requires { ⌜ (refusalOn (now b) (deliver i) ≡ 0) × (m ≡ messageIn (now b) i) × (t ≡ testedIn (now b) (at (now b) header versionsAt) m) ⌝ }
+    requires { ⌜ (refusalOn (now b) (deliver i) ≡ 0) × (m ≡ messageIn (now b) i)
+        × (t ≡ testedIn (now b) (at (now b) header versionsAt) m) ⌝ }
     ensures answer { λ r. ⌜ r ≡ answerOn (now (b .entry)) (deliver i) ⌝ }
     ensures block { λ _. ⌜ now (b .exit) ≡ blockAfter (now (b .entry)) (deliver i) ⌝ }
 {

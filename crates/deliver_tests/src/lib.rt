@@ -53,7 +53,8 @@ fn reply(b: &[u64], d: u64, kind: u64, item: u64, right: bool) -> Tested
 // stored, and its value.
 fn get(b: &[u64], n: u64, item: u64, stamp: u64) -> Tested
     requires { ⌜ (n ≤ mostVersions) × (needed ≤ length (now b)) ⌝ }
-    ensures { λ r. ⌜ r ≡ told (cond (eqb stamp 0 || stored (table n (versionIn (now (b .entry)))) item stamp) 0 12) 0 (found (table n (versionIn (now (b .entry)))) item stamp .value) ⌝ }
+    ensures { λ r. ⌜ r ≡ told (cond (eqb stamp 0 || stored (table n (versionIn (now (b .entry))))
+        item stamp) 0 12) 0 (found (table n (versionIn (now (b .entry)))) item stamp .value) ⌝ }
 {
     let place = find(b, n, item, stamp);
     match place {

@@ -102,7 +102,8 @@ fn parse(f: &[u8]) -> Parsed
 fn decode_line(line: &[u8], bytes: &mut [u8]) -> Decoded
     requires { ⌜ mostFrame ≤ length (now bytes) ⌝ }
     ensures { λ r. ⌜ r ≡ decodedLine (now (line .entry)) ⌝ }
-    ensures { λ _. ⌜ now (bytes .exit) ≡ sets (now (bytes .entry)) 0 (storedBytes (now (line .entry))) ⌝ }
+    ensures { λ _. ⌜ now (bytes .exit) ≡ sets (now (bytes .entry)) 0
+        (storedBytes (now (line .entry))) ⌝ }
 {
     if is_decoded(line) {
         let end = line.len() - 1;
@@ -115,7 +116,8 @@ fn decode_line(line: &[u8], bytes: &mut [u8]) -> Decoded
 fn read_into(line: &[u8], bytes: &mut [u8]) -> Parsed
     requires { ⌜ mostFrame ≤ length (now bytes) ⌝ }
     ensures { λ r. ⌜ r ≡ storeFrameOf (now (line .entry)) ⌝ }
-    ensures { λ _. ⌜ now (bytes .exit) ≡ sets (now (bytes .entry)) 0 (storedBytes (now (line .entry))) ⌝ }
+    ensures { λ _. ⌜ now (bytes .exit) ≡ sets (now (bytes .entry)) 0
+        (storedBytes (now (line .entry))) ⌝ }
 {
     let text = decode_line(line, bytes);
     let Decoded::Bytes(n) = text else {
@@ -127,7 +129,8 @@ fn read_into(line: &[u8], bytes: &mut [u8]) -> Parsed
 // Reads a line: its frame, whose bytes are then those of `bytes`, from the front on.
 pub fn read_frame(line: &[u8], bytes: &mut [u8; MOST_FRAME]) -> Parsed
     ensures { λ r. ⌜ r ≡ storeFrameOf (now (line .entry)) ⌝ }
-    ensures { λ _. ⌜ now (bytes .exit) ≡ sets (now (bytes .entry)) 0 (storedBytes (now (line .entry))) ⌝ }
+    ensures { λ _. ⌜ now (bytes .exit) ≡ sets (now (bytes .entry)) 0
+        (storedBytes (now (line .entry))) ⌝ }
 {
     read_into(line, bytes)
 }

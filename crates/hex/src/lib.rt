@@ -137,7 +137,8 @@ pub enum Decoded {
 pub fn decode(line: &[u8], out: &mut [u8]) -> Decoded
     requires { ⌜ length (now line) / 2 ≤ length (now out) ⌝ }
     ensures answer { λ r. ⌜ r ≡ decoded (now (line .entry)) ⌝ }
-    ensures stores { λ _. ⌜ now (out .exit) ≡ sets (now (out .entry)) 0 (bytesOf (now (line .entry))) ⌝ }
+    ensures stores { λ _. ⌜ now (out .exit) ≡ sets (now (out .entry)) 0
+        (bytesOf (now (line .entry))) ⌝ }
 {
     let half = line.len() / 2;
     let mut k = 0;

@@ -19,7 +19,8 @@ ghost use Rattle.log.specs.Some.{firstFrom};
 // The first line at fault, counted from 0; `n` where there is none.
 pub fn first_fault(bytes: &[u8], starts: &[usize], marks: &[u64], n: usize) -> usize
     requires { ⌜ Table (now bytes) (now starts) n (now marks) ⌝ }
-    ensures { λ r. ⌜ r ≡ firstFrom n 0 (faultAt (framesIn (now (bytes .entry)) (now (starts .entry)) n)) ⌝ }
+    ensures { λ r. ⌜ r ≡ firstFrom n 0 (faultAt
+        (framesIn (now (bytes .entry)) (now (starts .entry)) n)) ⌝ }
 {
     let mut found = n;
     let mut i = 0;
@@ -68,7 +69,8 @@ fn holds(
     item: u64,
 ) -> bool
     requires { ⌜ Table (now bytes) (now starts) n (now marks) × (line < n) ⌝ }
-    ensures { λ b. ⌜ b ≡ findingOf finding (framesIn (now (bytes .entry)) (now (starts .entry)) n) line item ⌝ }
+    ensures { λ b. ⌜ b ≡ findingOf finding (framesIn (now (bytes .entry)) (now (starts .entry)) n)
+        line item ⌝ }
 {
     let r = frame(bytes, starts, line);
     let stamp = shown_stamp(r, item);
@@ -91,7 +93,8 @@ fn holds_at(
     line: usize,
 ) -> bool
     requires { ⌜ Table (now bytes) (now starts) n (now marks) × (line < n) ⌝ }
-    ensures { λ b. ⌜ b ≡ holdsAt (findingOf finding) (framesIn (now (bytes .entry)) (now (starts .entry)) n) line ⌝ }
+    ensures { λ b. ⌜ b ≡ holdsAt (findingOf finding)
+        (framesIn (now (bytes .entry)) (now (starts .entry)) n) line ⌝ }
 {
     let items = shown(frame(bytes, starts, line));
     let mut k = 0;
@@ -107,7 +110,8 @@ fn holds_at(
 // The lowest finding at line `line`; 0 where none holds.
 pub fn lowest(bytes: &[u8], starts: &[usize], marks: &[u64], n: usize, line: usize) -> u8
     requires { ⌜ Table (now bytes) (now starts) n (now marks) × (line < n) ⌝ }
-    ensures { λ r. ⌜ r ≡ lowestOf findings (framesIn (now (bytes .entry)) (now (starts .entry)) n) line ⌝ }
+    ensures { λ r. ⌜ r ≡ lowestOf findings (framesIn (now (bytes .entry))
+        (now (starts .entry)) n) line ⌝ }
 {
     if holds_at(1, bytes, starts, marks, n, line) {
         return 1;

@@ -136,7 +136,8 @@ fn write_line(v: Verdict, out: &mut [u8]) -> usize
 // Writes the line of a log's verdict to the front of `out`, and answers its length.
 fn write_verdict(log: &[u8], out: &mut [u8]) -> usize
     requires { ⌜ 9 ≤ length (now out) ⌝ }
-    ensures { λ r. ⌜ take r (now (out .exit)) ≡ hexText (bytesOf (verdict (now (log .entry)))) ++ 0x0a ∷ [] ⌝ }
+    ensures { λ r. ⌜ take r (now (out .exit)) ≡ hexText (bytesOf (verdict (now (log .entry))))
+        ++ 0x0a ∷ [] ⌝ }
     ensures { λ r. ⌜ r ≤ length (now (out .entry)) ⌝ }
 {
     write_line(judge::judge(log), out)

@@ -40,8 +40,10 @@ fn wrote_at(
     stamp: u64,
     value: u64,
 ) -> bool
-    requires { ⌜ (j ≤ 65536) × (j < length (now marks)) × (getD (now marks) j 0 ≡ markOf (frameIn (now bytes) (now starts) j)) ⌝ }
-    ensures { λ r. ⌜ r ≡ wroteBy item stamp value (frameIn (now (bytes .entry)) (now (starts .entry)) j) ⌝ }
+    requires { ⌜ (j ≤ 65536) × (j < length (now marks))
+        × (getD (now marks) j 0 ≡ markOf (frameIn (now bytes) (now starts) j)) ⌝ }
+    ensures { λ r. ⌜ r ≡ wroteBy item stamp value
+        (frameIn (now (bytes .entry)) (now (starts .entry)) j) ⌝ }
 {
     if marks[j] == stamp {
         wrote(frame(bytes, starts, j), item, stamp, value)
@@ -61,7 +63,8 @@ fn is_written(
     value: u64,
 ) -> bool
     requires { ⌜ Table (now bytes) (now starts) n (now marks) ⌝ }
-    ensures { λ r. ⌜ r ≡ some (wroteBy item stamp value) (framesIn (now (bytes .entry)) (now (starts .entry)) n) ⌝ }
+    ensures { λ r. ⌜ r ≡ some (wroteBy item stamp value)
+        (framesIn (now (bytes .entry)) (now (starts .entry)) n) ⌝ }
 {
     let mut j = 0;
     while j < n {
@@ -84,7 +87,8 @@ pub fn is_unwritten(
     value: u64,
 ) -> bool
     requires { ⌜ Table (now bytes) (now starts) n (now marks) ⌝ }
-    ensures { λ r. ⌜ r ≡ isUnwritten (framesIn (now (bytes .entry)) (now (starts .entry)) n) item stamp value ⌝ }
+    ensures { λ r. ⌜ r ≡ isUnwritten (framesIn (now (bytes .entry)) (now (starts .entry)) n) item
+        stamp value ⌝ }
 {
     if stamp == 0 {
         return value != 0;
@@ -159,8 +163,10 @@ pub fn faults_at(
     item: u64,
     stamp: u64,
 ) -> bool
-    requires { ⌜ (write ≤ 65536) × (write < length (now marks)) × (getD (now marks) write 0 ≡ markOf (frameIn (now bytes) (now starts) write)) ⌝ }
-    ensures { λ b. ⌜ b ≡ faultsOf (now (r .entry)) of item stamp (frameIn (now (bytes .entry)) (now (starts .entry)) write) (ltb write line) ⌝ }
+    requires { ⌜ (write ≤ 65536) × (write < length (now marks))
+        × (getD (now marks) write 0 ≡ markOf (frameIn (now bytes) (now starts) write)) ⌝ }
+    ensures { λ b. ⌜ b ≡ faultsOf (now (r .entry)) of item stamp
+        (frameIn (now (bytes .entry)) (now (starts .entry)) write) (ltb write line) ⌝ }
 {
     let mark = marks[write];
     if mark == stamp {
@@ -183,7 +189,8 @@ pub fn is_fractured(
     stamp: u64,
 ) -> bool
     requires { ⌜ n ≤ 65536 ⌝ }
-    ensures { λ b. ⌜ b ≡ some (fracturesAt (now (r .entry)) item stamp) (framesIn (now (bytes .entry)) (now (starts .entry)) n) ⌝ }
+    ensures { λ b. ⌜ b ≡ some (fracturesAt (now (r .entry)) item stamp)
+        (framesIn (now (bytes .entry)) (now (starts .entry)) n) ⌝ }
 {
     let mut j = 0;
     while j < n {
@@ -198,7 +205,8 @@ pub fn is_fractured(
 // Finding 3, at an item shown with that stamp to that client, of the first `n` lines, those above.
 pub fn is_missed(bytes: &[u8], starts: &[usize], n: usize, of: u64, item: u64, stamp: u64) -> bool
     requires { ⌜ n ≤ 65536 ⌝ }
-    ensures { λ b. ⌜ b ≡ some (outdatesAt of item stamp) (framesIn (now (bytes .entry)) (now (starts .entry)) n) ⌝ }
+    ensures { λ b. ⌜ b ≡ some (outdatesAt of item stamp)
+        (framesIn (now (bytes .entry)) (now (starts .entry)) n) ⌝ }
 {
     let mut j = 0;
     while j < n {

@@ -39,7 +39,8 @@ fn is_whole(number: u64, writer: u64) -> bool
 // The i-th entry that a read shows has a whole stamp.
 fn entry_whole(f: &[u8], i: usize) -> bool
     requires { ⌜ i ≤ 64 ⌝ }
-    ensures { λ r. ⌜ r ≡ isWhole (entryNumber (now (f .entry)) i) (entryWriter (now (f .entry)) i) ⌝ }
+    ensures { λ r. ⌜ r ≡ isWhole (entryNumber (now (f .entry)) i)
+        (entryWriter (now (f .entry)) i) ⌝ }
 {
     let at = 10 + 9 * i;
     is_whole(word(f, at), byte(f, at + 4))

@@ -22,7 +22,8 @@ ghost use Rattle.log.specs.Some.{some};
 // One of the first `n` frames is of that client, with that number or a greater one.
 fn reached(bytes: &[u8], starts: &[usize], n: usize, of: u64, number: u64) -> bool
     requires { ⌜ n ≤ 65536 ⌝ }
-    ensures { λ r. ⌜ r ≡ some (reachesOf of number) (framesIn (now (bytes .entry)) (now (starts .entry)) n) ⌝ }
+    ensures { λ r. ⌜ r ≡ some (reachesOf of number)
+        (framesIn (now (bytes .entry)) (now (starts .entry)) n) ⌝ }
 {
     let mut j = 0;
     while j < n {
@@ -37,7 +38,8 @@ fn reached(bytes: &[u8], starts: &[usize], n: usize, of: u64, number: u64) -> bo
 // The same of a number of 1 or more; 0, where there is no write part, rises over nothing.
 fn repeats(bytes: &[u8], starts: &[usize], n: usize, of: u64, number: u64) -> bool
     requires { ⌜ n ≤ 65536 ⌝ }
-    ensures { λ r. ⌜ r ≡ refused (framesIn (now (bytes .entry)) (now (starts .entry)) n) (Parsed.Frame of number) ⌝ }
+    ensures { λ r. ⌜ r ≡ refused (framesIn (now (bytes .entry)) (now (starts .entry)) n)
+        (Parsed.Frame of number) ⌝ }
 {
     if 1 <= number {
         reached(bytes, starts, n, of, number)
@@ -50,7 +52,8 @@ fn repeats(bytes: &[u8], starts: &[usize], n: usize, of: u64, number: u64) -> bo
 fn store(line: &[u8], bytes: &mut [u8], end: usize) -> Decoded
     requires { ⌜ end + length (now line) / 2 ≤ length (now bytes) ⌝ }
     ensures { λ r. ⌜ r ≡ decoded (now (line .entry)) ⌝ }
-    ensures { λ _. ⌜ now (bytes .exit) ≡ sets (now (bytes .entry)) end (bytesOf (now (line .entry))) ⌝ }
+    ensures { λ _. ⌜ now (bytes .exit) ≡ sets (now (bytes .entry)) end
+        (bytesOf (now (line .entry))) ⌝ }
 {
     hex::decode(line, &mut bytes[end..])
 }
@@ -64,7 +67,8 @@ pub enum Taken {
 // Takes line `i`, which begins at `at`.
 fn take_line(log: &[u8], at: usize, bytes: &mut [u8], starts: &mut [usize], i: usize) -> Taken
     requires { ⌜ Room (now log) at (now bytes) (now starts) i ⌝ }
-    ensures { λ r. ⌜ TakenOf (now (log .entry)) at i (now (bytes .entry)) (now (starts .entry)) (now (bytes .exit)) (now (starts .exit)) r ⌝ }
+    ensures { λ r. ⌜ TakenOf (now (log .entry)) at i (now (bytes .entry)) (now (starts .entry))
+        (now (bytes .exit)) (now (starts .exit)) r ⌝ }
 {
     let end = start(starts, i);
     let e = hex::line_end(log, at);

@@ -16,7 +16,11 @@ use protocol::Entry;
 // The entry at place `i` of the section that starts at `base`.
 fn entry_at(b: &[u64], base: u64, i: u64) -> Entry
     requires { ⌜ (base < 1024) × (i < 1024) ⌝ }
-    ensures { λ r. ⌜ r ≡ record { stamp = getD (now (b .entry)) (base + i) 0; set = getD (now (b .entry)) (base + (i + 1)) 0 } ⌝ }
+    ensures { λ r. ⌜ r ≡ record {
+      stamp = getD (now (b .entry)) (base + i) 0;
+      set = getD
+          (now (b .entry)) (base + (i + 1)) 0;
+    } ⌝ }
 {
     Entry {
         stamp: word(b, (base + i) as usize),
@@ -26,7 +30,8 @@ fn entry_at(b: &[u64], base: u64, i: u64) -> Entry
 
 fn put_entry_at(b: &mut [u64], base: u64, i: u64, e: Entry)
     requires { ⌜ (base < 1024) × (i < 1024) ⌝ }
-    ensures { λ _. ⌜ now (b .exit) ≡ set (set (now (b .entry)) (base + i) (e .stamp)) (base + (i + 1)) (e .set) ⌝ }
+    ensures { λ _. ⌜ now (b .exit) ≡ set (set (now (b .entry)) (base + i) (e .stamp))
+        (base + (i + 1)) (e .set) ⌝ }
 {
     put_word(b, (base + i) as usize, e.stamp);
     put_word(b, (base + (i + 1)) as usize, e.set);

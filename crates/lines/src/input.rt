@@ -38,7 +38,8 @@ fn keep(line: &mut [u8], at: usize, c: u8) -> usize
 // Answers the first `at` bytes of `line`; all of them where there are fewer.
 fn answer_front(b: &mut [u64], line: &[u8], at: usize, output: &mut [u8; MOST_REPLY]) -> usize
     ensures { λ r. ⌜ r ≡ length (lineReply (now (b .entry)) (take at (now (line .entry)))) ⌝ }
-    ensures { λ _. ⌜ now (output .exit) ≡ sets (now (output .entry)) 0 (lineReply (now (b .entry)) (take at (now (line .entry)))) ⌝ }
+    ensures { λ _. ⌜ now (output .exit) ≡ sets (now (output .entry)) 0
+        (lineReply (now (b .entry)) (take at (now (line .entry)))) ⌝ }
     ensures { λ _. ⌜ now (b .exit) ≡ lineBlock (now (b .entry)) (take at (now (line .entry))) ⌝ }
 {
     if at <= line.len() {
@@ -58,8 +59,10 @@ fn feed_slice(
     requires { ⌜ length (now line) ≡ mostKept ⌝ }
     ensures { λ r. ⌜ r .at ≡ length (keptAfter (take at (now (line .entry))) c) ⌝ }
     ensures { λ r. ⌜ take (r .at) (now (line .exit)) ≡ keptAfter (take at (now (line .entry))) c ⌝ }
-    ensures { λ r. ⌜ r .length ≡ length (byteReply (now (b .entry)) (take at (now (line .entry))) c) ⌝ }
-    ensures { λ _. ⌜ now (output .exit) ≡ sets (now (output .entry)) 0 (byteReply (now (b .entry)) (take at (now (line .entry))) c) ⌝ }
+    ensures { λ r. ⌜ r .length ≡ length (byteReply (now (b .entry))
+        (take at (now (line .entry))) c) ⌝ }
+    ensures { λ _. ⌜ now (output .exit) ≡ sets (now (output .entry)) 0
+        (byteReply (now (b .entry)) (take at (now (line .entry))) c) ⌝ }
     ensures { λ _. ⌜ now (b .exit) ≡ byteBlock (now (b .entry)) (take at (now (line .entry))) c ⌝ }
     ensures { λ _. ⌜ now (line .exit) ≡ set (now (line .entry)) at c ⌝ }
 {
@@ -83,8 +86,10 @@ pub fn feed(
 ) -> Fed
     ensures { λ r. ⌜ r .at ≡ length (keptAfter (take at (now (line .entry))) c) ⌝ }
     ensures { λ r. ⌜ take (r .at) (now (line .exit)) ≡ keptAfter (take at (now (line .entry))) c ⌝ }
-    ensures { λ r. ⌜ r .length ≡ length (byteReply (now (b .entry)) (take at (now (line .entry))) c) ⌝ }
-    ensures { λ _. ⌜ now (output .exit) ≡ sets (now (output .entry)) 0 (byteReply (now (b .entry)) (take at (now (line .entry))) c) ⌝ }
+    ensures { λ r. ⌜ r .length ≡ length (byteReply (now (b .entry))
+        (take at (now (line .entry))) c) ⌝ }
+    ensures { λ _. ⌜ now (output .exit) ≡ sets (now (output .entry)) 0
+        (byteReply (now (b .entry)) (take at (now (line .entry))) c) ⌝ }
     ensures { λ _. ⌜ now (b .exit) ≡ byteBlock (now (b .entry)) (take at (now (line .entry))) c ⌝ }
     ensures { λ _. ⌜ now (line .exit) ≡ set (now (line .entry)) at c ⌝ }
 {
@@ -95,7 +100,8 @@ pub fn feed(
 // there are any.
 pub fn end(b: &mut [u64], line: &[u8; MOST_KEPT], at: usize, output: &mut [u8; MOST_REPLY]) -> usize
     ensures { λ r. ⌜ r ≡ length (endReply (now (b .entry)) (take at (now (line .entry)))) ⌝ }
-    ensures { λ _. ⌜ now (output .exit) ≡ sets (now (output .entry)) 0 (endReply (now (b .entry)) (take at (now (line .entry)))) ⌝ }
+    ensures { λ _. ⌜ now (output .exit) ≡ sets (now (output .entry)) 0
+        (endReply (now (b .entry)) (take at (now (line .entry)))) ⌝ }
     ensures { λ _. ⌜ now (b .exit) ≡ endBlock (now (b .entry)) (take at (now (line .entry))) ⌝ }
 {
     if at == 0 {

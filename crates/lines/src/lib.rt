@@ -20,8 +20,10 @@ ghost use Rattle.lines.specs.Lines.{parsedBlock, parsedOutput, blank, li
 fn call(b: &mut [u64], frame: StoreFrame, f: &[u8], shown: &mut [u8]) -> Answer
     requires { ⌜ Parsed.Frame frame (length (now f)) ≡ parsed (now f) ⌝ }
     ensures { λ r. ⌜ r ≡ callAnswer (now (b .entry)) (now (f .entry)) (now (shown .entry)) frame ⌝ }
-    ensures { λ _. ⌜ now (b .exit) ≡ callBlock (now (b .entry)) (now (f .entry)) (now (shown .entry)) frame ⌝ }
-    ensures { λ _. ⌜ now (shown .exit) ≡ callOutput (now (b .entry)) (now (f .entry)) (now (shown .entry)) frame ⌝ }
+    ensures { λ _. ⌜ now (b .exit) ≡ callBlock (now (b .entry)) (now (f .entry))
+        (now (shown .entry)) frame ⌝ }
+    ensures { λ _. ⌜ now (shown .exit) ≡ callOutput (now (b .entry)) (now (f .entry))
+        (now (shown .entry)) frame ⌝ }
 {
     match frame {
         StoreFrame::Fresh {
@@ -52,9 +54,12 @@ fn blank_output() -> [u8; MOST_LOG_FRAME]
 
 // The call of a line's frame; 15 where the line is malformed.
 fn carry_out(b: &mut [u64], line: &[u8], shown: &mut [u8]) -> Answer
-    ensures { λ r. ⌜ r ≡ parsedAnswer (now (b .entry)) (frameBytes (now (line .entry))) (now (shown .entry)) (storeFrameOf (now (line .entry))) ⌝ }
-    ensures { λ _. ⌜ now (b .exit) ≡ parsedBlock (now (b .entry)) (frameBytes (now (line .entry))) (now (shown .entry)) (storeFrameOf (now (line .entry))) ⌝ }
-    ensures { λ _. ⌜ now (shown .exit) ≡ parsedOutput (now (b .entry)) (frameBytes (now (line .entry))) (now (shown .entry)) (storeFrameOf (now (line .entry))) ⌝ }
+    ensures { λ r. ⌜ r ≡ parsedAnswer (now (b .entry)) (frameBytes (now (line .entry)))
+        (now (shown .entry)) (storeFrameOf (now (line .entry))) ⌝ }
+    ensures { λ _. ⌜ now (b .exit) ≡ parsedBlock (now (b .entry)) (frameBytes (now (line .entry)))
+        (now (shown .entry)) (storeFrameOf (now (line .entry))) ⌝ }
+    ensures { λ _. ⌜ now (shown .exit) ≡ parsedOutput (now (b .entry))
+        (frameBytes (now (line .entry))) (now (shown .entry)) (storeFrameOf (now (line .entry))) ⌝ }
 {
     let mut bytes = blank_frame();
     let parsed = frame_reader::read_frame(line, &mut bytes);
@@ -68,7 +73,8 @@ fn carry_out(b: &mut [u64], line: &[u8], shown: &mut [u8]) -> Answer
 // gives that line's length.
 pub fn answer_line(b: &mut [u64], line: &[u8], output: &mut [u8; MOST_REPLY]) -> usize
     ensures { λ r. ⌜ r ≡ length (lineReply (now (b .entry)) (now (line .entry))) ⌝ }
-    ensures { λ _. ⌜ now (output .exit) ≡ sets (now (output .entry)) 0 (lineReply (now (b .entry)) (now (line .entry))) ⌝ }
+    ensures { λ _. ⌜ now (output .exit) ≡ sets (now (output .entry)) 0
+        (lineReply (now (b .entry)) (now (line .entry))) ⌝ }
     ensures { λ _. ⌜ now (b .exit) ≡ lineBlock (now (b .entry)) (now (line .entry)) ⌝ }
 {
     let mut shown = blank_output();

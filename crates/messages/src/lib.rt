@@ -116,7 +116,9 @@ fn join(
     latest_set: u64,
 )
     requires { ⌜ n < mostMessages ⌝ }
-    ensures { λ _. ⌜ now (b .exit) ≡ store (sets (now (b .entry)) (base messages + messageAt n 0) (kind ∷ who ∷ item ∷ value ∷ stamp ∷ set ∷ «latest_stamp» ∷ «latest_set» ∷ [])) header messagesAt (n + 1) ⌝ }
+    ensures { λ _. ⌜ now (b .exit) ≡ store (sets (now (b .entry)) (base messages + messageAt n 0)
+        (kind ∷ who ∷ item ∷ value ∷ stamp ∷ set ∷ «latest_stamp» ∷ «latest_set» ∷ [])) header
+        messagesAt (n + 1) ⌝ }
 {
     put_four(
         b,
@@ -186,7 +188,8 @@ const APART: usize = MESSAGE_WORDS as usize;
 // The `count` words that begin one message after `from` move to `from`.
 fn move_up(b: &mut [u64], from: usize, count: usize)
     requires { ⌜ from + messageWords + count ≤ length (now b) ⌝ }
-    ensures { λ _. ⌜ now (b .exit) ≡ sets (now (b .entry)) from (take count (drop (from + messageWords) (now (b .entry)))) ⌝ }
+    ensures { λ _. ⌜ now (b .exit) ≡ sets (now (b .entry)) from
+        (take count (drop (from + messageWords) (now (b .entry)))) ⌝ }
 {
     let mut k = 0;
     while k < count {

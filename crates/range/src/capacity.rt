@@ -76,8 +76,10 @@ fn prepares(b: &[u64], messages: u64) -> u64
 
 // The versions in use of a block with so many stored versions and messages.
 pub fn occupied_of(b: &[u64], versions: u64, messages: u64) -> u64
-    requires { ⌜ (versions ≤ mostVersions) × (messages ≤ mostMessages) × (needed ≤ length (now b)) ⌝ }
-    ensures { λ r. ⌜ r ≡ versions + counted isPrepare (table messages (messageIn (now (b .entry)))) ⌝ }
+    requires { ⌜ (versions ≤ mostVersions) × (messages ≤ mostMessages)
+        × (needed ≤ length (now b)) ⌝ }
+    ensures { λ r. ⌜ r ≡ versions + counted isPrepare
+        (table messages (messageIn (now (b .entry)))) ⌝ }
 {
     versions + prepares(b, messages)
 }

@@ -18,7 +18,8 @@ use layout::MOST_ITEMS;
 
 // Word `f` of entry `k` of latest (`i` of 0) or of client `i`'s view.
 fn entry_word(b: &[u64], i: u64, k: u64, f: u64) -> u64
-    requires { ⌜ (i ≤ mostClients) × (k < mostItems) × (f < entryWords) × (needed ≤ length (now b)) ⌝ }
+    requires { ⌜ (i ≤ mostClients) × (k < mostItems) × (f < entryWords)
+        × (needed ≤ length (now b)) ⌝ }
     ensures { λ r. ⌜ r ≡ getD (now (b .entry)) (entryAt i k f) 0 ⌝ }
 {
     let place = (LATEST + (ENTRY_WORDS * MOST_ITEMS * i + ENTRY_WORDS * k) + f) as usize;
@@ -27,8 +28,10 @@ fn entry_word(b: &[u64], i: u64, k: u64, f: u64) -> u64
 
 // Those entries of the items, tested once.
 fn entries_in_range(b: &[u64], i: u64, clients: u64, items: u64) -> bool
-    requires { ⌜ (i ≤ mostClients) × (clients ≤ mostClients) × (items ≤ mostItems) × (needed ≤ length (now b)) ⌝ }
-    ensures { λ r. ⌜ r ≡ every items (λ k. entryInRange (sized clients items) (entryFrom (now (b .entry)) i k)) ⌝ }
+    requires { ⌜ (i ≤ mostClients) × (clients ≤ mostClients) × (items ≤ mostItems)
+        × (needed ≤ length (now b)) ⌝ }
+    ensures { λ r. ⌜ r ≡ every items (λ k. entryInRange (sized clients items)
+        (entryFrom (now (b .entry)) i k)) ⌝ }
 {
     let room = room(clients);
     let mut stamps = 0;
@@ -51,7 +54,8 @@ fn entries_in_range(b: &[u64], i: u64, clients: u64, items: u64) -> bool
 // Latest, and all views.
 pub fn views_in_range(b: &[u64], clients: u64, items: u64) -> bool
     requires { ⌜ (clients ≤ mostClients) × (items ≤ mostItems) × (needed ≤ length (now b)) ⌝ }
-    ensures { λ r. ⌜ r ≡ every (suc clients) (λ i. every items (λ k. entryInRange (sized clients items) (entryFrom (now (b .entry)) i k))) ⌝ }
+    ensures { λ r. ⌜ r ≡ every (suc clients) (λ i. every items
+        (λ k. entryInRange (sized clients items) (entryFrom (now (b .entry)) i k))) ⌝ }
 {
     let mut ok = true;
     let mut i = 0;

@@ -22,7 +22,8 @@ use layout::NEEDED;
 
 // The sizes are some that 2 allows, and there are no more versions and messages than a block holds.
 fn header_in_range(clients: u64, partitions: u64, items: u64, versions: u64, messages: u64) -> bool
-    ensures { λ r. ⌜ r ≡ (sizesInRange (sizes clients partitions items) && leb versions mostVersions && leb messages mostMessages) ⌝ }
+    ensures { λ r. ⌜ r ≡ (sizesInRange (sizes clients partitions items) && leb versions mostVersions
+        && leb messages mostMessages) ⌝ }
 {
     (1 <= clients)
         & (clients <= MOST_CLIENTS)
@@ -43,7 +44,8 @@ fn tables_in_range(
     versions: u64,
     messages: u64,
 ) -> bool
-    requires { ⌜ (clients ≤ mostClients) × (1 ≤ partitions) × (1 ≤ items) × (items ≤ mostItems) × (versions ≤ mostVersions) × (messages ≤ mostMessages) × (needed ≤ length (now b)) ⌝ }
+    requires { ⌜ (clients ≤ mostClients) × (1 ≤ partitions) × (1 ≤ items) × (items ≤ mostItems)
+        × (versions ≤ mostVersions) × (messages ≤ mostMessages) × (needed ≤ length (now b)) ⌝ }
     ensures { λ r. ⌜ r ≡ tablesTest (now (b .entry)) clients partitions items versions messages ⌝ }
 {
     entry::views_in_range(b, clients, items)

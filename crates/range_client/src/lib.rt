@@ -26,7 +26,8 @@ use protocol::kind::shows_write;
 
 // The word of client `d` and item `k` in the section from `start` on.
 fn item_word(b: &[u64], start: u64, d: u64, k: u64) -> u64
-    requires { ⌜ (start ≤ base lastValues) × (1 ≤ d) × (d ≤ mostClients) × (k < mostItems) × (needed ≤ length (now b)) ⌝ }
+    requires { ⌜ (start ≤ base lastValues) × (1 ≤ d) × (d ≤ mostClients) × (k < mostItems)
+        × (needed ≤ length (now b)) ⌝ }
     ensures { λ r. ⌜ r ≡ getD (now (b .entry)) (start + itemAt d k) 0 ⌝ }
 {
     let place = (start + (MOST_ITEMS * (d - 1) + k)) as usize;
@@ -35,8 +36,10 @@ fn item_word(b: &[u64], start: u64, d: u64, k: u64) -> u64
 
 // All the stamps of client `d` in the section from `start` on, tested once.
 fn all_stamps_in_range(b: &[u64], start: u64, d: u64, clients: u64, items: u64) -> bool
-    requires { ⌜ (start ≤ base lastValues) × (1 ≤ d) × (d ≤ mostClients) × (clients ≤ mostClients) × (items ≤ mostItems) × (needed ≤ length (now b)) ⌝ }
-    ensures { λ r. ⌜ r ≡ every items (λ k. stampInRange (sized clients items) (getD (now (b .entry)) (start + itemAt d k) 0)) ⌝ }
+    requires { ⌜ (start ≤ base lastValues) × (1 ≤ d) × (d ≤ mostClients) × (clients ≤ mostClients)
+        × (items ≤ mostItems) × (needed ≤ length (now b)) ⌝ }
+    ensures { λ r. ⌜ r ≡ every items (λ k. stampInRange (sized clients items)
+        (getD (now (b .entry)) (start + itemAt d k) 0)) ⌝ }
 {
     let room = room(clients);
     let mut stamps = 0;
@@ -55,8 +58,10 @@ fn all_stamps_in_range(b: &[u64], start: u64, d: u64, clients: u64, items: u64) 
 
 // Those of the items of `set`, one by one.
 fn some_stamps_in_range(b: &[u64], start: u64, d: u64, set: u64, clients: u64, items: u64) -> bool
-    requires { ⌜ (start ≤ base lastValues) × (1 ≤ d) × (d ≤ mostClients) × (clients ≤ mostClients) × (items ≤ mostItems) × (needed ≤ length (now b)) ⌝ }
-    ensures { λ r. ⌜ r ≡ each (sized clients items) set (λ k. stampInRange (sized clients items) (getD (now (b .entry)) (start + itemAt d k) 0)) ⌝ }
+    requires { ⌜ (start ≤ base lastValues) × (1 ≤ d) × (d ≤ mostClients) × (clients ≤ mostClients)
+        × (items ≤ mostItems) × (needed ≤ length (now b)) ⌝ }
+    ensures { λ r. ⌜ r ≡ each (sized clients items) set
+        (λ k. stampInRange (sized clients items) (getD (now (b .entry)) (start + itemAt d k) 0)) ⌝ }
 {
     let mut ok = true;
     let mut k = 0;
@@ -70,8 +75,10 @@ fn some_stamps_in_range(b: &[u64], start: u64, d: u64, set: u64, clients: u64, i
 // The same: words that a store has written are in range in or out of the set, so that the set is
 // seldom looked at.
 fn stamps_in_range(b: &[u64], start: u64, d: u64, set: u64, clients: u64, items: u64) -> bool
-    requires { ⌜ (start ≤ base lastValues) × (1 ≤ d) × (d ≤ mostClients) × (clients ≤ mostClients) × (items ≤ mostItems) × (needed ≤ length (now b)) ⌝ }
-    ensures { λ r. ⌜ r ≡ each (sized clients items) set (λ k. stampInRange (sized clients items) (getD (now (b .entry)) (start + itemAt d k) 0)) ⌝ }
+    requires { ⌜ (start ≤ base lastValues) × (1 ≤ d) × (d ≤ mostClients) × (clients ≤ mostClients)
+        × (items ≤ mostItems) × (needed ≤ length (now b)) ⌝ }
+    ensures { λ r. ⌜ r ≡ each (sized clients items) set
+        (λ k. stampInRange (sized clients items) (getD (now (b .entry)) (start + itemAt d k) 0)) ⌝ }
 {
     if set == 0 {
         return true;
@@ -84,7 +91,8 @@ fn stamps_in_range(b: &[u64], start: u64, d: u64, set: u64, clients: u64, items:
 
 // All the values of client `d` in the section from `start` on, tested once.
 fn all_values_in_range(b: &[u64], start: u64, d: u64, items: u64) -> bool
-    requires { ⌜ (start ≤ base lastValues) × (1 ≤ d) × (d ≤ mostClients) × (items ≤ mostItems) × (needed ≤ length (now b)) ⌝ }
+    requires { ⌜ (start ≤ base lastValues) × (1 ≤ d) × (d ≤ mostClients) × (items ≤ mostItems)
+        × (needed ≤ length (now b)) ⌝ }
     ensures { λ r. ⌜ r ≡ every items (λ k. fits (getD (now (b .entry)) (start + itemAt d k) 0)) ⌝ }
 {
     let mut values = 0;
@@ -99,8 +107,10 @@ fn all_values_in_range(b: &[u64], start: u64, d: u64, items: u64) -> bool
 
 // Those of the items of `set`, one by one.
 fn some_values_in_range(b: &[u64], start: u64, d: u64, set: u64, items: u64) -> bool
-    requires { ⌜ (start ≤ base lastValues) × (1 ≤ d) × (d ≤ mostClients) × (items ≤ mostItems) × (needed ≤ length (now b)) ⌝ }
-    ensures { λ r. ⌜ r ≡ each (sized 0 items) set (λ k. fits (getD (now (b .entry)) (start + itemAt d k) 0)) ⌝ }
+    requires { ⌜ (start ≤ base lastValues) × (1 ≤ d) × (d ≤ mostClients) × (items ≤ mostItems)
+        × (needed ≤ length (now b)) ⌝ }
+    ensures { λ r. ⌜ r ≡ each (sized 0 items) set
+        (λ k. fits (getD (now (b .entry)) (start + itemAt d k) 0)) ⌝ }
 {
     let mut ok = true;
     let mut k = 0;
@@ -113,8 +123,10 @@ fn some_values_in_range(b: &[u64], start: u64, d: u64, set: u64, items: u64) -> 
 
 // The same, likewise.
 fn values_in_range(b: &[u64], start: u64, d: u64, set: u64, items: u64) -> bool
-    requires { ⌜ (start ≤ base lastValues) × (1 ≤ d) × (d ≤ mostClients) × (items ≤ mostItems) × (needed ≤ length (now b)) ⌝ }
-    ensures { λ r. ⌜ r ≡ each (sized 0 items) set (λ k. fits (getD (now (b .entry)) (start + itemAt d k) 0)) ⌝ }
+    requires { ⌜ (start ≤ base lastValues) × (1 ≤ d) × (d ≤ mostClients) × (items ≤ mostItems)
+        × (needed ≤ length (now b)) ⌝ }
+    ensures { λ r. ⌜ r ≡ each (sized 0 items) set
+        (λ k. fits (getD (now (b .entry)) (start + itemAt d k) 0)) ⌝ }
 {
     if set == 0 {
         return true;
@@ -127,7 +139,8 @@ fn values_in_range(b: &[u64], start: u64, d: u64, set: u64, items: u64) -> bool
 
 // The stamps of the transaction under way: one for a write, one for each item of any other.
 fn asked_in_range(b: &[u64], d: u64, clients: u64, items: u64) -> bool
-    requires { ⌜ (1 ≤ d) × (d ≤ mostClients) × (clients ≤ mostClients) × (items ≤ mostItems) × (needed ≤ length (now b)) ⌝ }
+    requires { ⌜ (1 ≤ d) × (d ≤ mostClients) × (clients ≤ mostClients) × (items ≤ mostItems)
+        × (needed ≤ length (now b)) ⌝ }
     ensures { λ r. ⌜ r ≡ askedTest (now (b .entry)) d clients items ⌝ }
 {
     if 2 <= client_fields::mode(b, d) {
@@ -139,7 +152,8 @@ fn asked_in_range(b: &[u64], d: u64, clients: u64, items: u64) -> bool
 
 // The read part of the last ended transaction, where its kind shows one.
 fn read_in_range(b: &[u64], d: u64, kind: u64, clients: u64, items: u64) -> bool
-    requires { ⌜ (1 ≤ d) × (d ≤ mostClients) × (clients ≤ mostClients) × (items ≤ mostItems) × (needed ≤ length (now b)) ⌝ }
+    requires { ⌜ (1 ≤ d) × (d ≤ mostClients) × (clients ≤ mostClients) × (items ≤ mostItems)
+        × (needed ≤ length (now b)) ⌝ }
     ensures { λ r. ⌜ r ≡ lastReadTest (now (b .entry)) d kind clients items ⌝ }
 {
     if shows_read(kind) {
@@ -154,7 +168,8 @@ fn read_in_range(b: &[u64], d: u64, kind: u64, clients: u64, items: u64) -> bool
 
 // Its write part, likewise.
 fn write_in_range(b: &[u64], d: u64, kind: u64, clients: u64, items: u64) -> bool
-    requires { ⌜ (1 ≤ d) × (d ≤ mostClients) × (clients ≤ mostClients) × (items ≤ mostItems) × (needed ≤ length (now b)) ⌝ }
+    requires { ⌜ (1 ≤ d) × (d ≤ mostClients) × (clients ≤ mostClients) × (items ≤ mostItems)
+        × (needed ≤ length (now b)) ⌝ }
     ensures { λ r. ⌜ r ≡ lastWriteTest (now (b .entry)) d kind clients items ⌝ }
 {
     if shows_write(kind) {
@@ -168,7 +183,8 @@ fn write_in_range(b: &[u64], d: u64, kind: u64, clients: u64, items: u64) -> boo
 }
 
 fn last_in_range(b: &[u64], d: u64, clients: u64, items: u64) -> bool
-    requires { ⌜ (1 ≤ d) × (d ≤ mostClients) × (clients ≤ mostClients) × (items ≤ mostItems) × (needed ≤ length (now b)) ⌝ }
+    requires { ⌜ (1 ≤ d) × (d ≤ mostClients) × (clients ≤ mostClients) × (items ≤ mostItems)
+        × (needed ≤ length (now b)) ⌝ }
     ensures { λ r. ⌜ r ≡ lastTest (now (b .entry)) d clients items ⌝ }
 {
     let kind = client_fields::last_kind(b, d);
@@ -204,7 +220,8 @@ fn running_in_range(b: &[u64], d: u64, items: u64) -> bool
 }
 
 fn client_in_range(b: &[u64], d: u64, clients: u64, items: u64) -> bool
-    requires { ⌜ (1 ≤ d) × (d ≤ mostClients) × (clients ≤ mostClients) × (items ≤ mostItems) × (needed ≤ length (now b)) ⌝ }
+    requires { ⌜ (1 ≤ d) × (d ≤ mostClients) × (clients ≤ mostClients) × (items ≤ mostItems)
+        × (needed ≤ length (now b)) ⌝ }
     ensures { λ r. ⌜ r ≡ clientTest (now (b .entry)) d clients items ⌝ }
 {
     state_in_range(b, d, items)

@@ -37,8 +37,10 @@ fn version_word(b: &[u64], i: u64, f: u64) -> u64
 
 // The first `n` stored versions, tested once.
 pub fn versions_in_range(b: &[u64], n: u64, clients: u64, items: u64) -> bool
-    requires { ⌜ (n ≤ mostVersions) × (clients ≤ mostClients) × (items ≤ mostItems) × (needed ≤ length (now b)) ⌝ }
-    ensures { λ r. ⌜ r ≡ every n (λ i. versionInRange (sized clients items) (versionIn (now (b .entry)) i)) ⌝ }
+    requires { ⌜ (n ≤ mostVersions) × (clients ≤ mostClients) × (items ≤ mostItems)
+        × (needed ≤ length (now b)) ⌝ }
+    ensures { λ r. ⌜ r ≡ every n (λ i. versionInRange (sized clients items)
+        (versionIn (now (b .entry)) i)) ⌝ }
 {
     let rest = rest(clients);
     let mut ks = 0;
@@ -87,7 +89,9 @@ fn words_in_range(
     items: u64,
 ) -> bool
     requires { ⌜ (clients ≤ mostClients) × (1 ≤ partitions) × (1 ≤ items) ⌝ }
-    ensures { λ r. ⌜ r ≡ (leb 1 kind && leb kind kinds && messageInRange (sizes clients partitions items) (messageOf kind who item value stamp set latest)) ⌝ }
+    ensures { λ r. ⌜ r ≡ (leb 1 kind && leb kind kinds
+        && messageInRange (sizes clients partitions items)
+        (messageOf kind who item value stamp set latest)) ⌝ }
 {
     if kind < 4 {
         if kind == 1 {
@@ -122,7 +126,8 @@ fn words_in_range(
 }
 
 fn message_in_range(b: &[u64], i: u64, clients: u64, partitions: u64, items: u64) -> bool
-    requires { ⌜ (i < mostMessages) × (clients ≤ mostClients) × (1 ≤ partitions) × (1 ≤ items) × (needed ≤ length (now b)) ⌝ }
+    requires { ⌜ (i < mostMessages) × (clients ≤ mostClients) × (1 ≤ partitions) × (1 ≤ items)
+        × (needed ≤ length (now b)) ⌝ }
     ensures { λ r. ⌜ r ≡ messageTest (now (b .entry)) i clients partitions items ⌝ }
 {
     words_in_range(
@@ -144,7 +149,8 @@ fn message_in_range(b: &[u64], i: u64, clients: u64, partitions: u64, items: u64
 
 // The first `n` messages.
 pub fn messages_in_range(b: &[u64], n: u64, clients: u64, partitions: u64, items: u64) -> bool
-    requires { ⌜ (n ≤ mostMessages) × (clients ≤ mostClients) × (1 ≤ partitions) × (1 ≤ items) × (needed ≤ length (now b)) ⌝ }
+    requires { ⌜ (n ≤ mostMessages) × (clients ≤ mostClients) × (1 ≤ partitions) × (1 ≤ items)
+        × (needed ≤ length (now b)) ⌝ }
     ensures { λ r. ⌜ r ≡ every n (λ i. messageTest (now (b .entry)) i clients partitions items) ⌝ }
 {
     let mut ok = true;

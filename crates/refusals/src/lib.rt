@@ -100,7 +100,8 @@ pub fn of_read(b: &[u64], d: u64, s: u64) -> u64
 // A write by a client that exists, on a valid block.
 fn of_client_write(b: &[u64], d: u64, s: u64, bytes: &[u8]) -> u64
     requires { ⌜ (validBlock (now b) ≡ true) × (isClient (sizesIn (now b)) d ≡ true) ⌝ }
-    ensures { λ r. ⌜ r ≡ refusal capacities (tablesOf (now (b .entry))) (startWrite d s (now (bytes .entry))) ⌝ }
+    ensures { λ r. ⌜ r ≡ refusal capacities (tablesOf (now (b .entry)))
+        (startWrite d s (now (bytes .entry))) ⌝ }
 {
     let items = count(s);
     let values = bytes.len() as u64 == 4 * items;
@@ -124,7 +125,8 @@ fn of_client_write(b: &[u64], d: u64, s: u64, bytes: &[u8]) -> u64
 
 fn of_valid_write(b: &[u64], d: u64, s: u64, bytes: &[u8]) -> u64
     requires { ⌜ validBlock (now b) ≡ true ⌝ }
-    ensures { λ r. ⌜ r ≡ refusal capacities (tablesOf (now (b .entry))) (startWrite d s (now (bytes .entry))) ⌝ }
+    ensures { λ r. ⌜ r ≡ refusal capacities (tablesOf (now (b .entry)))
+        (startWrite d s (now (bytes .entry))) ⌝ }
 {
     if is_client(b, d) {
         of_client_write(b, d, s, bytes)
@@ -146,7 +148,8 @@ pub fn of_write(b: &[u64], d: u64, s: u64, bytes: &[u8]) -> u64
 // A showing of a client that exists, from a valid block.
 fn of_client_show(b: &[u64], d: u64, out: &[u8]) -> u64
     requires { ⌜ (validBlock (now b) ≡ true) × (isClient (sizesIn (now b)) d ≡ true) ⌝ }
-    ensures { λ r. ⌜ r ≡ refusal capacities (tablesOf (now (b .entry))) (show d (now (out .entry))) ⌝ }
+    ensures { λ r. ⌜ r ≡ refusal capacities (tablesOf (now (b .entry)))
+        (show d (now (out .entry))) ⌝ }
 {
     let none = last_kind(b, d) == 0;
     let short = (out.len() as u64) < frame_length(b, d);
@@ -155,7 +158,8 @@ fn of_client_show(b: &[u64], d: u64, out: &[u8]) -> u64
 
 fn of_valid_show(b: &[u64], d: u64, out: &[u8]) -> u64
     requires { ⌜ validBlock (now b) ≡ true ⌝ }
-    ensures { λ r. ⌜ r ≡ refusal capacities (tablesOf (now (b .entry))) (show d (now (out .entry))) ⌝ }
+    ensures { λ r. ⌜ r ≡ refusal capacities (tablesOf (now (b .entry)))
+        (show d (now (out .entry))) ⌝ }
 {
     if is_client(b, d) {
         of_client_show(b, d, out)

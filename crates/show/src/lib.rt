@@ -43,7 +43,8 @@ fn put_head(out: &mut [u8], byte: u8, d: u64)
 // Item `k` of a last read: number (4), writing client (1), value (4).
 fn put_entry(b: &[u64], d: u64, k: u64, out: &mut [u8], at: usize)
     requires { ⌜ (1 ≤ d) × (d ≤ 8) × (k < 64) × (at + 9 ≤ length (now out)) ⌝ }
-    ensures { λ _. ⌜ now (out .exit) ≡ sets (now (out .entry)) at (readItem (now (b .entry)) d k) ⌝ }
+    ensures { λ _. ⌜ now (out .exit) ≡ sets (now (out .entry)) at
+        (readItem (now (b .entry)) d k) ⌝ }
 {
     let stamp = last_read_stamp(b, d, k);
     let value = last_value(b, d, k);
@@ -55,7 +56,8 @@ fn put_entry(b: &[u64], d: u64, k: u64, out: &mut [u8], at: usize)
 // Item `k` where the last read's set `s` has it, behind the items below it, which begin at `at`.
 fn put_read_item(b: &[u64], d: u64, s: u64, out: &mut [u8], at: usize, k: u64)
     requires { ⌜ (1 ≤ d) × (d ≤ 8) × (k < 64) × (at + 9 * count s ≤ length (now out)) ⌝ }
-    ensures { λ _. ⌜ now (out .exit) ≡ putItem (readItem (now (b .entry)) d) at 9 s (now (out .entry)) k ⌝ }
+    ensures { λ _. ⌜ now (out .exit) ≡ putItem (readItem (now (b .entry)) d) at 9 s
+        (now (out .entry)) k ⌝ }
 {
     if has(s, k) {
         put_entry(b, d, k, out, at + (9 * rank(s, k)) as usize);
@@ -65,7 +67,8 @@ fn put_read_item(b: &[u64], d: u64, s: u64, out: &mut [u8], at: usize, k: u64)
 // The read part of a last read of set `s`: the set, then its entries, ascending.
 fn put_read_part(b: &[u64], d: u64, s: u64, out: &mut [u8], at: usize)
     requires { ⌜ (1 ≤ d) × (d ≤ 8) × (at + 8 + 9 * count s ≤ length (now out)) ⌝ }
-    ensures { λ _. ⌜ now (out .exit) ≡ sets (now (out .entry)) at (readPart (now (b .entry)) d s) ⌝ }
+    ensures { λ _. ⌜ now (out .exit) ≡ sets (now (out .entry)) at
+        (readPart (now (b .entry)) d s) ⌝ }
 {
     put_bytes(out, at, 8, s);
     let first = at + 8;
@@ -80,7 +83,8 @@ fn put_read_part(b: &[u64], d: u64, s: u64, out: &mut [u8], at: usize)
 // begin at `at`.
 fn put_written_item(b: &[u64], d: u64, s: u64, out: &mut [u8], at: usize, k: u64)
     requires { ⌜ (1 ≤ d) × (d ≤ 8) × (k < 64) × (at + 4 * count s ≤ length (now out)) ⌝ }
-    ensures { λ _. ⌜ now (out .exit) ≡ putItem (writtenItem (now (b .entry)) d) at 4 s (now (out .entry)) k ⌝ }
+    ensures { λ _. ⌜ now (out .exit) ≡ putItem (writtenItem (now (b .entry)) d) at 4 s
+        (now (out .entry)) k ⌝ }
 {
     if has(s, k) {
         put_bytes(out, at + (4 * rank(s, k)) as usize, 4, last_value(b, d, k));
@@ -99,7 +103,8 @@ fn last_number(b: &[u64], d: u64) -> u64
 // ascending.
 fn put_write_part(b: &[u64], d: u64, s: u64, out: &mut [u8], at: usize)
     requires { ⌜ (1 ≤ d) × (d ≤ 8) × (at + 12 + 4 * count s ≤ length (now out)) ⌝ }
-    ensures { λ _. ⌜ now (out .exit) ≡ sets (now (out .entry)) at (writePart (now (b .entry)) d s) ⌝ }
+    ensures { λ _. ⌜ now (out .exit) ≡ sets (now (out .entry)) at
+        (writePart (now (b .entry)) d s) ⌝ }
 {
     let number = last_number(b, d);
     put_bytes(out, at, 8, s);
@@ -136,7 +141,8 @@ fn write_length(kind: u64, s: u64) -> u64
 // The read part and the write part of a last transaction of this kind and set `s`, if it shows it.
 fn put_shown_read(b: &[u64], d: u64, kind: u64, s: u64, out: &mut [u8], at: usize)
     requires { ⌜ (1 ≤ d) × (d ≤ 8) × (at + readLength kind s ≤ length (now out)) ⌝ }
-    ensures { λ _. ⌜ now (out .exit) ≡ sets (now (out .entry)) at (readShown (now (b .entry)) d kind s) ⌝ }
+    ensures { λ _. ⌜ now (out .exit) ≡ sets (now (out .entry)) at
+        (readShown (now (b .entry)) d kind s) ⌝ }
 {
     if shows_read(kind) {
         put_read_part(b, d, s, out, at);
@@ -145,7 +151,8 @@ fn put_shown_read(b: &[u64], d: u64, kind: u64, s: u64, out: &mut [u8], at: usiz
 
 fn put_shown_write(b: &[u64], d: u64, kind: u64, s: u64, out: &mut [u8], at: usize)
     requires { ⌜ (1 ≤ d) × (d ≤ 8) × (at + writeLength kind s ≤ length (now out)) ⌝ }
-    ensures { λ _. ⌜ now (out .exit) ≡ sets (now (out .entry)) at (writeShown (now (b .entry)) d kind s) ⌝ }
+    ensures { λ _. ⌜ now (out .exit) ≡ sets (now (out .entry)) at
+        (writeShown (now (b .entry)) d kind s) ⌝ }
 {
     if shows_write(kind) {
         put_write_part(b, d, s, out, at);
@@ -170,7 +177,8 @@ pub fn frame_length(b: &[u64], d: u64) -> u64
 // Writes the log frame of client `d` to the front of `out`; the bytes past it stay.
 pub fn write_frame(b: &[u64], d: u64, out: &mut [u8])
     requires { ⌜ (1 ≤ d) × (d ≤ 8) × (length (frameIn (now b) d) ≤ length (now out)) ⌝ }
-    ensures { λ _. ⌜ now (out .exit) ≡ frameIn (now (b .entry)) d ++ drop (length (frameIn (now (b .entry)) d)) (now (out .entry)) ⌝ }
+    ensures { λ _. ⌜ now (out .exit) ≡ frameIn (now (b .entry)) d
+        ++ drop (length (frameIn (now (b .entry)) d)) (now (out .entry)) ⌝ }
 {
     let s = last_set(b, d);
     let kind = last_kind(b, d);

@@ -10,7 +10,8 @@ use layout::put_word;
 // Four words from `place` on.
 pub fn put_four(b: &mut [u64], place: u64, first: u64, second: u64, third: u64, fourth: u64)
     requires { ⌜ place < needed ⌝ }
-    ensures { λ _. ⌜ now (b .exit) ≡ sets (now (b .entry)) place (first ∷ second ∷ third ∷ fourth ∷ []) ⌝ }
+    ensures { λ _. ⌜ now (b .exit) ≡ sets (now (b .entry)) place
+        (first ∷ second ∷ third ∷ fourth ∷ []) ⌝ }
 {
     let at = place as usize;
     put_word(b, at, first);

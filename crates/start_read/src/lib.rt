@@ -52,7 +52,8 @@ fn seen_stamp(b: &[u64], d: u64, i: u64) -> u64
 // stamp.
 fn sibling(b: &[u64], d: u64, k: u64, i: u64) -> u64
     requires { ⌜ (1 ≤ d) × (d ≤ 8) × (i < 64) × (needed ≤ length (now b)) ⌝ }
-    ensures { λ r. ⌜ r ≡ cond (has (viewIn (now (b .entry)) d i .set) k) (viewIn (now (b .entry)) d i .stamp) 0 ⌝ }
+    ensures { λ r. ⌜ r ≡ cond (has (viewIn (now (b .entry)) d i .set) k)
+        (viewIn (now (b .entry)) d i .stamp) 0 ⌝ }
 {
     if has(seen_set(b, d, i), k) {
         seen_stamp(b, d, i)
@@ -132,7 +133,9 @@ fn get_items(b: &mut [u64], n: u64, d: u64, s: u64, items: u64)
 
 // Client `d` starts a read of set `s`, in a block with `items` items and `n` messages.
 pub fn start_read(b: &mut [u64], d: u64, s: u64, items: u64, n: u64)
-    requires { ⌜ (1 ≤ d) × (d ≤ 8) × (items ≤ 64) × (n + count s ≤ mostMessages) × (items ≡ at (now b) header itemsAt) × (n ≡ at (now b) header messagesAt) × (needed ≤ length (now b)) ⌝ }
+    requires { ⌜ (1 ≤ d) × (d ≤ 8) × (items ≤ 64) × (n + count s ≤ mostMessages)
+        × (items ≡ at (now b) header itemsAt) × (n ≡ at (now b) header messagesAt)
+        × (needed ≤ length (now b)) ⌝ }
     ensures { λ _. ⌜ now (b .exit) ≡ readStarted (now (b .entry)) d s ⌝ }
 {
     ask_items(b, d, s, items);

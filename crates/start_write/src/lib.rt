@@ -34,7 +34,8 @@ fn keep_item(b: &mut [u64], d: u64, s: u64, bytes: &[u8], k: u64)
 
 fn keep_items(b: &mut [u64], d: u64, s: u64, bytes: &[u8], items: u64)
     requires { ⌜ (1 ≤ d) × (d ≤ 8) × (items ≤ 64) × (4 * count s ≤ length (now bytes)) ⌝ }
-    ensures { λ _. ⌜ now (b .exit) ≡ upTo (valueItem d s (now (bytes .entry))) (now (b .entry)) items ⌝ }
+    ensures { λ _. ⌜ now (b .exit) ≡ upTo (valueItem d s (now (bytes .entry)))
+        (now (b .entry)) items ⌝ }
 {
     let mut k = 0;
     while k < items {
@@ -78,7 +79,9 @@ fn prepare_items(b: &mut [u64], n: u64, d: u64, s: u64, stamp: u64, items: u64)
 // Client `d` starts a write of set `s` with these value bytes, four for each item, in a block with
 // `items` items and `n` messages.
 pub fn start_write(b: &mut [u64], d: u64, s: u64, bytes: &[u8], items: u64, n: u64)
-    requires { ⌜ (1 ≤ d) × (d ≤ 8) × (items ≤ 64) × (n + count s ≤ mostMessages) × (items ≡ at (now b) header itemsAt) × (n ≡ at (now b) header messagesAt) × (at (now b) scalars (countAt d) < 2 ^ 32) × (4 * count s ≤ length (now bytes)) ⌝ }
+    requires { ⌜ (1 ≤ d) × (d ≤ 8) × (items ≤ 64) × (n + count s ≤ mostMessages)
+        × (items ≡ at (now b) header itemsAt) × (n ≡ at (now b) header messagesAt)
+        × (at (now b) scalars (countAt d) < 2 ^ 32) × (4 * count s ≤ length (now bytes)) ⌝ }
     ensures { λ _. ⌜ now (b .exit) ≡ writeStarted (now (b .entry)) d s (now (bytes .entry)) ⌝ }
 {
     let number = count(b, d) + 1;

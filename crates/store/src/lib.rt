@@ -29,27 +29,35 @@ fn number_of(a: Answer) -> u64
 
 #[no_mangle]
 pub extern "C" fn koolvent_fresh(b: &mut [u64], clients: u64, partitions: u64, items: u64) -> u64
-    ensures answer { λ r. ⌜ r ≡ numberOfAnswer (freshAnswerOn (now (b .entry)) (sizes clients partitions items)) ⌝ }
-    ensures block { λ _. ⌜ now (b .exit) ≡ freshAfter (now (b .entry)) (sizes clients partitions items) ⌝ }
-    ensures tables { λ _. ⌜ tablesOf (now (b .exit)) ≡ freshTables (now (b .entry)) (sizes clients partitions items) ⌝ }
+    ensures answer { λ r. ⌜ r ≡ numberOfAnswer
+        (freshAnswerOn (now (b .entry)) (sizes clients partitions items)) ⌝ }
+    ensures block { λ _. ⌜ now (b .exit) ≡ freshAfter (now (b .entry))
+        (sizes clients partitions items) ⌝ }
+    ensures tables { λ _. ⌜ tablesOf (now (b .exit))
+        ≡ freshTables (now (b .entry)) (sizes clients partitions items) ⌝ }
 {
     number_of(store_calls::fresh(b, clients, partitions, items))
 }
 
 #[no_mangle]
 pub extern "C" fn koolvent_start_read(b: &mut [u64], client: u64, set: u64) -> u64
-    ensures answer { λ r. ⌜ r ≡ numberOfAnswer (answerOn (now (b .entry)) (startRead client set)) ⌝ }
+    ensures answer { λ r. ⌜ r ≡ numberOfAnswer
+        (answerOn (now (b .entry)) (startRead client set)) ⌝ }
     ensures block { λ _. ⌜ now (b .exit) ≡ blockAfter (now (b .entry)) (startRead client set) ⌝ }
-    ensures tables { λ _. ⌜ tablesOf (now (b .exit)) ≡ tablesAfter (now (b .entry)) (startRead client set) ⌝ }
+    ensures tables { λ _. ⌜ tablesOf (now (b .exit))
+        ≡ tablesAfter (now (b .entry)) (startRead client set) ⌝ }
 {
     number_of(store_calls::start_read(b, client, set))
 }
 
 #[no_mangle]
 pub extern "C" fn koolvent_start_write(b: &mut [u64], client: u64, set: u64, values: &[u8]) -> u64
-    ensures answer { λ r. ⌜ r ≡ numberOfAnswer (answerOn (now (b .entry)) (startWrite client set (now (values .entry)))) ⌝ }
-    ensures block { λ _. ⌜ now (b .exit) ≡ blockAfter (now (b .entry)) (startWrite client set (now (values .entry))) ⌝ }
-    ensures tables { λ _. ⌜ tablesOf (now (b .exit)) ≡ tablesAfter (now (b .entry)) (startWrite client set (now (values .entry))) ⌝ }
+    ensures answer { λ r. ⌜ r ≡ numberOfAnswer
+        (answerOn (now (b .entry)) (startWrite client set (now (values .entry)))) ⌝ }
+    ensures block { λ _. ⌜ now (b .exit) ≡ blockAfter (now (b .entry))
+        (startWrite client set (now (values .entry))) ⌝ }
+    ensures tables { λ _. ⌜ tablesOf (now (b .exit))
+        ≡ tablesAfter (now (b .entry)) (startWrite client set (now (values .entry))) ⌝ }
     ensures values { λ _. ⌜ now (values .exit) ≡ now (values .entry) ⌝ }
 {
     number_of(store_calls::start_write(b, client, set, values))
@@ -59,7 +67,8 @@ pub extern "C" fn koolvent_start_write(b: &mut [u64], client: u64, set: u64, val
 pub extern "C" fn koolvent_deliver(b: &mut [u64], place: u64) -> u64
     ensures answer { λ r. ⌜ r ≡ numberOfAnswer (answerOn (now (b .entry)) (deliver place)) ⌝ }
     ensures block { λ _. ⌜ now (b .exit) ≡ blockAfter (now (b .entry)) (deliver place) ⌝ }
-    ensures tables { λ _. ⌜ tablesOf (now (b .exit)) ≡ tablesAfter (now (b .entry)) (deliver place) ⌝ }
+    ensures tables { λ _. ⌜ tablesOf (now (b .exit))
+        ≡ tablesAfter (now (b .entry)) (deliver place) ⌝ }
 {
     number_of(deliver_call::deliver(b, place))
 }
@@ -67,9 +76,12 @@ pub extern "C" fn koolvent_deliver(b: &mut [u64], place: u64) -> u64
 // The block is lent shared: a showing doesn't change it.
 #[no_mangle]
 pub extern "C" fn koolvent_show(b: &[u64], client: u64, output: &mut [u8]) -> u64
-    ensures answer { λ r. ⌜ r ≡ numberOfAnswer (answerOn (now (b .entry)) (show client (now (output .entry)))) ⌝ }
-    ensures block { λ _. ⌜ now (b .exit) ≡ blockAfter (now (b .entry)) (show client (now (output .entry))) ⌝ }
-    ensures output { λ _. ⌜ now (output .exit) ≡ outputOn (now (b .entry)) (show client (now (output .entry))) ⌝ }
+    ensures answer { λ r. ⌜ r ≡ numberOfAnswer
+        (answerOn (now (b .entry)) (show client (now (output .entry)))) ⌝ }
+    ensures block { λ _. ⌜ now (b .exit) ≡ blockAfter (now (b .entry))
+        (show client (now (output .entry))) ⌝ }
+    ensures output { λ _. ⌜ now (output .exit)
+        ≡ outputOn (now (b .entry)) (show client (now (output .entry))) ⌝ }
 {
     number_of(store_calls::show(b, client, output))
 }

@@ -11,8 +11,10 @@ use show::write_frame;
 
 pub fn fresh(b: &mut [u64], clients: u64, partitions: u64, items: u64) -> Answer
     ensures answer { λ r. ⌜ r ≡ freshAnswerOn (now (b .entry)) (sizes clients partitions items) ⌝ }
-    ensures block { λ _. ⌜ now (b .exit) ≡ freshAfter (now (b .entry)) (sizes clients partitions items) ⌝ }
-    ensures tables { λ _. ⌜ tablesOf (now (b .exit)) ≡ freshTables (now (b .entry)) (sizes clients partitions items) ⌝ }
+    ensures block { λ _. ⌜ now (b .exit) ≡ freshAfter (now (b .entry))
+        (sizes clients partitions items) ⌝ }
+    ensures tables { λ _. ⌜ tablesOf (now (b .exit))
+        ≡ freshTables (now (b .entry)) (sizes clients partitions items) ⌝ }
 {
     let refusal = refusals::of_fresh(b, clients, partitions, items);
     if refusal == 0 {
@@ -39,7 +41,8 @@ fn read_on(b: &mut [u64], d: u64, s: u64) -> Answer
 pub fn start_read(b: &mut [u64], d: u64, s: u64) -> Answer
     ensures answer { λ r. ⌜ r ≡ answerOn (now (b .entry)) (startRead d s) ⌝ }
     ensures block { λ _. ⌜ now (b .exit) ≡ blockAfter (now (b .entry)) (startRead d s) ⌝ }
-    ensures tables { λ _. ⌜ tablesOf (now (b .exit)) ≡ tablesAfter (now (b .entry)) (startRead d s) ⌝ }
+    ensures tables { λ _. ⌜ tablesOf (now (b .exit))
+        ≡ tablesAfter (now (b .entry)) (startRead d s) ⌝ }
 {
     let refusal = refusals::of_read(b, d, s);
     if refusal == 0 {
@@ -53,7 +56,8 @@ pub fn start_read(b: &mut [u64], d: u64, s: u64) -> Answer
 fn write_on(b: &mut [u64], d: u64, s: u64, bytes: &[u8]) -> Answer
     requires { ⌜ refusalOn (now b) (startWrite d s (now bytes)) ≡ 0 ⌝ }
     ensures answer { λ r. ⌜ r ≡ answerOn (now (b .entry)) (startWrite d s (now (bytes .entry))) ⌝ }
-    ensures block { λ _. ⌜ now (b .exit) ≡ blockAfter (now (b .entry)) (startWrite d s (now (bytes .entry))) ⌝ }
+    ensures block { λ _. ⌜ now (b .exit) ≡ blockAfter (now (b .entry))
+        (startWrite d s (now (bytes .entry))) ⌝ }
 {
     let items = layout::items(b);
     let messages = layout::message_count(b);
@@ -64,8 +68,10 @@ fn write_on(b: &mut [u64], d: u64, s: u64, bytes: &[u8]) -> Answer
 
 pub fn start_write(b: &mut [u64], d: u64, s: u64, bytes: &[u8]) -> Answer
     ensures answer { λ r. ⌜ r ≡ answerOn (now (b .entry)) (startWrite d s (now (bytes .entry))) ⌝ }
-    ensures block { λ _. ⌜ now (b .exit) ≡ blockAfter (now (b .entry)) (startWrite d s (now (bytes .entry))) ⌝ }
-    ensures tables { λ _. ⌜ tablesOf (now (b .exit)) ≡ tablesAfter (now (b .entry)) (startWrite d s (now (bytes .entry))) ⌝ }
+    ensures block { λ _. ⌜ now (b .exit) ≡ blockAfter (now (b .entry))
+        (startWrite d s (now (bytes .entry))) ⌝ }
+    ensures tables { λ _. ⌜ tablesOf (now (b .exit))
+        ≡ tablesAfter (now (b .entry)) (startWrite d s (now (bytes .entry))) ⌝ }
 {
     let refusal = refusals::of_write(b, d, s, bytes);
     if refusal == 0 {
@@ -79,7 +85,8 @@ pub fn start_write(b: &mut [u64], d: u64, s: u64, bytes: &[u8]) -> Answer
 fn show_on(b: &[u64], d: u64, out: &mut [u8]) -> Answer
     requires { ⌜ refusalOn (now b) (show d (now out)) ≡ 0 ⌝ }
     ensures answer { λ r. ⌜ r ≡ answerOn (now (b .entry)) (show d (now (out .entry))) ⌝ }
-    ensures output { λ _. ⌜ now (out .exit) ≡ outputOn (now (b .entry)) (show d (now (out .entry))) ⌝ }
+    ensures output { λ _. ⌜ now (out .exit) ≡ outputOn (now (b .entry))
+        (show d (now (out .entry))) ⌝ }
 {
     write_frame(b, d, out);
     Answer::Shown {
@@ -90,8 +97,10 @@ fn show_on(b: &[u64], d: u64, out: &mut [u8]) -> Answer
 // The block is lent shared: a showing doesn't change it.
 pub fn show(b: &[u64], d: u64, out: &mut [u8]) -> Answer
     ensures answer { λ r. ⌜ r ≡ answerOn (now (b .entry)) (show d (now (out .entry))) ⌝ }
-    ensures block { λ _. ⌜ now (b .exit) ≡ blockAfter (now (b .entry)) (show d (now (out .entry))) ⌝ }
-    ensures output { λ _. ⌜ now (out .exit) ≡ outputOn (now (b .entry)) (show d (now (out .entry))) ⌝ }
+    ensures block { λ _. ⌜ now (b .exit) ≡ blockAfter (now (b .entry))
+        (show d (now (out .entry))) ⌝ }
+    ensures output { λ _. ⌜ now (out .exit) ≡ outputOn (now (b .entry))
+        (show d (now (out .entry))) ⌝ }
 {
     let refusal = refusals::of_show(b, d, out);
     if refusal == 0 {

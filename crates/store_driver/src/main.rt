@@ -54,7 +54,8 @@ fn take_byte(
     c: u8,
     reply: &mut [u8; MOST_REPLY],
 ) -> Step
-    ensures { λ r. ⌜ lent (now (b .exit)) (now (line .exit)) (r .at) (now (reply .exit)) ≡ fed (lent (now (b .entry)) (now (line .entry)) at (now (reply .entry))) c ⌝ }
+    ensures { λ r. ⌜ lent (now (b .exit)) (now (line .exit)) (r .at) (now (reply .exit))
+        ≡ fed (lent (now (b .entry)) (now (line .entry)) at (now (reply .entry))) c ⌝ }
 {
     let fed = feed(b, line, at, c, reply);
     let n = fed.length;
@@ -71,7 +72,9 @@ fn take_bytes(
     input: &[u8],
     reply: &mut [u8; MOST_REPLY],
 ) -> Took
-    ensures { λ r. ⌜ TookOf (lent (now (b .entry)) (now (line .entry)) at (now (reply .entry))) (lent (now (b .exit)) (now (line .exit)) (r .at) (now (reply .exit))) (now (input .entry)) (r .taken) (r .on) ⌝ }
+    ensures { λ r. ⌜ TookOf (lent (now (b .entry)) (now (line .entry)) at (now (reply .entry)))
+        (lent (now (b .exit)) (now (line .exit)) (r .at) (now (reply .exit))) (now (input .entry))
+        (r .taken) (r .on) ⌝ }
 {
     let mut kept = at;
     let mut i = 0;
@@ -96,7 +99,8 @@ fn take_bytes(
 
 // At the end of the input: a line begun has no 0a.
 fn finish(b: &mut [u64], line: &mut [u8; MOST_KEPT], at: usize, reply: &mut [u8; MOST_REPLY])
-    ensures { λ _. ⌜ lent (now (b .exit)) (now (line .exit)) 0 (now (reply .exit)) ≡ closed (lent (now (b .entry)) (now (line .entry)) at (now (reply .entry))) ⌝ }
+    ensures { λ _. ⌜ lent (now (b .exit)) (now (line .exit)) 0 (now (reply .exit))
+        ≡ closed (lent (now (b .entry)) (now (line .entry)) at (now (reply .entry))) ⌝ }
 {
     let n = end(b, line, at, reply);
     say(reply, n);
@@ -111,7 +115,9 @@ fn turn(
     buf: &mut [u8],
     reply: &mut [u8; MOST_REPLY],
 ) -> State
-    ensures { λ r. ⌜ TurnOf (lent (now (b .entry)) (now (line .entry)) at (now (reply .entry))) (lent (now (b .exit)) (now (line .exit)) (r .at) (now (reply .exit))) (now (buf .exit)) (r .taken) (r .on) (r .ended) ⌝ }
+    ensures { λ r. ⌜ TurnOf (lent (now (b .entry)) (now (line .entry)) at (now (reply .entry)))
+        (lent (now (b .exit)) (now (line .exit)) (r .at) (now (reply .exit))) (now (buf .exit))
+        (r .taken) (r .on) (r .ended) ⌝ }
 {
     let got = libc::read(STDIN_FILENO, buf);
     if got < 0 {
@@ -149,7 +155,8 @@ fn serve(
     buf: &mut [u8],
     reply: &mut [u8; MOST_REPLY],
 ) -> usize
-    ensures { λ r. ⌜ ServedBy (lent (now (b .entry)) (now (line .entry)) 0 (now (reply .entry))) (lent (now (b .exit)) (now (line .exit)) r (now (reply .exit))) ⌝ }
+    ensures { λ r. ⌜ ServedBy (lent (now (b .entry)) (now (line .entry)) 0 (now (reply .entry)))
+        (lent (now (b .exit)) (now (line .exit)) r (now (reply .exit))) ⌝ }
 {
     let mut at = 0;
     let mut turns: u64 = 18446744073709551615;
