@@ -4,7 +4,7 @@ import shutil
 
 # rt starts so many checks at a time, and starts the next when all of them have ended: with one for
 # each core, most cores wait for the longest. A check takes up to 1 GB.
-JOBS = 3 * (os.cpu_count() or 1)
+JOBS = 4 * (os.cpu_count() or 1)
 
 # A check lays some 5,000 files, 200 MB, into the folder for temporary files and removes them again:
 # in memory, where there is room, that takes up to a fifth off its time. rt runs programs there too.
