@@ -19,7 +19,8 @@ const CHECK_FLOORS: f64 = 2.8;
 const FLOORS: f64 = 3.5;
 const MODELS: f64 = 1.0;
 /// Floors of the check of a fresh small sheet before stamps were gathered (on an AMD EPYC, quickest
-/// round), and how many times as many it may take.
+/// round, as its library was linked then), and how many times as many it may take. The two
+/// libraries, aligned alike and in one program: docs/changes/ready.md.
 const FRESH_SHEET_WAS: f64 = 3.34;
 const FRESH_SHEET: f64 = 1.1;
 /// A write and a read on a fresh small sheet are so many times faster than SQLite.
