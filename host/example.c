@@ -6,8 +6,10 @@
  *     example --seeds N      plays the seeds 0 to N - 1 in silence and judges each log
  *
  * The morning client fills in the sheet; the afternoon client reads it for the first time. Then the morning client
- * corrects tape speed and equaliser curve, which must never be seen apart, while the afternoon client reads on. At
- * last both read again, and end with the same sheet.
+ * corrects tape speed and equaliser curve, which must never be seen apart, while the afternoon client reads on. When
+ * all has arrived both read again, and have the same sheet. At last the afternoon client, which has written nothing so
+ * far, corrects the curve that it has read: its one write is later than both of the morning client's, and is what it
+ * reads from then on, and the morning client once it has learnt of it.
  */
 #include <inttypes.h>
 #include <stdio.h>
@@ -118,7 +120,7 @@ static void say_sheet(const struct shift *shift, unsigned client)
         if (entry->number == 0)
             printf("no write known\n");
         else
-            printf("write %" PRIu32 " of %s\n", entry->number, client_names[entry->client]);
+            printf("write number %" PRIu32 ", of %s\n", entry->number, client_names[entry->client]);
     }
 }
 
@@ -166,7 +168,7 @@ static void keep_sheet(struct shift *shift, unsigned client, const uint8_t *fram
 
     for (unsigned item = 0; item < ITEMS; item++)
         sheet[item] = koolvent_frame_entry(frame, item);
-    if (sheet[SPEED].number != sheet[CURVE].number)
+    if (sheet[SPEED].number != sheet[CURVE].number || sheet[SPEED].client != sheet[CURVE].client)
         fail("speed and curve are of different writes");
     if (shift->racing) {
         shift->reads_ended++;
@@ -189,7 +191,7 @@ static void show_ended(struct shift *shift, unsigned client)
     if (frame[0] == KOOLVENT_READ_FRAME)
         keep_sheet(shift, client, frame);
     else if (shift->aloud)
-        printf("%s has written\n", client_names[client]);
+        printf("%s has written, with number %" PRIu32 "\n", client_names[client], koolvent_frame_number(frame));
 }
 
 static void deliver(struct shift *shift, size_t place)
@@ -243,10 +245,23 @@ static void part(const struct shift *shift, const char *title)
         printf("\n-- %s\n", title);
 }
 
+/* Both clients have read the sheet last, and the same one, with speed and curve of this client's write. */
+static void compare_sheets(const struct shift *shift, unsigned writer)
+{
+    const struct koolvent_entry *morning = shift->clients[MORNING].sheet, *afternoon = shift->clients[AFTERNOON].sheet;
+
+    for (unsigned item = 0; item < ITEMS; item++)
+        if (morning[item].value != afternoon[item].value)
+            fail("morning and afternoon end with different sheets");
+    if (morning[CURVE].client != writer || afternoon[CURVE].client != writer)
+        fail("the last correction is not what is read");
+}
+
 static void play(struct shift *shift, uint64_t seed, int aloud)
 {
     static const struct plan fill_in = {WHOLE_SHEET, {190, 70, 320, 12}, ITEMS};
     static const struct plan correct = {SET(SPEED) | SET(CURVE), {381, 35}, 2};
+    static const struct plan correct_again = {SET(SPEED) | SET(CURVE), {381, 18}, 2};
     static const struct plan reads[3] = {{WHOLE_SHEET, {0}, 0}, {WHOLE_SHEET, {0}, 0}, {WHOLE_SHEET, {0}, 0}};
 
     memset(shift, 0, sizeof *shift);
@@ -271,9 +286,15 @@ static void play(struct shift *shift, uint64_t seed, int aloud)
     plan(shift, MORNING, reads, 1);
     plan(shift, AFTERNOON, reads, 2);
     run(shift);
-    for (unsigned item = 0; item < ITEMS; item++)
-        if (shift->clients[MORNING].sheet[item].value != shift->clients[AFTERNOON].sheet[item].value)
-            fail("morning and afternoon end with different sheets");
+    compare_sheets(shift, MORNING);
+    part(shift, "the afternoon client, which has written nothing so far, corrects the curve that it has read");
+    plan(shift, AFTERNOON, &correct_again, 1);
+    run(shift);
+    part(shift, "its next read shows the correction, and so does the morning client's, once it has learnt of it");
+    plan(shift, MORNING, reads, 2);
+    plan(shift, AFTERNOON, reads, 1);
+    run(shift);
+    compare_sheets(shift, AFTERNOON);
 }
 
 /* ---- The command line ---- */

@@ -4,7 +4,7 @@
  * A sheet is a number of items (entries of 32 bits), spread over partitions. Clients read and write any set of
  * items in transactions. A read that shows one item of a write never shows another item of that write older, never
  * misses what its own client had written before it started, and ends after one reply for each item, whatever the order
- * in which messages arrive.
+ * in which messages arrive. A write is later than everything that its client was shown before it started.
  *
  * The host owns all memory and moves all messages. It lends a block of words to each call, and the store keeps
  * everything there: nothing is allocated, no thread is started, no clock is read, nothing is kept elsewhere.
@@ -26,9 +26,9 @@
  *
  * What is proved. Each call's answer, and every word and byte that was lent as the call leaves it, are fixed by what
  * it was given, for all numbers, lengths and contents of the block, damaged ones included; a refused call changes
- * nothing. Reads are as said above on every block that koolvent_fresh made and only the calls have written since. A
- * block that something else wrote is refused where a number in it is out of range, and only there: garbage that happens
- * to be in range is taken for a store.
+ * nothing. Reads and writes are as said above on every block that koolvent_fresh made and only the calls have written
+ * since. A block that something else wrote is refused where a number in it is out of range, and only there: garbage
+ * that happens to be in range is taken for a store.
  *
  * What no proof covers, and the host must see to:
  *   - a block is aligned to 8 bytes, as an array of uint64_t is;
@@ -111,7 +111,7 @@ enum koolvent_refusal {
     KOOLVENT_REFUSED_SET = 5,
     /* koolvent_start_write: there are not 4 value bytes for each item of the set. */
     KOOLVENT_REFUSED_VALUES = 6,
-    /* koolvent_start_write: the client has started 4,294,967,295 writes. */
+    /* koolvent_start_write: the client has written, or knows of, a write with the number 4,294,967,295. */
     KOOLVENT_REFUSED_COUNT = 7,
     /* A start: the load would exceed KOOLVENT_MOST_LOAD. Deliver, and try again. */
     KOOLVENT_REFUSED_LOAD = 8,
@@ -156,8 +156,9 @@ uint64_t koolvent_fresh(uint64_t *block, size_t words, uint64_t clients, uint64_
  * from the replies of later ones, for its next read. Refused by 1, 3, 4, 5 and 8. */
 uint64_t koolvent_start_read(uint64_t *block, size_t words, uint64_t client, uint64_t set);
 
-/* Starts a write of the items of a set, with KOOLVENT_VALUE_BYTES bytes for each, by ascending item. Refused by 1
- * and 3 to 9. */
+/* Starts a write of the items of a set, with KOOLVENT_VALUE_BYTES bytes for each, by ascending item. Its number is 1
+ * more than the greatest of the client's own writes and of all that it knows of, whoever wrote them and whatever their
+ * items: so it is later than everything that the client has been shown. Refused by 1 and 3 to 9. */
 uint64_t koolvent_start_write(uint64_t *block, size_t words, uint64_t client, uint64_t set, const uint8_t *values,
                               size_t value_bytes);
 

@@ -146,12 +146,16 @@ static void starts(void)
 /* Refusals that no block gives which only the calls have written. The words are those of docs/LAYOUT.md. */
 static void damaged_blocks(void)
 {
-    enum { MODE = 16, COUNT = 17, SET = 18, AWAITED = 19 };
+    enum { MODE = 16, COUNT = 17, SET = 18, AWAITED = 19, STAMP_OF_VIEW = 272 };
     /* Messages come last, 8 words each. */
     enum { STAMP_OF_MESSAGE = KOOLVENT_WORDS - 8 * KOOLVENT_MOST_LOAD + 4 };
 
     fresh(1, 1, 1);
     block[COUNT] = UINT32_MAX;
+    SAME(write_items(1, 1, 4), KOOLVENT_REFUSED_COUNT);
+
+    fresh(1, 1, 1);
+    block[STAMP_OF_VIEW] = (uint64_t)UINT32_MAX << 4 | 1;
     SAME(write_items(1, 1, 4), KOOLVENT_REFUSED_COUNT);
 
     fresh(1, 1, 1);

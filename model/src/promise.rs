@@ -2,9 +2,12 @@
 //! and outputs alone.
 //!
 //! The checker runs a list of labels beside the calls, as the steps say which messages join and
-//! leave, and never sees the store's tables. Each clause is one function and one `Clause`. That
-//! answers, outputs and tables are those of the steps and the refusal table is for whoever holds
-//! the list against the model's store.
+//! leave, and never sees the store's tables. By the labels it knows which numbers each client has
+//! learnt of, and so each write's stamp from its start on, shown or not: every clause goes by whole
+//! stamps. It keeps no views and no capacities, so it doesn't see which of the entries that the
+//! clauses allow a read has to show, nor whether a start has to be refused. Each clause is one
+//! function and one `Clause`. That answers, outputs and tables are those of the steps and the
+//! refusal table is for whoever holds the list against the model's store.
 
 mod checker;
 mod clauses;
@@ -40,7 +43,7 @@ pub enum Clause {
     WriteEnd,
     /// A showing with room enough after an end and before the client's next start is accepted.
     ShowingAfterAnEnd,
-    /// The frame shown is one of the transaction that ended last.
+    /// The frame shown is one of the transaction that ended last, of a write with its number.
     Frame,
     /// A shown entry is initial or of an accepted write with that stamp, item and value.
     Unwritten { item: u64 },
@@ -52,6 +55,8 @@ pub enum Clause {
     /// No entry is older than a write of that item which the client had ended before the read's
     /// start.
     OwnWriteMissed { item: u64 },
+    /// A write is later than every entry that its client was shown before it started.
+    OlderThanShown,
 }
 
 /// The first event that breaks a clause, counted from 0, and the clause.
@@ -69,6 +74,8 @@ pub struct Summary {
     pub reads_shown: usize,
     /// Entries shown that were not initial.
     pub written_entries_shown: usize,
+    /// Writes shown that had to be later than another client's, which their client was shown.
+    pub corrections: usize,
 }
 
 /// Whether the events keep every clause of condition 3. The first is an accepted fresh; another

@@ -148,6 +148,12 @@ impl Maker {
         tables.versions = (0..versions).map(|_| self.version()).collect();
         let messages = self.random.pick(&[1, 5, 5, 30, 30, 126, 129]);
         tables.messages = (0..messages).map(|_| self.message(&tables)).collect();
+        for client in 1..=self.sizes.clients {
+            let seen = &mut tables.view_mut(client)[self.item() as usize];
+            if seen.stamp != Stamp::INITIAL && self.random.once_in(4) {
+                seen.stamp.number = self.random.pick(&[4_294_967_294, 4_294_967_295]);
+            }
+        }
         tables
     }
 }

@@ -16,10 +16,10 @@ use Rattle.protocol.specs.Calls.{Call, startRead, startWrite, show, effect, rep
 use Rattle.protocol.specs.Calls.{pick, shownFrame}
 use Rattle.protocol.proofs.Ranges.Tables.{Valid, valid-facts}
 use Rattle.protocol.proofs.Refusals.{accepted-read, accepted-write, accepted-show}
-use Rattle.layout.specs.Layout.{mostVersions, mostMessages, header, scalars, at, itemsAt}
-use Rattle.layout.specs.Layout.{messagesAt, countAt, needed}
+use Rattle.layout.specs.Layout.{mostVersions, mostMessages, header, at, itemsAt, messagesAt}
+use Rattle.layout.specs.Layout.{needed}
 use Rattle.layout.specs.Decode.{sizesIn, tablesOf, validBlock}
-use Rattle.start.specs.Start.{readStarted, writeStarted}
+use Rattle.start.specs.Start.{readStarted, greatestOn, writeStarted}
 use Rattle.start.proofs.Ready.{ready-start, ready-write}
 use Rattle.show.specs.Show.{frameIn}
 use Rattle.show.proofs.LogFrames.{shownFrame-tablesOf}
@@ -106,7 +106,7 @@ module _ (b : List ℕ) (d s : ℕ) (bytes : List ℕ) (e : refusalOn b (startWr
       → (1 ≤ d) × (d ≤ 8) × (items ≤ 64) × (n + count s ≤ mostMessages)
       × (items ≡ at b header itemsAt)
       × (n ≡ at b header messagesAt)
-      × (at b scalars (countAt d) < 2 ^ 32) × (4 * count s ≤ length bytes)
+      × (greatestOn b d items < 2 ^ 32) × (needed ≤ length b) × (4 * count s ≤ length bytes)
   write-ready items n i m =
       let w =
       ready-write b (tablesOf b) d s bytes (accepted-holds b (startWrite d s bytes) e .encodes)
@@ -120,7 +120,8 @@ module _ (b : List ℕ) (d s : ℕ) (bytes : List ℕ) (e : refusalOn b (startWr
             (arith, r .messages),
         i,
         m,
-        w .countFits,
+        rw i (w .numberFits),
+        w .long,
         w .values,
       )
 
@@ -136,7 +137,7 @@ module _ (b : List ℕ) (d s : ℕ) (bytes : List ℕ) (e : refusalOn b (startWr
         (startWrite d s bytes) e after a,
   )
 
--- ---- a valid block's clients, load and versions
+-- ---- a valid block's clients, views, load and versions
 
 module _ (b : List ℕ) (v : validBlock b ≡ true) where
   facts : Valid capacities (tablesOf b)
@@ -154,6 +155,13 @@ module _ (b : List ℕ) (v : validBlock b ≡ true) where
               (sizes-read b),
         ),
       )
+
+  pub view-words : (d : ℕ) → isClient (sizesIn b) d ≡ true → (items : ℕ)
+      → items ≡ at b header itemsAt → (1 ≤ d) × (d ≤ 8) × (items ≤ 64) × (needed ≤ length b)
+  view-words d c items i =
+      let w = tells-valid-block b .0 v .wellFormed in
+      let p = has-words d c in
+      (p .0, p .1, omega (arith, i, w .sizes .items), w .long)
 
   pub load-few : (n : ℕ) → n ≡ load (tablesOf b) → n ≤ mostMessages
   load-few n e = omega (arith, e, facts .load)

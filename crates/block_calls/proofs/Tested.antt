@@ -8,14 +8,17 @@ use lib.ListN.{length}
 use Rattle.basics.proofs.Cases.{by-test, between}
 use Rattle.itemset.specs.Set.{allBelow, count}
 use Rattle.protocol.specs.Range.{capacities, isClient, isIdle, load, occupied}
+use Rattle.protocol.specs.Steps.{greatestOf}
 use Rattle.protocol.specs.Calls.{startRead, startWrite, show, refusal, first, isNothing}
 use Rattle.layout.specs.Layout.{mostVersions, mostMessages, header, scalars, at, itemsAt, modeAt}
-use Rattle.layout.specs.Layout.{awaitedAt, countAt, lastKindAt}
+use Rattle.layout.specs.Layout.{awaitedAt, lastKindAt}
 use Rattle.layout.specs.Decode.{sizesIn, clientIn, tablesOf, validBlock}
 use Rattle.encoding.proofs.WellFormed.{tells-valid-block}
 use Rattle.show.specs.Show.{frameIn}
 use Rattle.show.proofs.LogFrames.{isNothing-last, shownFrame-tablesOf}
-use Rattle.block_calls.proofs.Accepted.{valid-tables}
+use Rattle.start.specs.Start.{greatestOn}
+use Rattle.start.proofs.Numbers.{greatest-held}
+use Rattle.block_calls.proofs.Accepted.{valid-tables, holds-tables}
 
 -- ---- fields of the tables, as words
 
@@ -40,9 +43,12 @@ module _ (b : List ℕ) (d : ℕ) (c : isClient (sizesIn b) d ≡ true) where
   idle-read v = rw client-read (idle-words b d
       ∙ sym (tells-valid-block b .0 v .wellFormed .idle d (between 1 (sizesIn b .clients) d c)))
 
-  count-read : tablesOf b .client d .count ≡ at b scalars (countAt d)
-  unfolding clientIn
-  count-read = rw client-read
+  greatest-read : validBlock b ≡ true
+      → greatestOf (tablesOf b) d ≡ greatestOn b d (at b header itemsAt)
+  unfolding tablesOf
+  greatest-read v =
+      let p = between 1 (sizesIn b .clients) d c in
+      sym (greatest-held b (tablesOf b) d (holds-tables b v .encodes) (p .0) (p .1))
 
   nothing-read : isNothing (tablesOf b .client d .last) ≡ eqb (at b scalars (lastKindAt d)) 0
   nothing-read = rw client-read (isNothing-last b d)
@@ -82,12 +88,12 @@ module _ (b : List ℕ) (d : ℕ) (v : validBlock b ≡ true) where
       ≡ cond busy 4
       (cond (bad s) 5
       (cond (not (eqb (length bytes) (4 * count s))) 6
-      (cond (eqb (at b scalars (countAt d)) 4294967295) 7
+      (cond (eqb (greatestOn b d (at b header itemsAt)) 4294967295) 7
       (cond (ltb mostMessages (load (tablesOf b) + count s)) 8
       (cond (ltb mostVersions (occupied (tablesOf b) + count s)) 9 0)))))
   unfolding refusal first
   write-tests s bytes c =
-      rw (valid-tables b v, idle-read b d c v, count-read b d c, sizes-read b, c)
+      rw (valid-tables b v, idle-read b d c v, greatest-read b d c v, sizes-read b, c)
       refl
 
   pub show-tests : (output : List ℕ) → isClient (sizesIn b) d ≡ true

@@ -45,7 +45,7 @@ pub fn put_mode(b: &mut [u64], d: u64, v: u64)
     put_scalar(b, d, 0, v);
 }
 
-// How many writes it has started.
+// The number of the last write that it started, 0 before the first.
 pub fn count(b: &[u64], d: u64) -> u64
     requires { ⌜ (1 ≤ d) × (d ≤ 8) ⌝ }
     ensures { λ r. ⌜ r ≡ at (now (b .entry)) scalars (countAt d) ⌝ }

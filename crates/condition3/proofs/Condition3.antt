@@ -28,7 +28,9 @@ use Rattle.condition3.proofs.Runs.Deliverable.{deliverable}
 use Rattle.condition3.proofs.Runs.OneMessage.{one-message}
 use Rattle.condition3.proofs.Runs.ReadCounts.{inv-at, asked, left, is-reading, ends-iff}
 use Rattle.condition3.proofs.Runs.ReadCounts.{counts-exact}
-use Rattle.condition3.proofs.Runs.ReadShows.{shows, silent}
+use Rattle.condition3.proofs.Runs.ReadShows.{shows, silent, wins}
+use Rattle.condition3.proofs.Runs.WriteShows.{own-shown, own-head, own-number}
+use Rattle.condition3.proofs.Runs.WriteShows.{wins-own}
 
 -- the tables go on as `step` leaves them
 next-step : (caps : Capacities) (w : World) (c : Call)
@@ -92,6 +94,15 @@ condition-3-from caps w inv calls =
       shows = λ before during until rest d s end room e u quietly enough.
           subst (λ (cs : List Call). Shows caps w cs d s before during end until room) (sym e)
           (shows caps w inv d s before during end until rest room u quietly enough);
+      wins = λ before during until between rest d s end room v bytes e u quietly enough a k m.
+          wins caps w inv d s before during end until [] room u quietly enough between k m;
+      showsOwn = λ before during until rest d z written end room e u quietly enough. (
+        own-shown caps w inv d z written before during end until room u quietly enough,
+        own-head caps w inv d z written before during end until room u quietly enough,
+        own-number caps w inv d z written before during end until room u quietly enough,
+      );
+      winsOwn = λ before during until between rest d z written end room v bytes e u quietly enough
+          a. wins-own caps w inv d z written before during end until room u quietly enough between;
       deliverable =
           λ before rest e. deliverable caps (after caps w before) (after-inv caps w inv before);
     }

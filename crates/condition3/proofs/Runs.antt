@@ -6,6 +6,8 @@ pub mod ReadSpan
 pub mod ReadStep
 pub mod Spans
 pub mod WriteSpan
+pub mod Rising
+pub mod WriteShows
 pub mod Provenance
 pub mod Deliverable
 pub mod OneMessage

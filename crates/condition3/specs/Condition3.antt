@@ -22,7 +22,7 @@ use Rattle.condition3.specs.World.{World, Labelled, Write, Store, begun,
 use Rattle.condition3.specs.World.{joiningOver, leavingOver, isRequest, isReply, isReplyFor}
 use Rattle.condition3.specs.World.{isReadMessage, outcomeIn, endsFor, stays, rests}
 
--- ---- What a read of s shows of item k, in the output bytes of a showing
+-- ---- What a showing tells, in its output bytes: of a read of s, of each item k
 
 -- number (4), writing client (1), value (4)
 
@@ -34,6 +34,10 @@ shownWriter s output k = numberAt 1 output (14 + 9 * rank s k)
 
 abbrev pub shownValue : ℕ → List ℕ → ℕ → ℕ
 shownValue s output k = numberAt 4 output (15 + 9 * rank s k)
+
+-- of a write: its number, behind kind, client and set
+abbrev pub shownOwnNumber : List ℕ → ℕ
+shownOwnNumber output = numberAt 4 output 10
 
 -- 'An entry shown with number, desk and value 0 is initial'
 abbrev pub Initial : ℕ → List ℕ → ℕ → Type 0
@@ -92,38 +96,49 @@ module _ (caps : Capacities) (w : World) where
       × (refusal caps (after caps w before .tables) c ≡ 0)
       × In x (added (after caps w before) c))
 
-  -- ---- A read of s by client d that ended, shown into `room` after the calls `until`
+  -- ---- A transaction of client d that ended, shown into `room` after the calls `until`
 
-  abbrev pub shownAt : ℕ → ℕ → List Call → List Call → Call → List Call → World
-  shownAt d s before during end until =
-      after caps w (before ++ startRead d s ∷ during ++ end ∷ until)
+  abbrev pub shownAt : Call → List Call → List Call → Call → List Call → World
+  shownAt start before during end until = after caps w (before ++ start ∷ during ++ end ∷ until)
 
-  abbrev pub output : ℕ → ℕ → List Call → List Call → Call → List Call → List ℕ → List ℕ
-  output d s before during end until room =
-      step caps (shownAt d s before during end until .tables) (show d room) .output
+  abbrev pub output : ℕ → Call → List Call → List Call → Call → List Call → List ℕ → List ℕ
+  output d start before during end until room =
+      step caps (shownAt start before during end until .tables) (show d room) .output
+
+  -- the world at a later call, behind the calls `between` after the showing
+  abbrev pub later : ℕ → Call → List Call → List Call → Call → List Call → List ℕ → List Call
+      → World
+  later d start before during end until room between =
+      after caps w (before ++ start ∷ during ++ end ∷ until ++ show d room ∷ between)
+
+  -- what a read of s by client d shows
+
+  abbrev pub outputOfRead : ℕ → ℕ → List Call → List Call → Call → List Call → List ℕ → List ℕ
+  outputOfRead d s before during end until room =
+      output d (startRead d s) before during end until room
 
   pub record Shows (calls : List Call) (d s : ℕ) (before during : List Call) (end : Call)
       (until : List Call) (room : List ℕ) : Type 0 where
     -- 'A read shows what a showing of its desk with room enough gives after its end and before the
     -- desk's next start': it is accepted, and the frame's head is `21`, client, set
-    pub shown : step caps (shownAt d s before during end until .tables)
+    pub shown : step caps (shownAt (startRead d s) before during end until .tables)
         (show d room) .answer ≡ Shown (10 + 9 * count s)
-    pub head : take 10 (output d s before during end until room) ≡ 0x21 ∷ d ∷ bigEndian 8 s
+    pub head : take 10 (outputOfRead d s before during end until room) ≡ 0x21 ∷ d ∷ bigEndian 8 s
     -- 'wherever it shows an entry of a write that also wrote another line it shows, that other line
     -- isn't shown older'
     pub unfractured : (a : Write) → In a (after caps w calls .writes) → (j k : ℕ) → has s j ≡ true
         → has s k ≡ true
-        → ShownWith s (output d s before during end until room) j (a .stamp) → has (a .set) j ≡ true
-        → has (a .set) k ≡ true
-        → ShownOlder s (output d s before during end until room) k (a .stamp) → ⊥
+        → ShownWith s (outputOfRead d s before during end until room) j (a .stamp)
+        → has (a .set) j ≡ true → has (a .set) k ≡ true
+        → ShownOlder s (outputOfRead d s before during end until room) k (a .stamp) → ⊥
     -- 'each entry that isn't initial is what a write in the list put on that line, and that write
     -- was stored in all its cabinets before the cabinet answered the line'
     pub written : (k : ℕ) → has s k ≡ true
-        → Initial s (output d s before during end until room) k
+        → Initial s (outputOfRead d s before during end until room) k
         ⊎ ((a : Write) × In a (after caps w calls .writes)
-        × ShownWith s (output d s before during end until room) k (a .stamp)
+        × ShownWith s (outputOfRead d s before during end until room) k (a .stamp)
         × (has (a .set) k ≡ true) × (a .values k ≡ shownValue s
-        (output d s before during end until room) k)
+        (outputOfRead d s before during end until room) k)
         × ((reply : Labelled) × In reply (came d s before (during ++ end ∷ []))
         × (isReplyFor d k reply ≡ true)
         × StoredBefore (after caps w calls .stores) a (answeredAt reply)))
@@ -134,7 +149,7 @@ module _ (caps : Capacities) (w : World) where
         → before ≡ earlier ++ startWrite d v bytes ∷ meanwhile ++ finish ∷ later
         → EndedBy d (startWrite d v bytes) earlier meanwhile finish
         → (k : ℕ) → has s k ≡ true → has v k ≡ true
-        → ShownOlder s (output d s before during end until room) k
+        → ShownOlder s (outputOfRead d s before during end until room) k
         (nextStamp (after caps w earlier .tables) d) → ⊥
 
   -- ---- The condition
@@ -176,8 +191,8 @@ module _ (caps : Capacities) (w : World) where
     pub silent : (before during until rest : List Call) (d s : ℕ) (end : Call)
         → calls ≡ before ++ startRead d s ∷ during ++ end ∷ until ++ rest
         → EndedBy d (startRead d s) before during end
-        → rests caps (shownAt d s before during end []) d until ≡ true
-        → stays caps (shownAt d s before during end []) d until ≡ true
+        → rests caps (shownAt (startRead d s) before during end []) d until ≡ true
+        → stays caps (shownAt (startRead d s) before during end []) d until ≡ true
     -- 'after exactly n requests and n replies', one for each line; its outcome is 01, a read ended
     pub counts : (before during rest : List Call) (d s : ℕ) (end : Call)
         → calls ≡ before ++ startRead d s ∷ during ++ end ∷ rest
@@ -191,9 +206,49 @@ module _ (caps : Capacities) (w : World) where
     pub shows : (before during until rest : List Call) (d s : ℕ) (end : Call) (room : List ℕ)
         → calls ≡ before ++ startRead d s ∷ during ++ end ∷ until ++ show d room ∷ rest
         → EndedBy d (startRead d s) before during end
-        → rests caps (shownAt d s before during end []) d until ≡ true
+        → rests caps (shownAt (startRead d s) before during end []) d until ≡ true
         → 10 + 9 * count s ≤ length room
         → Shows calls d s before during end until room
+    -- 'Each write is later than every entry its desk was shown before' (document 02, P1): whatever
+    -- a read showed is older than each write that its client starts after the showing
+    pub wins : (before during until between rest : List Call) (d s : ℕ) (end : Call) (room : List ℕ)
+        (v : ℕ) (bytes : List ℕ)
+        → calls ≡ before ++ startRead d s ∷ during ++ end ∷ until ++ show d room ∷ between
+        ++ startWrite d v bytes ∷ rest
+        → EndedBy d (startRead d s) before during end
+        → rests caps (shownAt (startRead d s) before during end []) d until ≡ true
+        → 10 + 9 * count s ≤ length room
+        → refusal caps (later d (startRead d s) before during end until room between .tables)
+        (startWrite d v bytes) ≡ 0
+        → (k : ℕ) → has s k ≡ true
+        → ShownOlder s (outputOfRead d s before during end until room) k
+        (nextStamp (later d (startRead d s) before during end until room between .tables) d)
+    -- what a write shows: a frame of head `20`, client, set, with the write's own number behind it
+    pub showsOwn : (before during until rest : List Call) (d z : ℕ) (written : List ℕ)
+        (end : Call) (room : List ℕ)
+        → calls ≡ before ++ startWrite d z written ∷ during ++ end ∷ until ++ show d room ∷ rest
+        → EndedBy d (startWrite d z written) before during end
+        → rests caps (shownAt (startWrite d z written) before during end []) d until ≡ true
+        → 14 + 4 * count z ≤ length room
+        → (step caps (shownAt (startWrite d z written) before during end until .tables)
+        (show d room) .answer ≡ Shown (14 + 4 * count z))
+        × (take 10 (output d (startWrite d z written) before during end until room)
+        ≡ 0x20 ∷ d ∷ bigEndian 8 z)
+        × (shownOwnNumber (output d (startWrite d z written) before during end until room)
+        ≡ numberOf (nextStamp (after caps w before .tables) d))
+    -- and that number is smaller than each that a later write of its client takes
+    pub winsOwn : (before during until between rest : List Call) (d z : ℕ) (written : List ℕ)
+        (end : Call) (room : List ℕ) (v : ℕ) (bytes : List ℕ)
+        → calls ≡ before ++ startWrite d z written ∷ during ++ end ∷ until ++ show d room ∷ between
+        ++ startWrite d v bytes ∷ rest
+        → EndedBy d (startWrite d z written) before during end
+        → rests caps (shownAt (startWrite d z written) before during end []) d until ≡ true
+        → 14 + 4 * count z ≤ length room
+        → refusal caps (later d (startWrite d z written) before during end until room
+        between .tables) (startWrite d v bytes) ≡ 0
+        → shownOwnNumber (output d (startWrite d z written) before during end until room)
+        < numberOf (nextStamp (later d (startWrite d z written) before during end until room
+        between .tables) d)
     -- 'a delivery at any place within the pile is accepted'
     pub deliverable : (before rest : List Call) → calls ≡ before ++ rest
         → (i : ℕ) → i < length (after caps w before .tables .messages)

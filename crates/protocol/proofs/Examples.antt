@@ -14,11 +14,13 @@ use Rattle.protocol.proofs.Examples.Table.{anything, right, messagesAre
 use Rattle.protocol.proofs.Examples.Begin.{sizes, entry, loaded, holding, seeing, ahead}
 use Rattle.protocol.proofs.Examples.Begin.{spent, crowded, strayed}
 use Rattle.protocol.proofs.Examples.Faults.{faults}
+use Rattle.protocol.proofs.Examples.Numbers.{numbers}
 use Rattle.protocol.proofs.Examples.Pinned.{pinned}
 pub mod Table
 pub mod Begin
 pub mod Faults
 pub mod Pinned
+pub mod Numbers
 
 -- a value's four bytes, for values below 256
 abbrev value : ℕ → List ℕ
@@ -193,9 +195,9 @@ halfStored =
           && entryIs (t .view 1 0) 0 0 0 && entryIs (t .view 1 1) 0 0 0;
     }
 
--- Desk 1's sixth write is later than desk 2's first and second: a commit of the first that comes
--- late changes no latest, and the second doesn't enter its own desk's view. The first read shows
--- desk 2's own write, the next one desk 1's.
+-- Desk 1's sixth write is later than desk 2's first: a commit of the first that comes late changes
+-- no latest. Desk 2's read shows its own write, and brings desk 1's into its view; so its second
+-- write is later than both, and its next read shows that.
 abbrev lateCommit : Row
 lateCommit =
     record {
@@ -219,9 +221,9 @@ lateCommit =
           ∷ startRead 2 1 ⇒ "000002"
           ∷ deliver 1 ⇒ "0004000200"
           ∷ deliver 1 ⇒ "0005000101"
-          ∷ show 2 (room 19) ⇒ "0021020000000000000001000000060100000006"
+          ∷ show 2 (room 19) ⇒ "0021020000000000000001000000070200000008"
           ∷ [];
-      after = λ t. entryIs (t .latest 0) 6 1 1 && entryIs (t .view 2 0) 6 1 1;
+      after = λ t. entryIs (t .latest 0) 6 1 1 && entryIs (t .view 2 0) 7 2 1;
     }
 
 -- ---- Refusals
@@ -339,7 +341,7 @@ rows =
     ∷ firstOfSeveral
     ∷ strays
     ∷ outOfRange
-    ∷ pinned
+    ∷ numbers ++ pinned
 
 pub examples : all right rows ≡ true
 unfolding all right

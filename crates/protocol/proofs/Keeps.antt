@@ -3,7 +3,7 @@
 use mathlib.Core.Bool.{true}
 use mathlib.Core.Path.{_≡_, refl, sym, subst}
 use Prim.Native.Nat.{ℕ, _≤_}
-use native.Mathlib.Nat.{le-refl, le-suc}
+use native.Mathlib.Nat.{le-refl}
 use native.Mathlib.Omega.{arith}
 use lib.Dec.{eqb}
 use borrow.Author.Tests.{eqb-true}
@@ -83,7 +83,7 @@ module _ (caps : Capacities) (t : Tables) where
           occupied = omega (arith, occupied-write caps t d s (a .start) bytes);
         };
         sizes = refl;
-        rises = put-rises (t .client) d (writer t d s bytes) (le-suc (t .client d .count));
+        rises = put-rises (t .client) d (writer t d s bytes) (omega arith);
         view = λ e k. le-refl (t .view e k .stamp);
         starter = λ e same. started-idle d e same (a .start .client) (a .start .idle);
       }

@@ -16,6 +16,7 @@ pub mod Touched
 pub mod Load
 pub mod Occupied
 pub mod Commits
+pub mod Known
 pub mod Kept
 pub mod Sorts
 pub mod Keeps

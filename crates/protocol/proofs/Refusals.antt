@@ -18,7 +18,7 @@ use Rattle.protocol.specs.declared.Message.the-variants.{Prepared, Commi
 use Rattle.protocol.specs.Tables.{Sizes, Tables, Client, writerOf, Ended, rested, Side}
 use Rattle.protocol.specs.Tables.{ofRead, ofWrite, awaitedOf}
 use Rattle.protocol.specs.Range.{Capacities, load, occupied}
-use Rattle.protocol.specs.Steps.{messageAt}
+use Rattle.protocol.specs.Steps.{messageAt, greatestOf}
 use Rattle.protocol.specs.Calls.{startRead, startWrite, deliver, show, Test, test, first}
 use Rattle.protocol.specs.Calls.{unexpected, missing, isNothing, refusal, freshRefusal}
 use Rattle.protocol.specs.Calls.{shownFrame}
@@ -75,7 +75,7 @@ pub record AcceptedStart (caps : Capacities) (t : Tables) (d s : ℕ) : Type 0 w
 pub record AcceptedWrite (caps : Capacities) (t : Tables) (d s : ℕ) (bytes : List ℕ) : Type 0 where
   pub start : AcceptedStart caps t d s
   pub values : length bytes ≡ 4 * count s
-  pub countLeft : t .client d .count ≢ 4294967295
+  pub numberLeft : greatestOf t d ≢ 4294967295
   pub occupied : occupied t + count s ≤ caps .versions
 
 ruleset tests = (tells-first, tells-valid, tells)

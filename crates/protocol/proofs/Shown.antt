@@ -2,7 +2,7 @@
 -- the value, read at the item's rank. Entries are of equal length, so the entry of a place begins
 -- at a multiple of it.
 use mathlib.Core.Bool.{true, false, cond}
-use mathlib.Core.List.{List, [], _∷_, _++_, append-assoc}
+use mathlib.Core.List.{List, [], _∷_, _++_, append-assoc, append-nil}
 use mathlib.Core.Path.{_≡_, refl, sym, ap, ap₂, _∙_}
 use Prim.Native.Nat.{ℕ, zero, suc, _+_, _*_, _%_, _^_, _≤_, _<_}
 use native.Mathlib.Nat.{mul-zero, mul-suc, zero-add, mod-eq-of-lt, not-suc-le-zero}
@@ -217,3 +217,46 @@ module _ (d : ℕ) (e : Ended) (shows : showsRead (e .kind) ≡ true) (rest : Li
     shown-value h =
         shown-field 4 (p .values k) (bigEndian 4 (numberOf (p .asked k)) ++ bigEndian 1
         (writerOf (p .asked k))) [] refl h
+
+-- ---- what a write's frame begins with, its number among it
+
+regroup-write : (a b c v rest : List ℕ)
+    → a ++ [] ++ (b ++ c ++ v) ++ rest ≡ a ++ b ++ c ++ (v ++ rest)
+regroup-write a b c v rest = simp (append-assoc, append-nil)
+
+module _ (d : ℕ) (e : Ended) (kind : e .kind ≡ 2) (rest : List ℕ) where
+  abbrev part : WritePart
+  part = e .write
+
+  abbrev number : List ℕ
+  number = bigEndian 4 (numberOf (part .stamp))
+
+  abbrev written : List ℕ
+  written = listed (λ k. bigEndian 4 (part .values k)) (members 64 (part .set))
+
+  write-split : frame d e ++ rest ≡ head 0x20 d (part .set) ++ number ++ (written ++ rest)
+  unfolding writeBytes
+  write-split =
+      ap (λ (l : List ℕ). l ++ rest) (parts d e (rw kind refl))
+      ∙ rw kind (regroup-write (0x20 ∷ bigEndian 1 d) (bigEndian 8 (part .set)) number written rest)
+
+  pub write-head : d < 256 → take 10 (frame d e ++ rest) ≡ 0x20 ∷ d ∷ bigEndian 8 (part .set)
+  unfolding bigEndian
+  write-head h =
+      ap (take 10) (write-split ∙ append-assoc (head 0x20 d (part .set)) number (written ++ rest))
+      ∙ take-at (head 0x20 d (part .set)) (number ++ (written ++ rest)) 10
+      (length-head 0x20 d (part .set))
+      ∙ ap (λ (b : ℕ). 0x20 ∷ b ∷ bigEndian 8 (part .set)) (mod-eq-of-lt h)
+
+  pub write-number : numberOf (part .stamp) < 2 ^ 32
+      → numberAt 4 (frame d e ++ rest) 10 ≡ numberOf (part .stamp)
+  write-number h =
+      ap₂ (numberAt 4) write-split (sym (length-head 0x20 d (part .set)))
+      ∙ numberAt-append-bigEndian 4 (numberOf (part .stamp)) (head 0x20 d (part .set))
+      (written ++ rest) h
+
+pub length-frame-write : (d : ℕ) (e : Ended) → e .kind ≡ 2 → e .write .set < 2 ^ 64
+    → length (frame d e) ≡ 14 + 4 * count (e .write .set)
+length-frame-write d e kind below =
+    length-frame d e (rw kind refl)
+    ∙ rw kind (omega (arith, length-write (e .write), length-members (e .write .set) 64 below))

@@ -17,7 +17,7 @@ use Rattle.protocol.specs.Message.{partsOf, kindOf, isPrepare, isGet, it
 use Rattle.protocol.specs.Range.{Capacities, valid, sizesInRange, isClient, isIdle, load}
 use Rattle.protocol.specs.Range.{occupied}
 use Rattle.protocol.specs.Steps.{startedRead, startedWrite, deliveredAt, messageAt, stored}
-use Rattle.protocol.specs.Steps.{deliveryOf, gets, prepares, writer, joined}
+use Rattle.protocol.specs.Steps.{deliveryOf, gets, prepares, writer, joined, greatestOf}
 use Rattle.protocol.specs.LogFrame.{frame}
 
 -- The calls that follow a fresh start. A write brings its value bytes, a showing the lent output.
@@ -87,7 +87,7 @@ refusal caps t (startWrite d s bytes) =
     ∷ test 4 (not (isIdle (t .client d)))
     ∷ test 5 (badSet t s)
     ∷ test 6 (not (eqb (length bytes) (4 * count s)))
-    ∷ test 7 (eqb (t .client d .count) 4294967295)
+    ∷ test 7 (eqb (greatestOf t d) 4294967295)
     ∷ test 8 (ltb (caps .load) (load t + count s))
     ∷ test 9 (ltb (caps .versions) (occupied t + count s))
     ∷ [])

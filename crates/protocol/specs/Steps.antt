@@ -12,9 +12,10 @@ use Rattle.protocol.specs.declared.Entry.{Entry}
 use Rattle.protocol.specs.declared.Message.{Message}
 use Rattle.protocol.specs.declared.Message.the-variants.{Prepare, Prepared, Commit, Get, Got}
 use Rattle.protocol.specs.Tables.{Tables, Client, ReadPart, WritePart, Ended, Side, ofRead}
-use Rattle.protocol.specs.Tables.{ofWrite, noRead, noWrite, stampOf, writerOf, laterOf}
-use Rattle.protocol.specs.Tables.{rested, partitionOf, put, withClient, withView, withLatest}
-use Rattle.protocol.specs.Tables.{withVersions, withMessages, withCount, withRead, withWrite}
+use Rattle.protocol.specs.Tables.{ofWrite, noRead, noWrite, stampOf, numberOf, writerOf}
+use Rattle.protocol.specs.Tables.{laterOf, rested, partitionOf, put, withClient, withView}
+use Rattle.protocol.specs.Tables.{withLatest, withVersions, withMessages, withCount, withRead}
+use Rattle.protocol.specs.Tables.{withWrite}
 
 -- ---- Start a read
 
@@ -46,19 +47,29 @@ startedRead t d s = withMessages (withClient t d (reader t d s)) (t .messages ++
 
 -- ---- Start a write
 
--- the stamp that client d's next write makes
+-- the greatest number among the first n entries of a view
+unfoldable pub greatestIn : (ℕ → Entry) → ℕ → ℕ
+greatestIn view zero = 0
+greatestIn view (suc n) = max (greatestIn view n) (numberOf (view n .stamp))
+
+-- 'the greatest among the desk's own count and all numbers in its view' (document 02, P1)
+abbrev pub greatestOf : Tables → ℕ → ℕ
+greatestOf t d = max (t .client d .count) (greatestIn (t .view d) (t .sizes .items))
+
+-- the stamp that client d's next write makes: 'a write's number is 1 more than the greatest'
 abbrev pub nextStamp : Tables → ℕ → ℕ
-nextStamp t d = stampOf (suc (t .client d .count)) d
+nextStamp t d = stampOf (suc (greatestOf t d)) d
 
 -- the value of item k: four bytes for each item of the set, ascending, most significant first. (Of
 -- bytes the remainder is the number itself.)
 abbrev pub valueOf : ℕ → List ℕ → ℕ → ℕ
 valueOf s bytes k = cond (has s k) (numberAt 4 bytes (4 * rank s k) % 2 ^ 32) 0
 
+-- 'and the count becomes that number'
 abbrev pub writer : Tables → ℕ → ℕ → List ℕ → Client
 writer t d s bytes =
     let c = t .client d in
-    withWrite (withRead (withCount c (suc (c .count))) noRead)
+    withWrite (withRead (withCount c (suc (greatestOf t d))) noRead)
     (record { set = s; awaited = s; stamp = nextStamp t d; values = valueOf s bytes })
 
 abbrev pub version : ℕ → ℕ → ℕ → ℕ → Version

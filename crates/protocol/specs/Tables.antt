@@ -76,7 +76,7 @@ abbrev pub showsWrite : ℕ → Bool
 showsWrite kind = leb 2 kind
 
 pub record Client : Type 0 where
-  -- writes started
+  -- the number of its last write started, 0 before the first
   pub count : ℕ
   pub read : ReadPart
   pub write : WritePart

@@ -10,6 +10,7 @@ ghost use Rattle.protocol.specs.Calls.{startRead, startWrite, show, refusal};
 ghost use Rattle.layout.specs.Layout.{header, scalars, at, itemsAt, modeAt};
 ghost use Rattle.layout.specs.Decode.{sizesIn, tablesOf, validBlock};
 ghost use Rattle.gather.specs.Sized.{sizes};
+ghost use Rattle.start.specs.Start.{greatestOn};
 ghost use Rattle.block_calls.specs.Calls.{freshRefusalOn, refusalOn};
 use client_fields::last_kind;
 use client_fields::mode;
@@ -25,6 +26,7 @@ use range::load;
 use range::occupied;
 use range::valid_block;
 use show::frame_length;
+use start::greatest;
 
 // One test: `number` where it applies, else what the tests behind it give.
 fn refuse(number: u64, applies: bool, behind: u64) -> u64
@@ -67,6 +69,15 @@ fn bad_set(b: &[u64], s: u64) -> bool
     (s == 0) | !all_below(s, layout::items(b))
 }
 
+// 7: the greatest number that the client knows is the last one.
+fn no_number_left(b: &[u64], d: u64) -> bool
+    requires { ⌜ (validBlock (now b) ≡ true) × (isClient (sizesIn (now b)) d ≡ true) ⌝ }
+    ensures { λ r. ⌜ r ≡ eqb (greatestOn (now (b .entry)) d (at (now (b .entry)) header itemsAt))
+        4294967295 ⌝ }
+{
+    greatest(b, d, layout::items(b)) == 4294967295
+}
+
 // A read by a client that exists, on a valid block.
 fn of_client_read(b: &[u64], d: u64, s: u64) -> u64
     requires { ⌜ (validBlock (now b) ≡ true) × (isClient (sizesIn (now b)) d ≡ true) ⌝ }
@@ -105,7 +116,7 @@ fn of_client_write(b: &[u64], d: u64, s: u64, bytes: &[u8]) -> u64
 {
     let items = count(s);
     let values = bytes.len() as u64 == 4 * items;
-    let counted = client_fields::count(b, d) == 4294967295;
+    let spent = no_number_left(b, d);
     let full = MOST_MESSAGES < load(b) + items;
     let stored = MOST_VERSIONS < occupied(b) + items;
     refuse(
@@ -117,7 +128,7 @@ fn of_client_write(b: &[u64], d: u64, s: u64, bytes: &[u8]) -> u64
             refuse(
                 6,
                 !values,
-                refuse(7, counted, refuse(8, full, refuse(9, stored, 0))),
+                refuse(7, spent, refuse(8, full, refuse(9, stored, 0))),
             ),
         ),
     )

@@ -15,12 +15,12 @@ use Rattle.protocol.specs.Tables.{Tables, stampOf}
 use Rattle.protocol.specs.Range.{capacities, load}
 use Rattle.protocol.specs.Steps.{version}
 use Rattle.protocol.proofs.Refusals.{AcceptedStart, AcceptedWrite}
-use Rattle.layout.specs.Layout.{mostMessages, scalars, asked, values, at, countAt, itemAt}
+use Rattle.layout.specs.Layout.{mostMessages, scalars, asked, values, at, itemAt}
 use Rattle.layout.specs.Encodes.{Encodes}
 use Rattle.layout.proofs.Room.{HasRoom, room-valid}
 use Rattle.layout.proofs.Past.{SamePast, past-none, past-trans, past-put}
 use Rattle.slots.proofs.PastLists.{past-append-message}
-use Rattle.start.specs.Start.{busy, sendItem, readStarted, writeStarted}
+use Rattle.start.specs.Start.{busy, sendItem, readStarted, greatestOn, writeStarted}
 use Rattle.start.proofs.Started.{read-started, write-started}
 
 -- a pass of messages
@@ -76,7 +76,7 @@ module _ (b : List ℕ) (t : Tables) (d s : ℕ) (bytes : List ℕ) (n : Encodes
   beyond-write =
       let a = w .start in
       let z = t .sizes .items in
-      let number = suc (at b scalars (countAt d)) in
+      let number = suc (greatestOn b d z) in
       let stamp = stampOf number d in
       let put = past-put d (a .client .0) (last b t d s n a) in
       let made : List ℕ → ℕ → Message =

@@ -16,7 +16,7 @@ use Rattle.protocol.specs.declared.Message.{Message}
 use Rattle.protocol.specs.declared.Message.the-variants.{Prepare}
 use Rattle.protocol.specs.Tables.{Tables, withClient, withMessages}
 use Rattle.protocol.specs.Range.{capacities, load}
-use Rattle.protocol.specs.Steps.{version, valueOf, nextStamp, writer, startedWrite}
+use Rattle.protocol.specs.Steps.{version, valueOf, greatestOf, nextStamp, writer, startedWrite}
 use Rattle.protocol.proofs.Put.{put-same}
 use Rattle.protocol.proofs.Refusals.{AcceptedStart, AcceptedWrite}
 use Rattle.layout.specs.Layout.{scalars, values, at, store, countAt, stampAt, itemAt}
@@ -29,6 +29,7 @@ use Rattle.start.specs.Start.{busy, valueItem, writeStarted}
 use Rattle.itemset.proofs.Pass.{filled-at}
 use Rattle.start.proofs.Valued.{bytesOf, valuedWords, valued-changed}
 use Rattle.start.proofs.Sent.{encodes-sent}
+use Rattle.start.proofs.Numbers.{greatest-held}
 use Rattle.start.proofs.Started.{write-started}
 
 -- an item's bytes are its value
@@ -46,7 +47,7 @@ module _ (b : List ℕ) (t : Tables) (d s : ℕ) (bytes : List ℕ) (n : Encodes
 
   -- the write's number and stamp
   abbrev number : ℕ
-  number = suc (t .client d .count)
+  number = suc (greatestOf t d)
 
   some : eqb s 0 ≡ false
   some = ne-eqb s 0 (a .some)
@@ -126,7 +127,7 @@ module _ (b : List ℕ) (t : Tables) (d s : ℕ) (bytes : List ℕ) (n : Encodes
       subst (λ (x : List ℕ). Encodes x (startedWrite t d s bytes))
       (write-started b d s items (length (t .messages)) (sym (n .items))
       (sym (n .messageCount)) bytes number _ _ _ _ _
-      (ap suc (sym (n .client d (a .client .0) (a .client .1) .count))) refl refl refl refl refl)
+      (ap suc (sym (greatest-held b t d n (a .client .0) (a .client .1)))) refl refl refl refl refl)
       (encodes-sent writerBlock busyTables s items (λ x k. prepareOf (at x values (itemAt d k)) k)
       (λ k. prepareOf (valueOf s bytes k) k)
       encodes-writer (room-client t d (writer t d s bytes) room narrow-writer)

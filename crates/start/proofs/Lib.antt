@@ -1,6 +1,7 @@
 -- The laws of the starts: the choice of a stamp, the passes over the items, and that each start is
 -- the protocol's change of the tables.
 pub mod Choice
+pub mod Numbers
 pub mod Started
 pub mod Ready
 pub mod Asked

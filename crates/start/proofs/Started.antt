@@ -6,7 +6,7 @@ use Rattle.basics.specs.Fold.{upTo}
 use Rattle.protocol.specs.Tables.{stampOf}
 use Rattle.layout.specs.Layout.{header, scalars, at, store, itemsAt, messagesAt, countAt, stampAt}
 use Rattle.start.specs.Start.{busy, askItem, sendGet, readStarted, valueItem, sendPrepare}
-use Rattle.start.specs.Start.{writeStarted}
+use Rattle.start.specs.Start.{greatestOn, writeStarted}
 
 module _ (b : List ℕ) (d s items n : ℕ) (i : items ≡ at b header itemsAt)
     (m : n ≡ at b header messagesAt) where
@@ -18,9 +18,9 @@ module _ (b : List ℕ) (d s items n : ℕ) (i : items ≡ at b header itemsAt)
       rw (← i, ← m) (r ∙ ap (λ (x : List ℕ). upTo (sendGet n d s) x items)
       (q ∙ ap (λ (x : List ℕ). busy x d 1 s) p))
 
-  -- the write is the client's `number`-th
+  -- the write has the number after the greatest that its client knows
   pub write-started : (bytes : List ℕ) (number : ℕ) (kept set counted stamped sent : List ℕ)
-      → number ≡ suc (at b scalars (countAt d))
+      → number ≡ suc (greatestOn b d items)
       → kept ≡ upTo (valueItem d s bytes) b items → set ≡ busy kept d 2 s
       → counted ≡ store set scalars (countAt d) number
       → stamped ≡ store counted scalars (stampAt d) (stampOf number d)

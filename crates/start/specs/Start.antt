@@ -1,14 +1,14 @@
 -- The starts of a read and of a write as changes of the block, item by item.
 use mathlib.Core.Bool.{cond}
 use mathlib.Core.List.{List}
-use Prim.Native.Nat.{ℕ, suc, _+_, _*_, _%_, _^_}
+use Prim.Native.Nat.{ℕ, suc, _+_, _*_, _%_, _^_, max}
 use Rattle.basics.specs.Fold.{upTo}
 use Rattle.hex.specs.Number.{numberAt}
 use Rattle.itemset.specs.Set.{has, rank}
 use Rattle.protocol.specs.declared.Message.{Message}
 use Rattle.protocol.specs.declared.Message.the-variants.{Prepare, Get}
 use Rattle.protocol.specs.Tables.{stampOf}
-use Rattle.protocol.specs.Steps.{choice, version}
+use Rattle.protocol.specs.Steps.{choice, greatestIn, version}
 use Rattle.layout.specs.Layout.{header, scalars, asked, values, at, store, itemsAt, messagesAt}
 use Rattle.layout.specs.Layout.{modeAt, countAt, setAt, awaitedAt, stampAt, itemAt}
 use Rattle.layout.specs.Decode.{viewIn}
@@ -43,6 +43,10 @@ readStarted b d s =
 
 -- ---- a write
 
+-- the greatest number among client d's count and its view of the first items
+unfoldable pub greatestOn : List ℕ → ℕ → ℕ → ℕ
+greatestOn b d items = max (at b scalars (countAt d)) (greatestIn (viewIn b d) items)
+
 abbrev pub valueItem : ℕ → ℕ → List ℕ → List ℕ → ℕ → List ℕ
 valueItem d s bytes b k = cond (has s k)
     (store b values (itemAt d k) (numberAt 4 bytes (4 * rank s k) % 2 ^ 32)) b
@@ -54,7 +58,7 @@ sendPrepare n d s stamp b k = sendItem n s
 unfoldable pub writeStarted : List ℕ → ℕ → ℕ → List ℕ → List ℕ
 writeStarted b d s bytes =
     let items = at b header itemsAt in
-    let count = suc (at b scalars (countAt d)) in
+    let count = suc (greatestOn b d items) in
     let stamp = stampOf count d in
     upTo (sendPrepare (at b header messagesAt) d s stamp)
     (store (store (busy (upTo (valueItem d s bytes) b items) d 2 s) scalars (countAt d) count)

@@ -1,7 +1,7 @@
 // The start of a read: the stamp to ask for at each item of the set, and a get for each.
 ghost use mathlib.Core.Bool.{cond};
 ghost use mathlib.Core.Path.{_≡_};
-ghost use Prim.Native.Nat.{_+_, _≤_, _<_, max};
+ghost use Prim.Native.Nat.{_+_, _≤_, _<_};
 ghost use lib.ListN.{length};
 ghost use Rattle.basics.specs.Fold.{upTo};
 ghost use Rattle.itemset.specs.Set.{has, count};
@@ -20,16 +20,12 @@ use layout::VIEWS;
 use layout::entry::view;
 use messages::append;
 use protocol::Message;
+use start::later;
 use start::put_busy;
+use start::seen_stamp;
 
-fn later(x: u64, y: u64) -> u64
-    ensures { λ r. ⌜ r ≡ max x y ⌝ }
-{
-    if x < y { y } else { x }
-}
-
-// The set of entry `i` in the view of client `d`, and its stamp, from a block that is long enough:
-// a choice looks at all sets.
+// The set of entry `i` in the view of client `d`, from a block that is long enough: a choice looks
+// at all sets.
 fn seen_set(b: &[u64], d: u64, i: u64) -> u64
     requires { ⌜ (1 ≤ d) × (d ≤ 8) × (i < 64) × (needed ≤ length (now b)) ⌝ }
     ensures { λ r. ⌜ r ≡ viewIn (now (b .entry)) d i .set ⌝ }
@@ -37,15 +33,6 @@ fn seen_set(b: &[u64], d: u64, i: u64) -> u64
     let place = ENTRY_WORDS * MOST_ITEMS * (d - 1) + ENTRY_WORDS * i;
     let set = (VIEWS + (place + 1)) as usize;
     b[set]
-}
-
-fn seen_stamp(b: &[u64], d: u64, i: u64) -> u64
-    requires { ⌜ (1 ≤ d) × (d ≤ 8) × (i < 64) × (needed ≤ length (now b)) ⌝ }
-    ensures { λ r. ⌜ r ≡ viewIn (now (b .entry)) d i .stamp ⌝ }
-{
-    let place = ENTRY_WORDS * MOST_ITEMS * (d - 1) + ENTRY_WORDS * i;
-    let stamp = (VIEWS + place) as usize;
-    b[stamp]
 }
 
 // The stamp of entry `i` in the view of client `d`, if its write set contains `k`; else the initial

@@ -5,10 +5,8 @@ ghost use Prim.Native.Nat.{_+_, _*_, _^_, _≤_, _<_};
 ghost use lib.ListN.{length};
 ghost use Rattle.basics.specs.Fold.{upTo};
 ghost use Rattle.itemset.specs.Set.{count};
-ghost use Rattle.layout.specs.Layout.{mostMessages, header, scalars, at, itemsAt, messagesAt};
-ghost use Rattle.layout.specs.Layout.{countAt};
-ghost use Rattle.start.specs.Start.{valueItem, sendPrepare, writeStarted};
-use client_fields::count;
+ghost use Rattle.layout.specs.Layout.{mostMessages, needed, header, at, itemsAt, messagesAt};
+ghost use Rattle.start.specs.Start.{greatestOn, valueItem, sendPrepare, writeStarted};
 use client_fields::put_count;
 use client_fields::put_stamp;
 use client_fields::put_value;
@@ -19,6 +17,7 @@ use itemset::rank;
 use messages::append;
 use protocol::Message;
 use protocol::Version;
+use start::greatest;
 use start::put_busy;
 
 // Item `k` of set `s` takes its four bytes as its value.
@@ -81,10 +80,11 @@ fn prepare_items(b: &mut [u64], n: u64, d: u64, s: u64, stamp: u64, items: u64)
 pub fn start_write(b: &mut [u64], d: u64, s: u64, bytes: &[u8], items: u64, n: u64)
     requires { ⌜ (1 ≤ d) × (d ≤ 8) × (items ≤ 64) × (n + count s ≤ mostMessages)
         × (items ≡ at (now b) header itemsAt) × (n ≡ at (now b) header messagesAt)
-        × (at (now b) scalars (countAt d) < 2 ^ 32) × (4 * count s ≤ length (now bytes)) ⌝ }
+        × (greatestOn (now b) d items < 2 ^ 32) × (needed ≤ length (now b))
+        × (4 * count s ≤ length (now bytes)) ⌝ }
     ensures { λ _. ⌜ now (b .exit) ≡ writeStarted (now (b .entry)) d s (now (bytes .entry)) ⌝ }
 {
-    let number = count(b, d) + 1;
+    let number = greatest(b, d, items) + 1;
     let stamp = number * 16 + d;
     keep_items(b, d, s, bytes, items);
     put_busy(b, d, 2, s);

@@ -57,7 +57,7 @@ pub fn sentence(frame: &LogFrame) -> String {
         format!("client {client} shows {}", entries.join("; "))
     });
     let wrote = frame.write.as_ref().map(|WritePart { set, number, values }| {
-        format!("write {number} of client {client}: {}", valued(*set, values))
+        format!("write number {number} of client {client}: {}", valued(*set, values))
     });
     let parts: Vec<String> = shown.into_iter().chain(wrote).collect();
     parts.join("; ")

@@ -7,7 +7,7 @@ const WORDS: [&str; 16] = [
     "the client isn't idle",
     "the set is empty or holds an item that doesn't exist",
     "not as many values as items",
-    "the client has started as many writes as it can count",
+    "the client's count or a number in its view is the greatest, 4,294,967,295",
     "the load would be over 128",
     "stored versions and prepares in flight would be over 512",
     "no message lies at that place",

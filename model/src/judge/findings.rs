@@ -70,7 +70,8 @@ pub fn own_write_missed(log: &[LogFrame], place: usize) -> Option<String> {
                 if own.item == entry.item && entry.stamp < own.stamp {
                     let (source, number) = (source(&entry), own.stamp.number);
                     return Some(format!(
-                        "{source}, and client {client} itself wrote it later: write {number}, log line {line}"
+                        "{source}, and client {client} itself wrote it later: \
+                         write number {number}, log line {line}"
                     ));
                 }
             }
@@ -84,6 +85,6 @@ pub fn source(entry: &Entry) -> String {
     let Stamp { number, client } = entry.stamp;
     match entry.stamp {
         Stamp::INITIAL => format!("item {} initial", entry.item),
-        _ => format!("item {} from write {number} of client {client}", entry.item),
+        _ => format!("item {} from write number {number} of client {client}", entry.item),
     }
 }

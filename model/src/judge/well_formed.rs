@@ -34,13 +34,13 @@ fn wrong_field(frame: &LogFrame, above: &[Result<LogFrame, String>]) -> Option<S
     }
     let number = frame.write.as_ref().map(|write| write.number);
     if number == Some(0) {
-        return Some("write 0, and numbers begin with 1".to_owned());
+        return Some("write number 0, and numbers begin with 1".to_owned());
     }
     number.and_then(|number| not_risen(client, number, above)).or_else(|| {
         let shown = frame.shown();
         let wrong = shown.iter().find(|entry| !is_stamp(entry.stamp))?;
         let (item, Stamp { number, client }) = (wrong.item, wrong.stamp);
-        Some(format!("item {item} from write {number} of client {client}"))
+        Some(format!("item {item} from write number {number} of client {client}"))
     })
 }
 
@@ -60,7 +60,10 @@ fn not_risen(client: u8, number: u32, above: &[Result<LogFrame, String>]) -> Opt
         let frame = frame.as_ref().ok().filter(|frame| frame.client == client)?;
         let earlier = frame.write.as_ref()?.number;
         (earlier >= number).then(|| {
-            format!("write {number} of client {client} below its write {earlier}, log line {line}")
+            format!(
+                "write number {number} of client {client} below its number {earlier}, \
+                 log line {line}"
+            )
         })
     })
 }

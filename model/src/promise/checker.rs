@@ -1,9 +1,11 @@
 //! The walk along the list: each event moves the history on and is held against the clauses.
 
-use super::history::History;
+use super::history::{History, Part};
 use super::{clauses, showings, Clause, Summary};
 use crate::answer::Answer;
 use crate::call::{Call, Event};
+use crate::frames::log::LogFrame;
+use crate::stamp::Stamp;
 
 /// The history and summary of the events so far.
 #[derive(Default)]
@@ -28,6 +30,7 @@ impl Checker {
                 self.history.start_read(place, *client, *set);
             }
             (Call::Write { client, set, values }, Answer::Started { .. }) => {
+                clauses::write_is_later_than_all_shown_before(&self.history, *client)?;
                 self.history.start_write(place, *client, *set, values);
             }
             (Call::Deliver { place: at }, _) => self.deliver(place, *at, answer)?,
@@ -56,11 +59,21 @@ impl Checker {
     }
 
     fn show(&mut self, client: u64, event: &Event, answer: Answer) -> Result<(), Clause> {
-        if let Some(written) = showings::check(&self.history, client, event, answer)? {
-            self.summary.reads_shown += 1;
-            self.summary.written_entries_shown += written;
+        if let Some(frame) = showings::check(&self.history, client, event, answer)? {
+            self.history.show(client, &frame);
+            self.sum_up_showing(client, &frame);
         }
         Ok(())
+    }
+
+    fn sum_up_showing(&mut self, client: u64, frame: &LogFrame) {
+        let summary = &mut self.summary;
+        let written = frame.shown().into_iter().filter(|entry| entry.stamp != Stamp::INITIAL);
+        summary.reads_shown += usize::from(frame.read.is_some());
+        summary.written_entries_shown += written.count();
+        if let Some(Part::Write(write)) = self.history.last_ended(client).map(|last| &last.part) {
+            summary.corrections += usize::from(![0, client].contains(&write.after.client));
+        }
     }
 
     fn sum_up(&mut self, answer: Answer) {

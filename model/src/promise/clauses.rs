@@ -88,6 +88,14 @@ pub(super) fn write_ends_with_its_last_prepared_alone(
     holds(outcome < 2 || outcome == 2 && writes > 0, Clause::WriteEnd)
 }
 
+/// The client's next write is later than every entry that it was shown.
+pub(super) fn write_is_later_than_all_shown_before(
+    history: &History,
+    client: u64,
+) -> Result<(), Clause> {
+    holds(history.next_stamp(client) > history.latest_shown(client), Clause::OlderThanShown)
+}
+
 /// The length answered is that of the list.
 pub(super) fn length_is_that_of_the_list(history: &History, answer: Answer) -> Result<(), Clause> {
     match answer {

@@ -1,11 +1,14 @@
 //! The list of labels beside the calls: which message lies where, and whose it is.
 //!
 //! A message is of the client whose start put it there, or of the same client as the message whose
-//! delivery did.
+//! delivery did. With the labels go the numbers that make a write's: a client learns a number by
+//! writing, and by a got, which has that of its item's latest write when the get was delivered.
 
 use crate::frames::hex;
+use crate::frames::log::LogFrame;
 use crate::set::{items, size};
 use crate::stamp::Stamp;
+use std::collections::BTreeMap;
 
 /// The kinds of message, with their numbers.
 #[derive(Clone, Copy, Debug, PartialEq, Eq)]
@@ -28,6 +31,8 @@ pub(super) struct Label {
     pub(super) transaction: usize,
     /// Of a got, the event that delivered the get behind it.
     pub(super) answered: usize,
+    /// Of a got, the number of its item's latest write at that event.
+    latest: u64,
 }
 
 /// A reply of a read: its item, and the event that delivered the get behind it.
@@ -49,6 +54,8 @@ pub(super) struct Read {
 /// A write from its accepted start.
 #[derive(Clone, Debug)]
 pub(super) struct Write {
+    /// The latest stamp that its client had been shown before its start.
+    pub(super) after: Stamp,
     pub(super) stamp: Stamp,
     /// Item and value, ascending.
     pub(super) values: Vec<(u64, u32)>,
@@ -91,6 +98,12 @@ pub(super) struct History {
     partitions: u64,
     pub(super) messages: Vec<Label>,
     pub(super) transactions: Vec<Transaction>,
+    /// By item: the greatest number of a write of it whose commit at its partition was delivered.
+    committed: BTreeMap<u64, u64>,
+    /// By client: the greatest number that it has written or learnt of.
+    known: BTreeMap<u64, u64>,
+    /// By client: the latest stamp among all entries that showings gave it, its own writes' too.
+    shown: BTreeMap<u64, Stamp>,
 }
 
 impl History {
@@ -111,22 +124,39 @@ impl History {
     pub(super) fn start_write(&mut self, event: usize, client: u64, set: u64, values: &[u8]) {
         let items: Vec<u64> = items(set).collect();
         let values = values.chunks_exact(4).map(|value| hex::number(value) as u32);
-        let number = 1 + self.writes().filter(|(of, _)| of.client == client).count();
         let write = Write {
-            stamp: Stamp::new(number as u64, client),
+            after: self.latest_shown(client),
+            stamp: self.next_stamp(client),
             values: items.iter().copied().zip(values).collect(),
             unstored: items.clone(),
             unprepared: items,
             stored: None,
         };
+        self.learn(client, write.stamp.number);
         self.start(event, client, set, Part::Write(write), Kind::Prepare);
+    }
+
+    /// The stamp of the client's next write: 1 more than the greatest number that it knows.
+    pub(super) fn next_stamp(&self, client: u64) -> Stamp {
+        Stamp::new(1 + self.known.get(&client).copied().unwrap_or_default(), client)
+    }
+
+    /// The latest stamp that the client has been shown.
+    pub(super) fn latest_shown(&self, client: u64) -> Stamp {
+        self.shown.get(&client).copied().unwrap_or_default()
+    }
+
+    fn learn(&mut self, client: u64, number: u64) {
+        let known = self.known.entry(client).or_default();
+        *known = number.max(*known);
     }
 
     fn start(&mut self, event: usize, client: u64, set: u64, part: Part, kind: Kind) {
         let transaction = self.transactions.len();
         self.transactions.push(Transaction { client, set, started: event, ended: None, part });
         for item in items(set) {
-            self.messages.push(Label { kind, client, item, transaction, answered: 0 });
+            let label = Label { kind, client, item, transaction, answered: 0, latest: 0 };
+            self.messages.push(label);
         }
     }
 
@@ -141,12 +171,16 @@ impl History {
                         write.stored = Some(event);
                     }
                 }
-                self.join(label, Kind::Prepared, label.item, 0);
+                self.join(label, Kind::Prepared, label.item);
             }
             Kind::Prepared => self.deliver_prepared(label),
-            Kind::Commit => (),
-            Kind::Get => self.join(label, Kind::Got, label.item, event),
+            Kind::Commit => self.deliver_commit(label),
+            Kind::Get => {
+                let latest = self.committed.get(&label.item).copied().unwrap_or_default();
+                self.join(Label { answered: event, latest, ..label }, Kind::Got, label.item);
+            }
             Kind::Got => {
+                self.learn(label.client, label.latest);
                 for read in self.running_reads_mut(label.client) {
                     read.replies.push(Reply { item: label.item, answered: label.answered });
                 }
@@ -165,14 +199,25 @@ impl History {
             let set = of.set;
             for partition in 0..self.partitions {
                 if items(set).any(|item| item % self.partitions == partition) {
-                    self.join(label, Kind::Commit, partition, 0);
+                    self.join(label, Kind::Commit, partition);
                 }
             }
         }
     }
 
-    fn join(&mut self, sender: Label, kind: Kind, item: u64, answered: usize) {
-        self.messages.push(Label { kind, item, answered, ..sender });
+    fn deliver_commit(&mut self, label: Label) {
+        let of = &self.transactions[label.transaction];
+        let Part::Write(write) = &of.part else {
+            return;
+        };
+        for item in items(of.set).filter(|item| item % self.partitions == label.item) {
+            let committed = self.committed.entry(item).or_default();
+            *committed = write.stamp.number.max(*committed);
+        }
+    }
+
+    fn join(&mut self, sender: Label, kind: Kind, item: u64) {
+        self.messages.push(Label { kind, item, ..sender });
     }
 
     /// A delivery of the client's message reported an end.
@@ -199,13 +244,17 @@ impl History {
         })
     }
 
+    /// An accepted showing gave this frame of the client's transaction that ended last.
+    pub(super) fn show(&mut self, client: u64, frame: &LogFrame) {
+        let (written, shown) = (frame.written(), frame.shown());
+        let latest = self.shown.entry(client).or_default();
+        *latest = written.iter().chain(&shown).map(|entry| entry.stamp).fold(*latest, Stamp::max);
+    }
+
     /// The client's transaction that ended last, if none of it is running.
     pub(super) fn last_ended(&self, client: u64) -> Option<&Transaction> {
-        if self.running(client).next().is_some() {
-            return None;
-        }
-        let all = self.transactions.iter();
-        all.filter(|of| of.client == client).max_by_key(|of| of.ended)
+        let last = self.transactions.iter().rfind(|of| of.client == client);
+        last.filter(|of| of.ended.is_some())
     }
 
     /// All accepted writes so far.

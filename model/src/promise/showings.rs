@@ -8,14 +8,13 @@ use crate::frames::log::{Entry, LogFrame};
 use crate::set::size;
 use crate::stamp::Stamp;
 
-/// Checks a showing; of an accepted one of a read, gives how many entries it shows that are not
-/// initial.
+/// Checks a showing, and gives the frame of an accepted one.
 pub(super) fn check(
     history: &History,
     client: u64,
     event: &Event,
     answer: Answer,
-) -> Result<Option<usize>, Clause> {
+) -> Result<Option<LogFrame>, Clause> {
     let Some(last) = history.last_ended(client) else {
         return match answer {
             Answer::Shown { .. } => Err(Clause::Frame),
@@ -30,8 +29,8 @@ pub(super) fn check(
     let frame = LogFrame::parse(frame.ok_or(Clause::Frame)?).map_err(|_| Clause::Frame)?;
     match &last.part {
         Part::Write(write) => {
+            later_than_all_shown_before(write, &frame)?;
             frame_is_that_of_the_write(last, write, &frame)?;
-            Ok(None)
         }
         Part::Read(read) => {
             let entries = entries_of_the_read(last, &frame)?;
@@ -48,9 +47,9 @@ pub(super) fn check(
             for entry in &entries {
                 no_own_write_is_missed(history, last, entry)?;
             }
-            Ok(Some(writes.len()))
         }
     }
+    Ok(Some(frame))
 }
 
 /// A showing with room enough after an end and before the client's next start is accepted.
@@ -81,6 +80,15 @@ fn frame_is_that_of_the_write(
         Ok(())
     } else {
         Err(Clause::Frame)
+    }
+}
+
+/// A write is shown with a later stamp than every entry that its client was shown before its start.
+fn later_than_all_shown_before(write: &Write, frame: &LogFrame) -> Result<(), Clause> {
+    if frame.written().iter().all(|entry| entry.stamp > write.after) {
+        Ok(())
+    } else {
+        Err(Clause::OlderThanShown)
     }
 }
 

@@ -1,6 +1,7 @@
 //! The five calls. Any number may be passed; a refusal changes nothing.
 
 use super::fault::Fault;
+use super::range::GREATEST;
 use super::refusals;
 use super::shown::shown_frame;
 use super::tables::{Sizes, Tables};
@@ -52,7 +53,12 @@ impl Store {
 
     /// Starts a write of the set, with four value bytes for each of its items, ascending.
     pub fn start_write(&mut self, client: u64, set: u64, values: &[u8]) -> Answer {
-        let refusal = refusals::start_write(&self.tables, client, set, values);
+        let refusal = match self.fault {
+            Some(Fault::SevenByCount) => {
+                refusals::start_write(&self.with_smaller_views(), client, set, values)
+            }
+            _ => refusals::start_write(&self.tables, client, set, values),
+        };
         if let Some(refusal) = self.spoilt(refusal, 9) {
             return Answer::Refused(refusal);
         }
@@ -93,6 +99,16 @@ impl Store {
     fn answered_length(&self) -> u64 {
         let made_up = u64::from(self.has(Fault::LengthMadeUp));
         self.tables.messages.len() as u64 + made_up
+    }
+
+    /// The tables, with no view that alone would give 7.
+    fn with_smaller_views(&self) -> Tables {
+        let mut tables = self.tables.clone();
+        let seen = tables.view.iter_mut().flatten().map(|entry| &mut entry.stamp.number);
+        for number in seen.filter(|number| **number == GREATEST) {
+            *number -= 1;
+        }
+        tables
     }
 
     /// The refusal, unless a fault gives another: `full` is what a full store answers, 0 if it

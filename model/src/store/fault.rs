@@ -24,4 +24,12 @@ pub enum Fault {
     TurnsAllAway,
     /// Every start that could be accepted is told that the store is full.
     FullWhileEmpty,
+    /// A write's number is the one after the count, whatever its client has read.
+    CountAlone,
+    /// A write's number goes by the view entries of the items written alone.
+    WrittenViewAlone,
+    /// The count rises by 1, and the stamp alone takes the greater number.
+    CountByOne,
+    /// 7 is tested on the count alone.
+    SevenByCount,
 }

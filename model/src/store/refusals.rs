@@ -37,7 +37,7 @@ pub(super) fn start_write(tables: &Tables, client: u64, set: u64, values: &[u8])
         (4, &|| tables.client(client).mode != IDLE),
         (5, &|| set == 0 || !tables.holds_only_existing(set)),
         (6, &|| values.len() as u64 != 4 * size(set)),
-        (7, &|| tables.client(client).count == GREATEST),
+        (7, &|| tables.greatest_number(client) == GREATEST),
         (8, &|| tables.load() + size(set) > LOAD_CAPACITY),
         (9, &|| tables.versions_and_prepares() + size(set) > VERSION_CAPACITY),
     ])

@@ -35,10 +35,11 @@ impl Store {
         chosen
     }
 
-    /// The count rises and with the client makes the stamp; one prepare per item, ascending.
+    /// The next number becomes the count and with the client makes the stamp; one prepare per item,
+    /// ascending.
     pub(super) fn step_start_write(&mut self, client: u64, set: u64, given: &[u8]) {
-        let count = self.tables.client(client).count + 1;
-        let stamp = Stamp::new(count, client);
+        let number = self.next_number(client, set);
+        let stamp = Stamp::new(number, client);
         let mut stamps = [Stamp::INITIAL; ITEMS];
         let mut values = [0; ITEMS];
         for (item, value) in items(set).zip(given.chunks(4)) {
@@ -47,10 +48,25 @@ impl Store {
             values[item as usize] = value;
             self.tables.messages.push(Message::Prepare(Version { item, value, stamp, set }));
         }
+        let by_one = self.has(Fault::CountByOne);
         let record = self.tables.client_mut(client);
+        let count = if by_one { record.count + 1 } else { number };
         *record = Client { mode: WRITING, count, set, awaited: set, stamps, values, ..*record };
         if self.has(Fault::ViewAtStart) {
             self.see_own_write(client, stamp, set);
+        }
+    }
+
+    /// 1 more than the greatest among the client's count and all numbers in its view.
+    fn next_number(&self, client: u64, set: u64) -> u64 {
+        let count = self.tables.client(client).count;
+        let view = self.tables.view(client);
+        1 + match self.fault {
+            Some(Fault::CountAlone) => count,
+            Some(Fault::WrittenViewAlone) => {
+                items(set).map(|item| view[item as usize].stamp.number).fold(count, u64::max)
+            }
+            _ => self.tables.greatest_number(client),
         }
     }
 

@@ -60,7 +60,7 @@ pub const WRITING: u64 = 2;
 #[derive(Clone, Copy, Debug, PartialEq, Eq)]
 pub struct Client {
     pub mode: u64,
-    /// Writes started.
+    /// The number of its last write, 0 before the first.
     pub count: u64,
     pub set: u64,
     /// The items of the set whose last message has not come.
@@ -107,7 +107,7 @@ impl Client {
     /// Idle, nothing written, nothing ended.
     pub const INITIAL: Client = Client::resting(0, Ended::NONE);
 
-    /// Idle, with no set, after so many writes started and with this transaction ended last.
+    /// Idle, with no set, with this count and with this transaction ended last.
     pub const fn resting(count: u64, last: Ended) -> Client {
         Client {
             mode: IDLE,
@@ -183,6 +183,12 @@ impl Tables {
     /// The partition that an item lies in.
     pub fn partition_of(&self, item: u64) -> u64 {
         item % self.sizes.partitions
+    }
+
+    /// The greatest among the client's count and all numbers in its view.
+    pub fn greatest_number(&self, client: u64) -> u64 {
+        let seen = self.view(client).iter().map(|entry| entry.stamp.number);
+        seen.fold(self.client(client).count, u64::max)
     }
 
     /// Messages, and for each writing client the prepared replies that have come.

@@ -1,7 +1,7 @@
 //! Blocks at and just below a capacity.
 
 use super::Busy;
-use crate::stamp::Stamp;
+use crate::stamp::{Entry, Stamp};
 use crate::store::message::Message;
 use crate::store::tables::{Client, Sizes, Tables, Version, WRITING};
 
@@ -10,11 +10,11 @@ const VERSION: Version = Version { item: 3, value: 9, stamp: STAMP, set: 0b1000 
 const GET: Message = Message::Get { client: 2, item: 3, stamp: Stamp::INITIAL };
 
 /// Blocks full of messages, of messages and replies, of versions, and of versions and prepares,
-/// some that the widest start fills, and some whose count is the greatest; and the same with 1, 2
-/// and 3 less.
+/// some that the widest start fills, and some whose count or a number in whose view is the
+/// greatest; and the same with 1, 2 and 3 less. The first seven are at the brim.
 pub fn brimming() -> Vec<Busy> {
-    let sorts: [fn(usize) -> Tables; 6] =
-        [messages, room_for_the_widest_start, replies, versions, prepares, count];
+    let sorts: [fn(usize) -> Tables; 7] =
+        [messages, room_for_the_widest_start, replies, versions, prepares, count, seen];
     let mut brimming = Vec::new();
     for less in 0..4 {
         for (place, sort) in sorts.iter().enumerate() {
@@ -71,5 +71,13 @@ fn prepares(less: usize) -> Tables {
 fn count(less: usize) -> Tables {
     let mut tables = small();
     tables.client_mut(1).count = u64::from(u32::MAX) - less as u64;
+    tables
+}
+
+/// Client 1 has seen client 2's write of item 3.
+fn seen(less: usize) -> Tables {
+    let mut tables = small();
+    let stamp = Stamp::new(u64::from(u32::MAX) - less as u64, 2);
+    tables.view_mut(1)[3] = Entry::new(stamp, 0b1000);
     tables
 }

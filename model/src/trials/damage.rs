@@ -5,7 +5,7 @@ mod choices;
 use super::agreement::{agree, refused};
 use super::{Busy, Difference, Met};
 use crate::block::Calls;
-use crate::layout::decode;
+use crate::layout::{decode, Sort};
 use crate::random::Random;
 use crate::store::range::is_usable;
 use choices::Chooser;
@@ -62,6 +62,7 @@ pub(super) fn spoil(words: &mut [u64], busy: &Busy, random: &mut Random) -> usiz
     };
     let word = words[place];
     let sizes = &busy.tables.sizes;
+    let stamp = Sort::Stamp.greatest(sizes);
     words[place] = match random.below(8) {
         0 => word ^ 1 << random.below(64),
         1 => word ^ 1 << random.below(sizes.items),
@@ -69,7 +70,7 @@ pub(super) fn spoil(words: &mut [u64], busy: &Busy, random: &mut Random) -> usiz
         3 => word.wrapping_add(1),
         4 => word.wrapping_sub(1),
         5 => random.below(20),
-        6 => random.pick(&[1 << 32, u64::from(u32::MAX), 1 << 63, u64::MAX, sizes.items]),
+        6 => random.pick(&[1 << 32, u64::from(u32::MAX), 1 << 63, u64::MAX, sizes.items, stamp]),
         _ => words[busy.some_place(random)],
     };
     place

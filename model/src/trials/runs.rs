@@ -18,6 +18,7 @@ pub struct Runs {
     pub longest: usize,
     pub reads_shown: usize,
     pub written_entries_shown: usize,
+    pub corrections: usize,
     pub greatest_load: u64,
     pub most_versions: usize,
 }
@@ -59,6 +60,7 @@ fn random_run(
     runs.longest = runs.longest.max(run.events.len());
     runs.reads_shown += summary.reads_shown;
     runs.written_entries_shown += summary.written_entries_shown;
+    runs.corrections += summary.corrections;
     runs.greatest_load = runs.greatest_load.max(run.greatest_load);
     runs.most_versions = runs.most_versions.max(run.most_versions);
     Ok(())

@@ -37,7 +37,7 @@ fn a_write_whose_values_are_not_as_many_as_its_items_says_how_many_there_are() {
 fn a_shown_write_is_said() {
     assert_eq!(
         said("0501", "0020010000000000000003000000020000000700000008"),
-        "client 1 is asked what it ended last: write 2 of client 1: item 0, value 7; item 1, value 8"
+        "client 1 is asked what it ended last: write number 2 of client 1: item 0, value 7; item 1, value 8"
     );
 }
 
@@ -58,7 +58,10 @@ fn every_refusal_is_said() {
         ("04", "refused by 4: the client isn't idle"),
         ("05", "refused by 5: the set is empty or holds an item that doesn't exist"),
         ("06", "refused by 6: not as many values as items"),
-        ("07", "refused by 7: the client has started as many writes as it can count"),
+        (
+            "07",
+            "refused by 7: the client's count or a number in its view is the greatest, 4,294,967,295",
+        ),
         ("08", "refused by 8: the load would be over 128"),
         ("09", "refused by 9: stored versions and prepares in flight would be over 512"),
         ("0a", "refused by 10: no message lies at that place"),

@@ -19,10 +19,10 @@ fn a_write_and_reads() {
 210800000000000000018000000008ffffffff
 ";
     let said = "\
-log line 1: write 1 of client 1: item 0, value 7; item 1, value 8
-log line 2: client 2 shows item 0 from write 1 of client 1, value 7; item 1 initial
-log line 3: client 2 shows item 1 from write 1 of client 1, value 8
-log line 4: client 8 shows item 0 from write 2147483648 of client 8, value 4294967295
+log line 1: write number 1 of client 1: item 0, value 7; item 1, value 8
+log line 2: client 2 shows item 0 from write number 1 of client 1, value 7; item 1 initial
+log line 3: client 2 shows item 1 from write number 1 of client 1, value 8
+log line 4: client 8 shows item 0 from write number 2147483648 of client 8, value 4294967295
 ";
     assert_lines(text, said);
 }

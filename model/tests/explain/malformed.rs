@@ -99,18 +99,27 @@ fn the_fields_of_a_log_line() {
         ("21090000000000000001000000000000000000\n".to_owned(), "client 9, and clients are 1 to 8"),
         ("2001000000000000000000000001\n".to_owned(), "its set is empty"),
         ("21010000000000000000\n".to_owned(), "its set is empty"),
-        ("2001000000000000000100000000000000a9\n".to_owned(), "write 0, and numbers begin with 1"),
-        (format!("{write}{write}"), "write 2 of client 1 below its write 2, log line 1"),
+        (
+            "2001000000000000000100000000000000a9\n".to_owned(),
+            "write number 0, and numbers begin with 1",
+        ),
+        (format!("{write}{write}"), "write number 2 of client 1 below its number 2, log line 1"),
         (
             format!("{write}bad\n2001000000000000000100000001000000a9\n"),
-            "write 1 of client 1 below its write 2, log line 1",
+            "write number 1 of client 1 below its number 2, log line 1",
         ),
         (
             "21020000000000000003000000000000000000000000000100000000\n".to_owned(),
-            "item 1 from write 0 of client 1",
+            "item 1 from write number 0 of client 1",
         ),
-        ("21020000000000000001000000010000000000\n".to_owned(), "item 0 from write 1 of client 0"),
-        ("21020000000000000001000000010900000000\n".to_owned(), "item 0 from write 1 of client 9"),
+        (
+            "21020000000000000001000000010000000000\n".to_owned(),
+            "item 0 from write number 1 of client 0",
+        ),
+        (
+            "21020000000000000001000000010900000000\n".to_owned(),
+            "item 0 from write number 1 of client 9",
+        ),
     ];
     for (text, wrong) in lines {
         assert_eq!(line(text.as_bytes()), wrong);

@@ -97,8 +97,8 @@ pub const SESSION: [(&str, &str, &str); 19] = [
     (
         "0502",
         "0021020000000000000003000000010100000007000000010100000008",
-        "client 2 is asked what it ended last: client 2 shows item 0 from write 1 of client 1, value 7; \
-         item 1 from write 1 of client 1, value 8",
+        "client 2 is asked what it ended last: client 2 shows item 0 from write number 1 of client 1, value 7; \
+         item 1 from write number 1 of client 1, value 8",
     ),
 ];
 

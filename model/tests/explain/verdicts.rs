@@ -20,8 +20,8 @@ fn clean() {
 fn fractured() {
     assert_eq!(
         said(&[WRITE, HALF_READ].concat(), "00020002"),
-        "verdict: log line 2 is fractured: it shows item 0 from write 1 of client 1, which also wrote item 1, \
-         and item 1 older"
+        "verdict: log line 2 is fractured: it shows item 0 from write number 1 of client 1, \
+         which also wrote item 1, and item 1 older"
     );
 }
 
@@ -31,17 +31,20 @@ fn unwritten() {
         (
             HALF_READ.to_owned(),
             "00010001",
-            "log line 1 is unwritten: it shows item 0 from write 1 of client 1, a write that the log doesn't have",
+            "log line 1 is unwritten: it shows item 0 from write number 1 of client 1, \
+             a write that the log doesn't have",
         ),
         (
             [WRITE, "21020000000000000004000000010100000007\n"].concat(),
             "00010002",
-            "log line 2 is unwritten: it shows item 2 from write 1 of client 1, which didn't write that item",
+            "log line 2 is unwritten: it shows item 2 from write number 1 of client 1, \
+             which didn't write that item",
         ),
         (
             [WRITE, "21020000000000000002000000010100000007\n"].concat(),
             "00010002",
-            "log line 2 is unwritten: it shows item 1 from write 1 of client 1 with value 7, which wrote 8 there",
+            "log line 2 is unwritten: it shows item 1 from write number 1 of client 1 with value 7, \
+             which wrote 8 there",
         ),
         (
             "21020000000000000001000000000000000005\n".to_owned(),
@@ -60,15 +63,15 @@ fn own_write_missed() {
     assert_eq!(
         said(&[WRITE, initial].concat(), "00030002"),
         "verdict: log line 2 misses an own write: it shows item 0 initial, and client 1 itself wrote it later: \
-         write 1, log line 1"
+         write number 1, log line 1"
     );
     let own = "200100000000000000010000000500000009\n";
     let other = "200300000000000000010000000400000006\n";
     let read = "21010000000000000001000000040300000006\n";
     assert_eq!(
         said(&[WRITE, own, other, read].concat(), "00030004"),
-        "verdict: log line 4 misses an own write: it shows item 0 from write 4 of client 3, and client 1 itself \
-         wrote it later: write 5, log line 2"
+        "verdict: log line 4 misses an own write: it shows item 0 from write number 4 of client 3, \
+         and client 1 itself wrote it later: write number 5, log line 2"
     );
 }
 

@@ -102,4 +102,19 @@ fn the_words_of_the_session() {
         (5392, &commit),
     ];
     assert_words(&store, &[&written[..], &read_again].concat());
+
+    // Client 2 has seen number 1, so its first write has number 2, and its count is 2.
+    store.start_write(2, 0b100, &[0, 0, 0, 9]);
+    let prepare: [u64; 8] = [1, 0, 2, 9, 34, 4, 0, 0];
+    let writing: [(usize, &[u64]); 8] = [
+        (0, &[2, 2, 3, 2, 2]),
+        (32, &[2, 2, 4, 4, 34, 1, 6]),
+        (400, &[17, 3]),
+        (1874, &[9]),
+        (2385, &[17]),
+        (2897, &[8]),
+        (5392, &commit),
+        (5400, &prepare),
+    ];
+    assert_words(&store, &[&written[..], &writing].concat());
 }

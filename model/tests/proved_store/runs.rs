@@ -17,6 +17,7 @@ fn small_stores() {
     assert!(runs.met.rarest_accepted() >= 4_600, "{runs:?}");
     runs.met.assert_refused(&[1, 2, 3, 4, 5, 6, 10, 13, 14], 500);
     assert!(runs.written_entries_shown >= 40_000, "{runs:?}");
+    assert!(runs.corrections >= 1_000, "{runs:?}");
 }
 
 #[test]
@@ -35,4 +36,5 @@ fn crowded_stores_of_some_thousand_calls() {
     runs.met.assert_refused(&[1, 2, 3, 4, 5, 6, 8, 9, 10, 13, 14], 20);
     assert_eq!((runs.greatest_load, runs.most_versions), (128, 512));
     assert!(runs.written_entries_shown >= 2_000, "{runs:?}");
+    assert!(runs.corrections >= 30, "{runs:?}");
 }

@@ -93,3 +93,30 @@ fn a_write_is_shown_with_the_values_of_its_start() {
                  00000001deadbeef\n";
     assert_eq!(run(input), shown);
 }
+
+/// Client 2 writes 5 and then 6; client 1 learns of it, reads 6 and corrects it to 7. It is its
+/// first write, and later than both: so client 1 reads it next, and client 2 once it has learnt of
+/// it.
+#[test]
+fn a_correction_by_a_client_that_has_written_less_is_what_is_read_next() {
+    let write = "000001\n0001000100\n0002000102\n0003000000\n";
+    let read = "000001\n0004000100\n0005000001\n";
+    let steps = [
+        ("01020101\n", "00\n"),
+        ("0302000000000000000100000005\n040000\n040000\n040000\n", write),
+        ("0302000000000000000100000006\n040000\n040000\n040000\n", write),
+        ("02010000000000000001\n040000\n040000\n", read),
+        ("02010000000000000001\n040000\n040000\n", read),
+        ("0501\n", "0021010000000000000001000000020200000006\n"),
+        ("0301000000000000000100000007\n040000\n040000\n040000\n", write),
+        ("0501\n", "00200100000000000000010000000300000007\n"),
+        ("02010000000000000001\n040000\n040000\n", read),
+        ("0501\n", "0021010000000000000001000000030100000007\n"),
+        ("02020000000000000001\n040000\n040000\n", read),
+        ("0502\n", "0021020000000000000001000000020200000006\n"),
+        ("02020000000000000001\n040000\n040000\n", read),
+        ("0502\n", "0021020000000000000001000000030100000007\n"),
+    ];
+    let (input, output): (Vec<&str>, Vec<&str>) = steps.into_iter().unzip();
+    assert_eq!(run(input.concat().as_bytes()), output.concat());
+}

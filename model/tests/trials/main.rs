@@ -24,7 +24,7 @@ fn runs(served: &dyn Calls) -> Result<Runs, Difference> {
     Ok(runs)
 }
 
-/// Damages of blocks of every sort.
+/// Damages of blocks of every sort, from runs and unlike any that calls leave.
 fn damages(served: &dyn Calls) -> Result<Damaged, Difference> {
     let mut random = Random::new(1);
     let mut damaged = Damaged::default();
@@ -33,6 +33,9 @@ fn damages(served: &dyn Calls) -> Result<Damaged, Difference> {
             let busy = Busy::new(sort, seed);
             damaged_blocks(served, &busy, 60, &mut random, &mut damaged)?;
         }
+    }
+    for seed in 95..125 {
+        damaged_blocks(served, &Busy::unlike_any(seed), 60, &mut random, &mut damaged)?;
     }
     Ok(damaged)
 }
@@ -43,7 +46,7 @@ fn edge_calls(served: &dyn Calls) -> Result<Met, Difference> {
     for seed in 0..4 {
         edges(served, &Busy::new(Sort::Small, seed), &mut met)?;
     }
-    for busy in brimming().iter().take(6) {
+    for busy in brimming().iter().take(7) {
         edges(served, busy, &mut met)?;
     }
     Ok(met)
@@ -57,7 +60,7 @@ fn range(valid: &Valid) -> Result<Judged, Difference> {
         let small = Busy::new(Sort::Small, seed);
         every_field(valid, &small, &mut random, &mut judged)?;
     }
-    for busy in brimming().iter().take(6) {
+    for busy in brimming().iter().take(7) {
         every_field(valid, busy, &mut random, &mut judged)?;
         random_words(valid, busy, 500, &mut random, &mut judged)?;
     }

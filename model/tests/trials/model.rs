@@ -9,13 +9,14 @@ fn runs_meet_every_call_and_most_refusals() {
     assert!(runs.met.rarest_accepted() >= 100, "{runs:?}");
     runs.met.assert_refused(&[1, 2, 3, 4, 5, 6, 8, 9, 10, 13, 14], 1);
     assert!(runs.longest >= 3_000, "{runs:?}");
+    assert!(runs.corrections >= 50, "{runs:?}");
 }
 
 #[test]
 fn damages_meet_every_call_and_refusal() {
     let damaged = crate::damages(&Modelled::default()).expect("the model's own answers");
     assert!(damaged.met.rarest_accepted() >= 30, "{damaged:?}");
-    damaged.met.assert_refused(&[1, 2, 3, 4, 5, 6, 8, 10, 11, 12, 13, 14], 1);
+    damaged.met.assert_refused(&[1, 2, 3, 4, 5, 6, 7, 8, 10, 11, 12, 13, 14], 1);
     assert!(damaged.valid >= 1_000, "{damaged:?}");
 }
 

@@ -61,7 +61,8 @@ fn edges_catch_narrow_numbers_and_short_blocks() {
     }
 }
 
-/// The shortcuts that document 01 forbids and the stores of the buyer's note.
+/// The shortcuts that document 01 forbids, the stores of the buyer's note, and those that number
+/// writes otherwise than document 02, P1.
 #[test]
 fn runs_and_damages_catch_every_wrong_store() {
     for fault in [
@@ -75,9 +76,20 @@ fn runs_and_damages_catch_every_wrong_store() {
         Fault::LengthMadeUp,
         Fault::TurnsAllAway,
         Fault::FullWhileEmpty,
+        Fault::CountAlone,
+        Fault::WrittenViewAlone,
+        Fault::CountByOne,
     ] {
         let wrong = Modelled { fault: Some(fault) };
         assert!(runs(&wrong).is_err(), "{fault:?}");
         assert!(damages(&wrong).is_err(), "{fault:?}");
     }
+}
+
+/// No run comes near the greatest number; damages and edges have it in views.
+#[test]
+fn damages_and_edges_catch_7_tested_on_the_count_alone() {
+    let wrong = Modelled { fault: Some(Fault::SevenByCount) };
+    assert!(damages(&wrong).is_err());
+    assert!(edge_calls(&wrong).is_err());
 }

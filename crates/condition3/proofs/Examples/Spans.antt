@@ -19,7 +19,8 @@ use Rattle.protocol.specs.Range.{capacities, valid, inRange, stampInRange, size
 use Rattle.protocol.specs.Range.{entryInRange, versionInRange, messageInRange, endedInRange}
 use Rattle.protocol.specs.Range.{clientInRange, readPartInRange, writePartInRange, arrived}
 use Rattle.protocol.specs.Range.{total, load, occupied}
-use Rattle.protocol.specs.Steps.{choice, stored, found, delivered, joined, touches}
+use Rattle.protocol.specs.Steps.{nextStamp, greatestIn, choice, stored, found, delivered}
+use Rattle.protocol.specs.Steps.{joined, touches}
 use Rattle.protocol.specs.LogFrame.{listed, readBytes, writeBytes, frame}
 use Rattle.protocol.specs.Calls.{Call, startRead, startWrite, deliver, show, first, refusal}
 use Rattle.protocol.specs.Calls.{unexpected, missing, isNothing, outcomeOf, effect, reply}
@@ -29,8 +30,9 @@ use Rattle.condition3.specs.World.{leaving, staying, begun, withoutAll, 
 use Rattle.condition3.specs.World.{leavingOver, isRequest, isReply, isReplyFor, isReadMessage}
 use Rattle.condition3.specs.World.{outcomeIn, delivers, endsFor, stays, startsFor, rests}
 use Rattle.protocol.proofs.Examples.Table.{same}
-use Rattle.condition3.specs.Condition3.{now, sent, came, shownAt, output, answeredAt}
-use Rattle.condition3.specs.Condition3.{shownNumber, shownWriter, shownValue, ShownOlder}
+use Rattle.condition3.specs.Condition3.{now, sent, came, shownAt, output, later, outputOfRead}
+use Rattle.condition3.specs.Condition3.{answeredAt, shownNumber, shownWriter, shownValue}
+use Rattle.condition3.specs.Condition3.{shownOwnNumber, ShownOlder}
 
 abbrev w : World
 w = begin (record { clients = 2; partitions = 2; items = 2 })
@@ -65,7 +67,7 @@ module _ (before meanwhile : List Call) where
   leaves = came capacities w 2 3 before (meanwhile ++ deliver 1 ∷ [])
 
   abbrev ended : World
-  ended = shownAt capacities w 2 3 before meanwhile (deliver 1) []
+  ended = shownAt capacities w (startRead 2 3) before meanwhile (deliver 1) []
 
   -- A read of both items by client 2 after these calls: accepted, under way, ended by the fourth
   -- delivery alone; two requests, two replies, one to an item.
@@ -97,7 +99,7 @@ oneEach = every 2 (λ k. eqb (counted (isReadMessage 2 k)
 
 -- The second read's showing, after another client's start: item 0 and item 1 as they were written.
 abbrev shown : List ℕ
-shown = output capacities w 2 3 between during (deliver 1) (startRead 1 1 ∷ []) room
+shown = outputOfRead capacities w 2 3 between during (deliver 1) (startRead 1 1 ∷ []) room
 
 abbrev showing : Bool
 showing =
@@ -124,6 +126,26 @@ times =
     && same (map answeredAt (leaves between during)) (12 ∷ 12 ∷ 13 ∷ 14 ∷ [])
     && same (map answeredAt (leaves between refusedAmong)) (12 ∷ 12 ∷ 13 ∷ 16 ∷ [])
 
+-- After its showing client 2, which has written nothing, starts a write of item 0: since it was
+-- shown number 1, its number is 2, and so its own showing says; a third write's is 3.
+abbrev corrected : List Call
+corrected = between ++ startRead 2 3 ∷ during ++ deliver 1 ∷ show 2 room ∷ []
+
+abbrev correction : Call
+correction = startWrite 2 1 (0 ∷ 0 ∷ 0 ∷ 9 ∷ [])
+
+abbrev numbers : Bool
+numbers =
+    let v = later capacities w 2 (startRead 2 3) between during (deliver 1) [] room [] in
+    let shownOwn = output capacities w 2 correction corrected (deliver 1 ∷ []) (deliver 1) [] room in
+    let next = later capacities w 2 correction corrected (deliver 1 ∷ []) (deliver 1) [] room
+    (deliver 0 ∷ []) in
+    accepts capacities v correction
+    && eqb (nextStamp (v .tables) 2) (stampOf 2 2)
+    && eqb (shownOwnNumber shownOwn) 2
+    && accepts capacities next correction
+    && eqb (nextStamp (next .tables) 2) (stampOf 3 2)
+
 -- ---- A client that reads while its own write's commits are in flight, at places 0 and 1
 
 abbrev committing : List Call
@@ -135,7 +157,8 @@ committing =
 -- neither ends a transaction or starts one.
 abbrev ownCommits : Bool
 ownCommits =
-    let v = shownAt capacities w 1 1 committing (deliver 0 ∷ deliver 1 ∷ []) (deliver 1) [] in
+    let v = shownAt capacities w (startRead 1 1) committing (deliver 0 ∷ deliver 1 ∷ []) (deliver 1)
+    [] in
     delivers (now capacities w 1 1 committing []) 1 (deliver 0)
     && stays capacities (now capacities w 1 1 committing []) 1 (deliver 0 ∷ deliver 1 ∷ [])
     && endsFor capacities (now capacities w 1 1 committing (deliver 0 ∷ deliver 1 ∷ [])) 1
@@ -175,6 +198,7 @@ rows =
     ∷ oneEach
     ∷ showing
     ∷ times
+    ∷ numbers
     ∷ ownCommits
     ∷ writesAndStores
     ∷ []
@@ -184,18 +208,18 @@ unfolding next after joining leaving staying begun withoutAll storing joiningOve
     outcomeIn delivers stays startsFor rests step refusal first unexpected missing isNothing effect
     reply written lent outcomeOf valid inRange sizesInRange stampInRange entryInRange versionInRange
     messageInRange isKind endedInRange clientInRange readPartInRange writePartInRange load arrived
-    total occupied choice stored found delivered joined touches listed readBytes writeBytes frame
-    every all counted without has upto remove ones onesIn bigEndian numberAt
+    total occupied greatestIn choice stored found delivered joined touches listed readBytes
+    writeBytes frame every all counted without has upto remove ones onesIn bigEndian numberAt
 spans = refl
 
 -- ---- A tie: both writes have number 1
 
 -- client 1's first read shows its own write, its second one client 2's
 abbrev own : List ℕ
-own = output capacities u 1 1 bothWritten (deliver 0 ∷ []) (deliver 0) [] room
+own = outputOfRead capacities u 1 1 bothWritten (deliver 0 ∷ []) (deliver 0) [] room
 
 abbrev other : List ℕ
-other = output capacities u 1 1 (bothWritten ++ startRead 1 1 ∷ deliver 0 ∷ deliver 0 ∷ [])
+other = outputOfRead capacities u 1 1 (bothWritten ++ startRead 1 1 ∷ deliver 0 ∷ deliver 0 ∷ [])
     (deliver 0 ∷ []) (deliver 0) [] room
 
 below : 1 < 2
@@ -214,8 +238,8 @@ unfolding next after joining leaving staying begun withoutAll storing joiningOve
     outcomeIn delivers stays startsFor rests step refusal first unexpected missing isNothing effect
     reply written lent outcomeOf valid inRange sizesInRange stampInRange entryInRange versionInRange
     messageInRange isKind endedInRange clientInRange readPartInRange writePartInRange load arrived
-    total occupied choice stored found delivered joined touches listed readBytes writeBytes frame
-    every all counted without has upto remove ones onesIn bigEndian numberAt
+    total occupied greatestIn choice stored found delivered joined touches listed readBytes
+    writeBytes frame every all counted without has upto remove ones onesIn bigEndian numberAt
 ties = (
   inr (refl, below),
   ⊎-elim (never 1) (λ p. never 1 (p .1)),

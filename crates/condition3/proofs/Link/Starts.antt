@@ -5,7 +5,7 @@ use mathlib.Core.List.{List, [], _∷_, _++_, map, append-nil}
 use mathlib.Core.Logic.{_⊎_, inl, inr, ⊎-elim}
 use mathlib.Core.Path.{_≡_, refl, sym, ap, _∙_, subst}
 use Prim.Native.Nat.{ℕ, _+_, _<_}
-use native.Mathlib.Nat.{le-refl, le-trans, le-suc}
+use native.Mathlib.Nat.{le-refl, le-trans}
 use native.Mathlib.Omega.{arith}
 use lib.Dec.{eqb}
 use Rattle.basics.proofs.Cases.{not-both, or-right}
@@ -143,7 +143,7 @@ module _ (caps : Capacities) (w : World) (inv : Inv caps w) where
               (subst (λ (r : ℕ). has r k ≡ true) (x .set) e)));
           number = le-trans (x .number)
               (put-rises (w .tables .client) d (writer (w .tables) d s bytes)
-              (le-suc (w .tables .client d .count)) (writerOf (a .stamp)));
+              (omega arith) (writerOf (a .stamp)));
         })
         (λ q. subst (λ (z : Write). Entered L′ client′ z) (sym q) new-entered)
         (old-or-new a p)

@@ -15,9 +15,9 @@ use Rattle.basics.specs.Lists.{In}
 use Rattle.basics.proofs.Lists.{in-left}
 use Rattle.itemset.specs.Set.{has, count}
 use Rattle.itemset.proofs.Laws.{has-empty, has-below}
-use Rattle.protocol.specs.Tables.{Ended, rested, numberOf, writerOf}
+use Rattle.protocol.specs.Tables.{Sizes, Ended, rested, numberOf, writerOf}
 use Rattle.protocol.specs.Range.{Capacities}
-use Rattle.protocol.specs.Steps.{choice, nextStamp}
+use Rattle.protocol.specs.Steps.{greatestIn, choice, nextStamp}
 use Rattle.protocol.specs.Calls.{Call, startRead, startWrite, show, step, written}
 use Rattle.condition3.specs.World.{World, Labelled, Write, Store, leaving, begun, moved, next}
 use Rattle.condition3.specs.World.{after, isReplyFor, stays, rests}
@@ -25,19 +25,19 @@ use Rattle.condition3.specs.Condition3.{UnderWay, EndedBy, StoredBefore,
 use Rattle.condition3.specs.Condition3.{shownNumber, shownWriter, shownValue, Initial}
 use Rattle.condition3.specs.Condition3.{ShownWith, ShownOlder, Shows}
 use Rattle.protocol.proofs.Stored.{choice-own}
+use Rattle.protocol.proofs.Known.{greatest-le, choice-number}
 use Rattle.protocol.proofs.Ranges.Values.{IsClient}
 use Rattle.protocol.proofs.Refusals.{AcceptedStart, accepted-read, idle-rested}
-use Rattle.protocol.proofs.Refusals.{accepted-write}
 use Rattle.condition3.proofs.Link.{Inv}
 use Rattle.condition3.proofs.Link.Messages.{WriteOf}
 use Rattle.condition3.proofs.Link.Asks.{asked as write-asked, not-older}
 use Rattle.condition3.proofs.Runs.Run.{after-append, after-inv, after-sizes, after-view}
-use Rattle.condition3.proofs.Runs.Run.{after-known, after-stores}
+use Rattle.condition3.proofs.Runs.Run.{longer-view, after-known, after-stores}
 use Rattle.condition3.proofs.Runs.ReadSpan.{Answer}
 use Rattle.condition3.proofs.Runs.ReadStep.{Finished, wasRead}
 use Rattle.condition3.proofs.Runs.Spans.{at-rest, rest-stays}
-use Rattle.condition3.proofs.Runs.WriteSpan.{Writing, Seen, write-started, write-during}
-use Rattle.condition3.proofs.Runs.WriteSpan.{write-ends}
+use Rattle.condition3.proofs.Runs.WriteSpan.{Seen}
+use Rattle.condition3.proofs.Runs.WriteShows.{ended-write}
 use Rattle.condition3.proofs.Runs.Shows.{answer-is, head-is, number-is, writer-is, value-is}
 use Rattle.condition3.proofs.Runs.ReadCounts.{after-start, after-span, asked, left, finished}
 use Rattle.condition3.proofs.Runs.ReadCounts.{left-all}
@@ -297,29 +297,46 @@ module _ (caps : Capacities) (w : World) (inv : Inv caps w) (d s : ℕ) (before 
       → ShownOlder s output k (nextStamp (after caps w earlier .tables) d) → ⊥
   own z bytes earlier meanwhile finish later split o k m h older =
       let c = startWrite d z bytes in
-      let w₀ : World = after caps w earlier in
-      let stamp = nextStamp (w₀ .tables) d in
-      let begins = after-start caps w earlier c (o .underWay .accepted) in
-      let y : World = after caps w (earlier ++ c ∷ meanwhile) in
-      let writing : Writing d z stamp y =
-      subst (λ (q : World). Writing d z stamp q)
-      (sym (after-span caps w earlier meanwhile c (o .underWay .accepted)))
-      (write-during caps (moved w₀ c)
-      (subst (λ (q : World). Inv caps q) begins (after-inv caps w inv (earlier ++ c ∷ []))) d z
-      stamp
-      (write-started caps w₀ d z bytes
-      (accepted-write caps (w₀ .tables) d z bytes .0 (o .underWay .accepted) .start .some))
-      meanwhile (subst (λ (q : World). stays caps q d meanwhile ≡ true) begins
-      (o .underWay .unended))) in
-      let seen : Seen d z stamp (next caps y finish) =
-      write-ends caps y (after-inv caps w inv (earlier ++ c ∷ meanwhile)) d z stamp writing
-      finish (o .ended) in
+      let stamp = nextStamp (after caps w earlier .tables) d in
+      let seen : Seen d z stamp (next caps (after caps w (earlier ++ c ∷ meanwhile)) finish) =
+      ended-write caps w inv d z bytes earlier meanwhile finish o .seen in
       let now : stamp ≤ w₁ .tables .view d k .stamp =
       le-trans (seen k h) (at-start (earlier ++ c ∷ meanwhile) finish later split k) in
       let chosen-ge : w₁ .tables .view d k .stamp ≤ stamps k =
       rw m (choice-own (w₁ .tables .view d) k (w₁ .tables .sizes .items)) in
       let less : stamps k < stamp = shown-older k m stamp older in
       omega arith
+
+  -- ---- its client's later writes are later than all it shows
+
+  -- what is chosen is a number of the view, and a write's is above them
+  small : d < 16
+  small = omega (arith, start .client .1, start .valid .inRange .sizes .clients)
+
+  pub wins : (between : List Call) (k : ℕ) → has s k ≡ true → ShownOlder s output k
+      (nextStamp (after caps w (before ++ startRead d s ∷ during ++ end ∷ until ++ show d room
+      ∷ between) .tables) d)
+  wins between k m =
+      let y : World = after caps w (before ++ startRead d s ∷ during ++ end ∷ until ++ show d room
+      ∷ between) in
+      let items = w₁ .tables .sizes .items in
+      let grows : (j : ℕ) → w₁ .tables .view d j .stamp ≤ y .tables .view d j .stamp =
+      λ j. le-trans (longer-view caps w before (startRead d s ∷ during) d j)
+      (le-trans (longer-view caps w (before ++ startRead d s ∷ during) (end ∷ until) d j)
+      (longer-view caps w (before ++ startRead d s ∷ during ++ end ∷ until) (show d room ∷ between)
+      d j)) in
+      let same : y .tables .sizes ≡ w₁ .tables .sizes =
+      after-sizes caps w (before ++ startRead d s ∷ during ++ end ∷ until ++ show d room ∷ between)
+      ∙ sym (after-sizes caps w before) in
+      let most : greatestIn (w₁ .tables .view d) items ≤ greatestIn (y .tables .view d) items =
+      greatest-le (w₁ .tables .view d) (y .tables .view d) grows items in
+      let some : numberOf (stamps k) ≤ greatestIn (w₁ .tables .view d) items =
+      subst (λ (z : ℕ). numberOf z ≤ greatestIn (w₁ .tables .view d) items) (sym (stamps-are k m))
+      (choice-number (w₁ .tables .view d) items k (item-below k m)) in
+      let all : greatestIn (y .tables .view d) (y .tables .sizes .items) ≡ greatestIn
+      (y .tables .view d) items =
+      ap (λ (z : Sizes). greatestIn (y .tables .view d) (z .items)) same in
+      inl (omega (arith, number-shown k m, small))
 
   -- ---- and no delivery reports its end again, up to the client's next start
   pub silent : stays caps (after caps w (before ++ startRead d s ∷ during ++ end ∷ [])) d until

@@ -3,12 +3,14 @@
 use mathlib.Core.Bool.{false, cond}
 use mathlib.Core.List.{List, [], _∷_, _++_, append-assoc}
 use mathlib.Core.Logic.{inl, inr}
-use mathlib.Core.Path.{_≡_, refl, sym, ap, _∙_}
+use mathlib.Core.Path.{_≡_, refl, sym, ap, _∙_, subst}
+use Prim.Native.Nat.{ℕ, _≤_}
 use native.Mathlib.Nat.{le-refl, le-trans}
 use borrow.Author.Tests.{eqb-true, eq-eqb}
 use Rattle.basics.proofs.Cases.{by-test}
 use Rattle.basics.specs.Lists.{In}
 use Rattle.basics.proofs.Lists.{in-left}
+use Rattle.protocol.specs.Tables.{Tables}
 use Rattle.protocol.specs.Range.{Capacities}
 use Rattle.protocol.specs.Calls.{Call, refusal, effect}
 use Rattle.condition3.specs.World.{World, Labelled, Write, Store, begun, storing, accepts}
@@ -101,6 +103,28 @@ after-view caps =
     (λ u v w p q d k. le-trans (p d k) (q d k))
     (λ w c. next-all caps (λ (v : World). ViewGrows (w .tables) (v .tables)) w c
     (λ e. keeps caps (w .tables) c e .view) (λ d k. le-refl (w .tables .view d k .stamp)))
+
+-- by the end of a longer list
+pub longer-view : (caps : Capacities) (w : World) (xs ys : List Call)
+    → ViewGrows (after caps w xs .tables) (after caps w (xs ++ ys) .tables)
+longer-view caps w xs ys =
+    subst (λ (v : World). ViewGrows (after caps w xs .tables) (v .tables))
+    (sym (after-append caps w xs ys)) (after-view caps (after caps w xs) ys)
+
+-- ---- counts only rise
+
+abbrev pub CountsRise : Tables → Tables → Type 0
+CountsRise t u = (d : ℕ) → t .client d .count ≤ u .client d .count
+
+pub after-count : (caps : Capacities) (w : World) (cs : List Call)
+    → CountsRise (w .tables) (after caps w cs .tables)
+unfolding effect
+after-count caps =
+    after-all caps (λ (u v : World). CountsRise (u .tables) (v .tables))
+    (λ w d. le-refl (w .tables .client d .count))
+    (λ u v w p q d. le-trans (p d) (q d))
+    (λ w c. next-all caps (λ (v : World). CountsRise (w .tables) (v .tables)) w c
+    (λ e. keeps caps (w .tables) c e .rises) (λ d. le-refl (w .tables .client d .count)))
 
 -- ---- the history grows
 

@@ -10,10 +10,10 @@ use Rattle.basics.proofs.Cases.{by-test, not-both, and-left, and-right, not-tru
 use Rattle.itemset.specs.Set.{has}
 use Rattle.protocol.specs.declared.Message.{Message}
 use Rattle.protocol.specs.declared.Message.the-variants.{Prepared}
-use Rattle.protocol.specs.Tables.{Tables, Client, ReadPart, noRead, ofWrite, writerOf}
+use Rattle.protocol.specs.Tables.{Tables, Client, ReadPart, noRead, ofWrite, writerOf, rested}
 use Rattle.protocol.specs.Message.{ownerOf}
 use Rattle.protocol.specs.Range.{Capacities}
-use Rattle.protocol.specs.Steps.{delivered, prepared, struck, isLast, messageAt, writer}
+use Rattle.protocol.specs.Steps.{delivered, prepared, ended, struck, isLast, messageAt, writer}
 use Rattle.protocol.specs.Steps.{nextStamp}
 use Rattle.protocol.specs.Calls.{Call, startWrite, deliver, refusal, effect, step, outcomeOf}
 use Rattle.condition3.specs.World.{World, placed, accepts, moved, passed, next, after}
@@ -36,6 +36,11 @@ pub record Writing (d s stamp : ℕ) (v : World) : Type 0 where
 -- the view of client d has the write, or a later one, on each item of s
 abbrev pub Seen : ℕ → ℕ → ℕ → World → Type 0
 Seen d s stamp v = (k : ℕ) → has s k ≡ true → stamp ≤ v .tables .view d k .stamp
+
+-- what its end leaves: the view has it, and the client keeps it as its last transaction
+pub record Written (d s stamp : ℕ) (v v′ : World) : Type 0 where
+  pub seen : Seen d s stamp v′
+  pub client : v′ .tables .client d ≡ rested (v .tables .client d) (ended (v .tables .client d))
 
 -- ---- the delivery of a prepared reply to client d
 
@@ -72,7 +77,7 @@ module _ (caps : Capacities) (v : World) (inv : Inv caps v) (d s stamp : ℕ)
 
   abbrev Ways : Call → Type 0
   Ways c = (Writing d s stamp (moved v c) × (endsFor caps v d c ≡ false))
-      ⊎ ((endsFor caps v d c ≡ true) × Seen d s stamp (moved v c))
+      ⊎ ((endsFor caps v d c ≡ true) × Written d s stamp v (moved v c))
 
   same-record : (v′ : World) → v′ .tables .client d ≡ v .tables .client d → Writing d s stamp v′
   same-record v′ e =
@@ -95,13 +100,18 @@ module _ (caps : Capacities) (v : World) (inv : Inv caps v) (d s stamp : ℕ)
       by-test (isLast ofWrite c k)
       (λ last. inr (
         rw (delivers-it, outcome, last) refl,
-        λ j e.
-            subst (λ (x : ℕ). x ≤ effect (v .tables) (deliver i) .view d j .stamp)
-            (sym is-stamp ∙ r .isStamp)
-            (subst (λ (x : ℕ). n ≤ effect (v .tables) (deliver i) .view x j .stamp) owner
-            (prepared-view (v .tables) i k n same last j
-            (subst (λ (x : ℕ). has x j ≡ true)
-            (sym (ap (λ (x : Client). x .write .set) at-d ∙ r .isSet)) e))),
+        record {
+          seen = λ j e.
+              subst (λ (x : ℕ). x ≤ effect (v .tables) (deliver i) .view d j .stamp)
+              (sym is-stamp ∙ r .isStamp)
+              (subst (λ (x : ℕ). n ≤ effect (v .tables) (deliver i) .view x j .stamp) owner
+              (prepared-view (v .tables) i k n same last j
+              (subst (λ (x : ℕ). has x j ≡ true)
+              (sym (ap (λ (x : Client). x .write .set) at-d ∙ r .isSet)) e)));
+          client = subst (λ (x : ℕ). effect (v .tables) (deliver i) .client x
+              ≡ rested (v .tables .client x) (ended (v .tables .client x))) owner
+              (prepared-client (v .tables) i k n same ∙ rw last refl);
+        },
       ))
       (λ f. inl (
         (let is : effect (v .tables) (deliver i) .client d ≡ struck c k =
@@ -147,7 +157,7 @@ module _ (caps : Capacities) (v : World) (inv : Inv caps v) (d s stamp : ℕ)
       (ways c (eqb-true (refusal caps (v .tables) c) 0 a))))
       (λ a. rw a (same-record (passed v) refl))
 
-  pub write-ends : (c : Call) → endsFor caps v d c ≡ true → Seen d s stamp (next caps v c)
+  pub write-ends : (c : Call) → endsFor caps v d c ≡ true → Written d s stamp v (next caps v c)
   unfolding next
   write-ends c t =
       by-test (accepts caps v c)

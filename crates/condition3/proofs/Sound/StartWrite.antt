@@ -4,7 +4,6 @@ use mathlib.Core.Bool.{false, cond, _&&_}
 use mathlib.Core.List.{List}
 use mathlib.Core.Path.{_≡_, refl, sym, ap, _∙_, subst}
 use Prim.Native.Nat.{ℕ, _^_, _≤_, _<_}
-use native.Mathlib.Nat.{le-suc}
 use native.Mathlib.Omega.{arith}
 use Rattle.basics.proofs.Cases.{by-test, not-both}
 use lib.Dec.{eqb}
@@ -25,7 +24,8 @@ use Rattle.protocol.proofs.Ranges.Tables.{Valid}
 use Rattle.condition3.proofs.Sound.{Ledger, Counted, Fits, SoundBy}
 use Rattle.condition3.proofs.Sound.Carry.{Carries}
 use Rattle.condition3.proofs.Sound.Counts.{stored-counted}
-use Rattle.condition3.proofs.Sound.Start.{begin-sound, part-counted, part-uncounted, none-due}
+use Rattle.condition3.proofs.Sound.Start.{begin-sound, part-counted, part-uncounted}
+use Rattle.condition3.proofs.Sound.Start.{none-due}
 use Rattle.condition3.proofs.Common.{isFor, by-side}
 
 -- the ledger with one more stamp
@@ -96,7 +96,7 @@ module _ (caps : Capacities) (L : Ledger) (t : Tables) (sound : SoundBy caps L t
       (part-counted ofWrite (t .sizes .items) d s below
       (λ k. Prepare (version k (valueOf s bytes k) stamp s)) (λ k. refl) (λ k. writer-is)
       (λ k. refl)))
-      (le-suc (t .client d .count)) refl ok
+      (omega arith) refl ok
       (carries 0 zero-counted .set ∙ sound .noSet)
       (λ k. ap (λ (f : ℕ → ℕ). f k)
       (put-other (L .value) stamp (valueOf s bytes) 0 (stamp-new 0 zero-counted))

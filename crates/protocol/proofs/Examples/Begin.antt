@@ -37,7 +37,7 @@ writeOf set stamp values =
       write = record { set = set; awaited = 0; stamp = stamp; values = values };
     }
 
--- a client after five writes: of its one part the items, those awaited, the stamps asked for or the
+-- a client with count 5: of its one part the items, those awaited, the stamps asked for or the
 -- stamp written, and the value of each item
 abbrev pub reader : ℕ → ℕ → ℕ → ℕ → Client
 reader set awaited asked value =
@@ -102,7 +102,7 @@ seeing e f = withView (fresh (sizes 3 1 2)) 3 (put (put (λ k. initial) 0 e) 1 f
 
 -- ---- Counts
 
--- client 1 has started five writes
+-- client 1 has count 5
 abbrev pub ahead : Tables
 ahead = withClient (fresh (sizes 2 1 1)) 1 (resting 5 nothing)
 

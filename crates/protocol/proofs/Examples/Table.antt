@@ -23,7 +23,8 @@ use Rattle.protocol.specs.Range.{capacities, valid, inRange, stampInRang
 use Rattle.protocol.specs.Range.{entryInRange, versionInRange, messageInRange, endedInRange}
 use Rattle.protocol.specs.Range.{clientInRange, readPartInRange, writePartInRange, arrived}
 use Rattle.protocol.specs.Range.{total, load, occupied}
-use Rattle.protocol.specs.Steps.{choice, stored, found, delivered, joined, touches}
+use Rattle.protocol.specs.Steps.{greatestIn, choice, stored, found, delivered, joined}
+use Rattle.protocol.specs.Steps.{touches}
 use Rattle.protocol.specs.LogFrame.{listed, readBytes, writeBytes, frame}
 use Rattle.protocol.specs.Calls.{Call, Given, first, refusal, freshAnswer, unexpected}
 use Rattle.protocol.specs.Calls.{missing, isNothing, outcomeOf, effect, reply, written, lent}
@@ -66,9 +67,9 @@ anything t = true
 unfoldable pub given : Tables → Call → Given
 unfolding step refusal first unexpected missing isNothing effect reply written lent outcomeOf valid
     inRange sizesInRange stampInRange entryInRange versionInRange messageInRange isKind
-    endedInRange clientInRange readPartInRange writePartInRange load arrived total occupied choice
-    stored found delivered joined touches listed readBytes writeBytes frame every all counted
-    without has upto remove ones onesIn bigEndian numberAt
+    endedInRange clientInRange readPartInRange writePartInRange load arrived total occupied
+    greatestIn choice stored found delivered joined touches listed readBytes writeBytes frame every
+    all counted without has upto remove ones onesIn bigEndian numberAt
 given t c = step capacities t c
 
 unfoldable pub made : Sizes → Answer

@@ -4,6 +4,7 @@ use mathlib.Core.Bool.{true, cond}
 use mathlib.Core.List.{List, _++_}
 use mathlib.Core.Path.{_≡_, refl}
 use Prim.Native.Nat.{ℕ, zero, suc, _*_, _%_, _^_, _≤_, _<_}
+use native.Mathlib.Nat.{le-refl}
 use native.Mathlib.Omega.{arith}
 use Rattle.hex.specs.Number.{numberAt}
 use Rattle.itemset.specs.Set.{has, rank}
@@ -15,7 +16,7 @@ use Rattle.protocol.specs.Tables.{Sizes, Tables, Client, noRead, noWrite
 use Rattle.protocol.specs.Tables.{withMessages, withCount}
 use Rattle.protocol.specs.Range.{Capacities}
 use Rattle.protocol.specs.Steps.{choice, asks, reader, gets, nextStamp, valueOf, writer}
-use Rattle.protocol.specs.Steps.{version, prepares}
+use Rattle.protocol.specs.Steps.{version, prepares, greatestOf}
 use Rattle.protocol.specs.Calls.{startRead, startWrite, effect}
 use Rattle.protocol.proofs.Each.{Each, each-append, each-upto}
 use Rattle.protocol.proofs.Ranges.Values.{Stamped, StampInRange, EntriesInRange}
@@ -24,6 +25,7 @@ use Rattle.protocol.proofs.Ranges.Clients.{ClientInRange}
 use Rattle.protocol.proofs.Ranges.Tables.{InRange}
 use Rattle.protocol.proofs.Refusals.{AcceptedStart, AcceptedWrite}
 use Rattle.protocol.proofs.Put.{by-cond}
+use Rattle.protocol.proofs.Known.{greatest-fits}
 use Rattle.protocol.proofs.Kept.Changes.{range-client, range-messages}
 use Rattle.protocol.proofs.Kept.Values.{range-no-read, range-no-write, range-initial}
 use Rattle.protocol.proofs.Kept.Values.{range-max, range-count, range-parts}
@@ -86,23 +88,29 @@ module _ (caps : Capacities) (t : Tables) (d s : ℕ) (a : AcceptedStart caps t 
 
 module _ (caps : Capacities) (t : Tables) (d s : ℕ) (bytes : List ℕ)
     (a : AcceptedWrite caps t d s bytes) where
-  count-fits : suc (t .client d .count) < 2 ^ 32
-  count-fits = omega (
-    arith,
-    a .countLeft,
-    a .start .valid .inRange .client d
-        (a .start .client) .count,
-  )
+  range : InRange t
+  range = a .start .valid .inRange
+
+  -- neither the count nor a number of the view is beyond 32 bits, and the greatest isn't the last
+  number-fits : suc (greatestOf t d) < 2 ^ 32
+  number-fits =
+      omega (
+        arith,
+        a .numberLeft,
+        range .client d (a .start .client) .count,
+        greatest-fits (t .sizes) (t .view d) (range .view d (a .start .client))
+            (t .sizes .items) (le-refl (t .sizes .items)),
+      )
 
   pub range-next : Stamped (t .sizes) (nextStamp t d)
-  range-next = omega (arith, count-fits)
+  range-next = omega (arith, number-fits)
 
   pub range-writer : ClientInRange (t .sizes) (writer t d s bytes)
   range-writer =
       let c = t .client d in
-      range-parts (t .sizes) (withCount c (suc (c .count))) noRead (writer t d s bytes .write)
-      (range-count (t .sizes) c (suc (c .count))
-      (a .start .valid .inRange .client d (a .start .client)) count-fits)
+      range-parts (t .sizes) (withCount c (suc (greatestOf t d))) noRead (writer t d s bytes .write)
+      (range-count (t .sizes) c (suc (greatestOf t d))
+      (a .start .valid .inRange .client d (a .start .client)) number-fits)
       (range-no-read (t .sizes)) (record {
         set = a .start .set;
         awaited = a .start .set;

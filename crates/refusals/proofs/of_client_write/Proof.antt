@@ -21,9 +21,8 @@ mul-values : tie.Need-mul-values
 mul-values c = let start = c .before .before .before in
     omega (arith, count-le (start .args .s) 64 (search needs), c .count .ensures)
 
-count-requires-2 : tie.Need-count-requires-2
-count-requires-2 c κs = let start = c .before .before .before in
-    has-words (start .args .b .now) (search needs) (start .args .d) (search needs)
+no-number-left-requires : tie.Need-no-number-left-requires
+no-number-left-requires c κs = search needs
 
 load-requires : tie.Need-load-requires
 load-requires c κs = search needs
@@ -91,12 +90,11 @@ returns c =
     let busy = bad .before in
     let used = busy .before in
     let loaded = used .before in
-    let written = loaded .before in
-    let counted = written .before in
+    let spent = loaded .before in
+    let counted = spent .before in
     let start = counted .before .before .before in
     let values = ap (λ (n : ℕ). not (eqb (length (start .args .bytes .now)) (4 * n)))
     (counted .count .ensures) in
-    let last = ap (λ (n : ℕ). eqb n 4294967295) (written .count2 .ensures) in
     let full = ap₂ (λ (l n : ℕ). ltb mostMessages (l + n)) (loaded .load .ensures)
     (counted .count .ensures) in
     let stored = ap₂ (λ (l n : ℕ). ltb mostVersions (l + n)) (used .occupied .ensures)
@@ -104,7 +102,7 @@ returns c =
     chain _ _ 4 _ _ _ (c .refuse6 .ensures) (busy .busy .ensures)
     (chain _ _ 5 _ _ _ (c .before .refuse5 .ensures) (bad .bad-set .ensures)
     (chain _ _ 6 _ _ _ (six .refuse4 .ensures) values
-    (chain _ _ 7 _ _ _ (seven .refuse3 .ensures) last
+    (chain _ _ 7 _ _ _ (seven .refuse3 .ensures) (spent .no-number-left .ensures)
     (chain _ _ 8 _ _ _ (eight .refuse2 .ensures) full
     (chain _ _ 9 _ _ _ (nine .refuse .ensures) stored refl)))))
     ∙ sym (write-tests (start .args .b .now) (start .args .d) (search needs) (start .args .s)
@@ -116,7 +114,7 @@ of-client-write-spec =
     (tie.spec
     count-requires
     mul-values
-    count-requires-2
+    no-number-left-requires
     load-requires
     add-full
     occupied-requires

@@ -15,11 +15,11 @@ returns c =
     let counted = stamped .before .before .before .before in
     let set = counted .before .before .before .before in
     let kept = set .before .before .before .before in
-    let count = kept .before .before .count in
+    let known = kept .before .before .greatest in
     let start = kept .before .before .before .before .before .before in
     write-started (now (start .args .b)) _ _ _ _ (start .pre .4) (start .pre .5)
-    (now (start .args .bytes)) (count .result + 1) _ _ _ _ _
-    (add-one (count .result) ∙ ap suc (count .ensures))
+    (now (start .args .bytes)) (known .result + 1) _ _ _ _ _
+    (add-one (known .result) ∙ ap suc (known .ensures))
     (kept .keep-items .ensures)
     (set .put-busy .ensures)
     (counted .put-count .ensures)

@@ -1,7 +1,10 @@
-//! The checker of condition 3 finds each clause broken when it is, and only then.
+//! The checker of condition 3 finds each clause broken when it is, and only then. It goes by calls,
+//! answers and outputs: what tables alone say, a client's count and views, is for tests/trials.
 
 mod answers;
+mod corrections;
 mod showings;
+mod unshown;
 
 use crate::session::session;
 use crate::support::{deliver, fresh, make_all, read, show, write};
@@ -47,8 +50,13 @@ fn event(call: Call, answer: u64) -> Event {
 
 #[test]
 fn a_write_and_its_read_keep_every_clause() {
-    let expected =
-        Summary { reads_ended: 1, writes_ended: 1, reads_shown: 1, written_entries_shown: 2 };
+    let expected = Summary {
+        reads_ended: 1,
+        writes_ended: 1,
+        reads_shown: 1,
+        written_entries_shown: 2,
+        corrections: 0,
+    };
     assert_eq!(check(&own_read()), Ok(expected));
 }
 

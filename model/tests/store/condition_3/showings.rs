@@ -38,7 +38,7 @@ fn a_showing_refused_after_an_end_is_found() {
 #[test]
 fn a_frame_of_another_transaction_is_found() {
     breaks(Clause::Frame, SHOW_WRITE, |events| {
-        events[SHOW_WRITE].output[13] = 2;
+        events[SHOW_WRITE].output[13] = 0;
     });
     breaks(Clause::Frame, SHOW_WRITE, |events| {
         events[SHOW_WRITE].output[17] = 9;
@@ -51,6 +51,18 @@ fn a_frame_of_another_transaction_is_found() {
     });
     breaks(Clause::Frame, SHOW_READ, |events| {
         events[SHOW_READ].answer += 1 << 8;
+    });
+}
+
+#[test]
+fn a_write_shown_with_another_number_is_found() {
+    breaks(Clause::Frame, SHOW_WRITE, |events| {
+        events[SHOW_WRITE].output[13] = 2;
+    });
+    breaks(Clause::Frame, SHOW_WRITE + 1, |events| {
+        let mut again = events[SHOW_WRITE].clone();
+        again.output[13] = 2;
+        events.insert(SHOW_WRITE + 1, again);
     });
 }
 

@@ -1,8 +1,8 @@
 //! Where several refusals apply, the first in the table is returned.
 
 use super::refused;
-use crate::support::{deliver, show_in, start_read, start_write, tables_with_versions};
-use koolvent_model::stamp::Stamp;
+use crate::support::{deliver, entry, show_in, start_read, start_write, tables_with_versions};
+use koolvent_model::stamp::{Entry, Stamp};
 use koolvent_model::store::message::Message;
 use koolvent_model::store::tables::{Ended, Sizes, Tables, READ, READING};
 
@@ -38,6 +38,9 @@ fn a_write_is_tested_1_3_4_5_6_7_8_9() {
     refused(&tables, 6, start_write(1, 1, &[0]));
     refused(&tables, 7, start_write(1, 1, &[0; 4]));
     tables.client_mut(1).count = 5;
+    tables.view_mut(1)[1] = entry(4_294_967_295, 2, &[1]);
+    refused(&tables, 7, start_write(1, 1, &[0; 4]));
+    tables.view_mut(1)[1] = Entry::INITIAL;
     refused(&tables, 8, start_write(1, 1, &[0; 4]));
     tables.messages.pop();
     refused(&tables, 9, start_write(1, 1, &[0; 4]));

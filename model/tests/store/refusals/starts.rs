@@ -2,7 +2,7 @@
 
 use super::{accepted, refused};
 use crate::support::{
-    deliver, fresh_on, set_of, show_in, start_read, start_write, tables, value_bytes,
+    deliver, entry, fresh_on, set_of, show_in, start_read, start_write, tables, value_bytes,
 };
 use koolvent_model::stamp::Stamp;
 use koolvent_model::store::tables::{Client, Ended, Sizes, Tables, READ, READING, WRITE, WRITING};
@@ -104,6 +104,17 @@ fn a_write_at_the_greatest_count_is_7() {
     accepted(&tables, start_read(1, 1));
     accepted(&tables, start_write(2, 1, &value_bytes(&[1])));
     tables.client_mut(1).count = 4_294_967_294;
+    accepted(&tables, start_write(1, 1, &value_bytes(&[1])));
+}
+
+#[test]
+fn a_write_with_the_greatest_number_in_the_view_is_7() {
+    let mut tables = tables(2, 2, 3);
+    tables.view_mut(1)[2] = entry(4_294_967_295, 2, &[2]);
+    refused(&tables, 7, start_write(1, 1, &value_bytes(&[1])));
+    accepted(&tables, start_read(1, 1));
+    accepted(&tables, start_write(2, 1, &value_bytes(&[1])));
+    tables.view_mut(1)[2] = entry(4_294_967_294, 2, &[2]);
     accepted(&tables, start_write(1, 1, &value_bytes(&[1])));
 }
 

@@ -7,7 +7,7 @@ use crate::support::{
 use koolvent_model::answer::Answer;
 use koolvent_model::stamp::Stamp;
 use koolvent_model::store::message::Message;
-use koolvent_model::store::tables::{Client, Ended, IDLE, READING, WRITE};
+use koolvent_model::store::tables::{Client, Ended, Tables, IDLE, READING, WRITE, WRITING};
 
 #[test]
 fn fresh_makes_initial_tables_whatever_was_there() {
@@ -107,14 +107,66 @@ fn a_write_start_sends_one_prepare_an_item_ascending_and_leaves_the_view() {
     assert_eq!(after, expected);
 }
 
+/// Client 2's write of item 0 has this number, its count becomes it, and nothing else changes but
+/// for the start of the write.
+fn assert_numbered(before: &Tables, number: u64) {
+    let stamp = Stamp::new(number, 2);
+    let mut expected = before.clone();
+    let client = expected.client_mut(2);
+    *client = Client { mode: WRITING, count: number, set: 1, awaited: 1, ..*client };
+    client.stamps[0] = stamp;
+    client.values[0] = 7;
+    expected.messages = vec![Message::Prepare(version(0, 7, stamp, &[0]))];
+    let (answer, after, _) = made(before, start_write(2, 1, &value_bytes(&[7])));
+    assert_eq!(answer, Answer::Started { messages: 1 });
+    assert_eq!(after, expected);
+}
+
 #[test]
-fn the_count_of_the_writing_client_makes_the_stamp() {
+fn a_write_has_the_number_after_the_count_of_its_client() {
     let mut before = tables(3, 1, 1);
-    before.client_mut(2).count = 0xffff_fffe;
+    before.client_mut(2).count = 4_294_967_294;
     before.client_mut(3).count = 5;
-    let (_, after, _) = made(&before, start_write(2, 1, &[0xff; 4]));
-    assert_eq!(after.client(2).count, 0xffff_ffff);
-    let stamp = Stamp::new(0xffff_ffff, 2);
-    let prepare = Message::Prepare(version(0, 0xffff_ffff, stamp, &[0]));
-    assert_eq!(after.messages, [prepare]);
+    assert_numbered(&before, 4_294_967_295);
+}
+
+#[test]
+fn a_client_that_has_written_nothing_and_read_number_9_writes_number_10() {
+    let mut before = tables(3, 1, 3);
+    before.view_mut(2)[0] = entry(9, 1, &[0]);
+    assert_numbered(&before, 10);
+    before.client_mut(2).count = 9;
+    assert_numbered(&before, 10);
+    before.client_mut(2).count = 10;
+    assert_numbered(&before, 11);
+}
+
+#[test]
+fn a_number_in_the_view_counts_whoever_wrote_it_and_for_an_item_that_is_not_written() {
+    for writer in [1, 2, 3] {
+        let mut before = tables(3, 1, 3);
+        before.client_mut(2).count = 5;
+        before.view_mut(2)[0] = entry(8, 3, &[0]);
+        before.view_mut(2)[2] = entry(9, writer, &[2]);
+        assert_numbered(&before, 10);
+    }
+}
+
+#[test]
+fn the_number_after_the_greatest_but_one_of_a_view_is_the_greatest() {
+    let mut before = tables(3, 1, 3);
+    before.view_mut(2)[1] = entry(4_294_967_294, 1, &[1]);
+    assert_numbered(&before, 4_294_967_295);
+}
+
+#[test]
+fn numbers_of_other_views_of_latest_and_of_versions_do_not_count() {
+    let mut before = tables(3, 1, 3);
+    before.client_mut(1).count = 9;
+    before.client_mut(2).count = 3;
+    before.view_mut(1)[0] = entry(9, 1, &[0]);
+    before.view_mut(3)[0] = entry(9, 1, &[0]);
+    before.latest[0] = entry(9, 1, &[0]);
+    before.versions = vec![version(0, 1, Stamp::new(9, 1), &[0])];
+    assert_numbered(&before, 4);
 }
