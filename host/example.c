@@ -161,13 +161,25 @@ static void start(struct shift *shift, unsigned client)
         say_start(shift, client, plan);
 }
 
-/* Keeps what a read shows. Speed and curve are always written together, and so must be seen together. */
+/* Whether an entry is of an earlier write: with equal numbers, of the lesser client's. */
+static int is_older(struct koolvent_entry entry, struct koolvent_entry other)
+{
+    return entry.number < other.number || (entry.number == other.number && entry.client < other.client);
+}
+
+/* Keeps what a read shows. An entry once shown does not go back. Speed and curve are always written together, and so
+ * must be seen together. */
 static void keep_sheet(struct shift *shift, unsigned client, const uint8_t *frame)
 {
     struct koolvent_entry *sheet = shift->clients[client].sheet;
 
-    for (unsigned item = 0; item < ITEMS; item++)
-        sheet[item] = koolvent_frame_entry(frame, item);
+    for (unsigned item = 0; item < ITEMS; item++) {
+        struct koolvent_entry entry = koolvent_frame_entry(frame, item);
+
+        if (is_older(entry, sheet[item]))
+            fail("an entry is older than the client was shown before");
+        sheet[item] = entry;
+    }
     if (sheet[SPEED].number != sheet[CURVE].number || sheet[SPEED].client != sheet[CURVE].client)
         fail("speed and curve are of different writes");
     if (shift->racing) {

@@ -3,8 +3,9 @@
  *
  * A sheet is a number of items (entries of 32 bits), spread over partitions. Clients read and write any set of
  * items in transactions. A read that shows one item of a write never shows another item of that write older, never
- * misses what its own client had written before it started, and ends after one reply for each item, whatever the order
- * in which messages arrive. A write is later than everything that its client was shown before it started.
+ * misses what its own client had written before it started, never shows an item older than an earlier read of its
+ * client did, and ends after one reply for each item, whatever the order in which messages arrive. A write is later
+ * than everything that its client was shown before it started.
  *
  * The host owns all memory and moves all messages. It lends a block of words to each call, and the store keeps
  * everything there: nothing is allocated, no thread is started, no clock is read, nothing is kept elsewhere.
@@ -181,7 +182,7 @@ enum koolvent_kind {
     KOOLVENT_COMMIT = 3,
     /* A partition is asked for a version. */
     KOOLVENT_GET = 4,
-    /* It gives the version to the reading client, and says which write is its latest. */
+    /* It gives the version, with its write set, to the reading client, and says which write is its latest. */
     KOOLVENT_GOT = 5
 };
 

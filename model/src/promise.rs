@@ -57,6 +57,9 @@ pub enum Clause {
     OwnWriteMissed { item: u64 },
     /// A write is later than every entry that its client was shown before it started.
     OlderThanShown,
+    /// No entry is older than what a read of the client that ended before this one's start showed
+    /// for that item.
+    WentBack { item: u64 },
 }
 
 /// The first event that breaks a clause, counted from 0, and the clause.
@@ -76,6 +79,8 @@ pub struct Summary {
     pub written_entries_shown: usize,
     /// Writes shown that had to be later than another client's, which their client was shown.
     pub corrections: usize,
+    /// Entries shown of items that an earlier read of the client had shown written.
+    pub shown_again: usize,
 }
 
 /// Whether the events keep every clause of condition 3. The first is an accepted fresh; another

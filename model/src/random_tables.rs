@@ -1,6 +1,7 @@
 //! Random tables whose fields are in range, otherwise unlike any that calls leave.
 
 use crate::random::Random;
+use crate::set::has;
 use crate::stamp::{Entry, Stamp};
 use crate::store::message::Message;
 use crate::store::tables::{
@@ -123,14 +124,24 @@ impl Maker {
             1 => Message::Prepared { item, stamp },
             2 => Message::Commit { partition: self.random.below(self.sizes.partitions), stamp },
             3 => Message::Get { client, item, stamp: self.stamp() },
-            _ => Message::Got {
-                client,
-                item,
-                value: self.random.below(5),
-                stamp: awaited,
-                latest: self.entry(),
-            },
+            _ => self.got(tables),
         }
+    }
+
+    /// A got, mostly one that a reading client awaits. Its set may lack its item, and the initial
+    /// version may have one.
+    fn got(&mut self, tables: &Tables) -> Message {
+        let (mut client, mut item) = (self.client(), self.item());
+        for _ in 0..4 {
+            let record = tables.client(client);
+            if record.mode == READING && has(record.awaited, item) {
+                break;
+            }
+            (client, item) = (self.client(), self.item());
+        }
+        let stamp = tables.client(client).stamps[item as usize];
+        let version = Version { item, value: self.random.below(5), stamp, set: self.set() };
+        Message::Got { client, version, latest: self.entry() }
     }
 
     fn tables(&mut self) -> Tables {

@@ -43,6 +43,8 @@ enum Order {
     Last,
     /// Commits only when nothing else lies there.
     CommitsLast,
+    /// This partition's commits only when nothing else lies there.
+    PartitionLast(u64),
     /// This client's messages only when no other lies there.
     ClientLast(u64),
 }
@@ -113,11 +115,12 @@ impl<'a, 'b> Runner<'a, 'b> {
     fn new(sort: Sort, seed: u64, watch: &'a mut Watch<'b>) -> Runner<'a, 'b> {
         let mut random = Random::new(seed);
         let sizes = sort.sizes(&mut random);
-        let order = match random.below(6) {
+        let order = match random.below(7) {
             0 => Order::First,
             1 => Order::Last,
             2 => Order::CommitsLast,
-            3 => Order::ClientLast(random.between(1, sizes.clients)),
+            3 => Order::PartitionLast(random.below(sizes.partitions)),
+            4 => Order::ClientLast(random.between(1, sizes.clients)),
             _ => Order::Any,
         };
         Runner {

@@ -78,7 +78,7 @@ module _ (b : List ℕ) (i : ℕ) (v : validBlock b ≡ true) where
     long-enough = words .long
 
     message-read : messageIn b i ≡ messageAt t i
-    message-read = read-message held (holds-tables b v .masked .messages) i place (Commit 0 0)
+    message-read = read-message held i place (Commit 0 0)
 
     in-range : MessageInRange (t .sizes) (messageAt t i)
     in-range = facts .inRange .messages (messageAt t i) (in-getD (t .messages) i (Commit 0 0) place)
@@ -167,15 +167,15 @@ module _ (b : List ℕ) (i : ℕ) (e : refusalOn b (deliver i) ≡ 0) where
       → w ≡ at b header versionsAt → m ≡ messageIn b i → x ≡ testedIn b (at b header versionsAt) m
       → (after : List ℕ) (count kind : ℕ)
       → after ≡ messageDelivered (takeOut b n i)
-      (record { partitions = p; items = k; versions = w }) (x .value) m
+      (record { partitions = p; items = k; versions = w }) (x .found) m
       → count ≡ at after header messagesAt → kind ≡ kindIn b i
       → (Delivered kind count (x .outcome) ≡ answerOn b (deliver i))
       × (after ≡ blockAfter b (deliver i))
   unfolding changed reply effect
   deliver-given n p k w x m en ep ek ew em ex after count kind a c h =
       let whole : after ≡ deliveredBlock b i =
-      a ∙ delivered-block b n i (record { partitions = p; items = k; versions = w }) (x .value) m en
-      (rw (ep, ek, ew) refl) em (ap (λ (y : Tested). y .value) ex) in (
+      a ∙ delivered-block b n i (record { partitions = p; items = k; versions = w }) (x .found) m en
+      (rw (ep, ek, ew) refl) em (ap (λ (y : Tested). y .found) ex) in (
         rw (
           h ∙ kind-read b i v accepted-place,
           count-given b

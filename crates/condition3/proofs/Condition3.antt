@@ -29,6 +29,7 @@ use Rattle.condition3.proofs.Runs.OneMessage.{one-message}
 use Rattle.condition3.proofs.Runs.ReadCounts.{inv-at, asked, left, is-reading, ends-iff}
 use Rattle.condition3.proofs.Runs.ReadCounts.{counts-exact}
 use Rattle.condition3.proofs.Runs.ReadShows.{shows, silent, wins}
+use Rattle.condition3.proofs.Runs.Falls.{never-falls}
 use Rattle.condition3.proofs.Runs.WriteShows.{own-shown, own-head, own-number}
 use Rattle.condition3.proofs.Runs.WriteShows.{wins-own}
 
@@ -103,6 +104,10 @@ condition-3-from caps w inv calls =
       );
       winsOwn = λ before during until between rest d z written end room v bytes e u quietly enough
           a. wins-own caps w inv d z written before during end until room u quietly enough between;
+      neverFalls = λ before during until between before′ during′ until′ rest d s s′ end end′ room
+          room′ split e u quietly enough u′ quietly′ enough′.
+          never-falls caps w inv d s before during end until room u quietly enough
+          s′ between before′ during′ end′ until′ room′ split u′ quietly′ enough′;
       deliverable =
           λ before rest e. deliverable caps (after caps w before) (after-inv caps w inv before);
     }

@@ -14,3 +14,4 @@ pub mod OneMessage
 pub mod ReadCounts
 pub mod Shows
 pub mod ReadShows
+pub mod Falls

@@ -29,7 +29,7 @@ use Rattle.protocol.specs.declared.Entry.{Entry}
 use Rattle.protocol.specs.declared.Message.{Message}
 use Rattle.protocol.specs.declared.Message.the-variants.{Prepare, Prepared, Commit, Get, Got}
 use Rattle.protocol.specs.Tables.{Tables, Client, Side, awaitedOf, Ended, showsWrite, stampOf}
-use Rattle.protocol.specs.Tables.{numberOf, writerOf}
+use Rattle.protocol.specs.Tables.{entryOf, numberOf, writerOf}
 use Rattle.protocol.specs.Message.{ownerOf}
 use Rattle.protocol.specs.Range.{Capacities}
 use Rattle.protocol.specs.Steps.{stored}
@@ -114,7 +114,7 @@ pub record FitsGot (L : Ledger) (vs : List Version) (c : Client) (v : Version)
     (e : Entry) : Type 0 where
   pub mode : c .read .set ≢ 0
   pub asked : c .read .asked (v .item) ≡ v .stamp
-  pub good : Good L vs (v .item) (v .stamp)
+  pub version : GoodEntry L vs (v .item) (entryOf v)
   pub value : v .value ≡ L .value (v .stamp) (v .item)
   pub latest : GoodEntry L vs (v .item) e
 

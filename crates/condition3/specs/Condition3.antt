@@ -55,6 +55,13 @@ ShownOlder s output k stamp =
     (shownNumber s output k < numberOf stamp)
     ⊎ ((shownNumber s output k ≡ numberOf stamp) × (shownWriter s output k < writerOf stamp))
 
+-- from an output of a read of s to one of a read of s′ the stamp shown for item k falls
+abbrev pub Falls : ℕ → List ℕ → ℕ → List ℕ → ℕ → Type 0
+Falls s output s′ output′ k =
+    (shownNumber s′ output′ k < shownNumber s output k)
+    ⊎ ((shownNumber s′ output′ k ≡ shownNumber s output k)
+    × (shownWriter s′ output′ k < shownWriter s output k))
+
 -- 'it is stored in all its cabinets once its own prepare of each of its lines has been delivered':
 -- before time t
 abbrev pub StoredBefore : List Store → Write → ℕ → Type 0
@@ -249,6 +256,22 @@ module _ (caps : Capacities) (w : World) where
         → shownOwnNumber (output d (startWrite d z written) before during end until room)
         < numberOf (nextStamp (later d (startWrite d z written) before during end until room
         between .tables) d)
+    -- 'Two reads of one line by one desk, the second started after the first ended, then show
+    -- stamps that never fall' (document 02, P2). The first shows before its client's next start, so
+    -- before the second's.
+    pub neverFalls : (before during until between before′ during′ until′ rest : List Call)
+        (d s s′ : ℕ) (end end′ : Call) (room room′ : List ℕ)
+        → before′ ≡ before ++ startRead d s ∷ during ++ end ∷ until ++ show d room ∷ between
+        → calls ≡ before′ ++ startRead d s′ ∷ during′ ++ end′ ∷ until′ ++ show d room′ ∷ rest
+        → EndedBy d (startRead d s) before during end
+        → rests caps (shownAt (startRead d s) before during end []) d until ≡ true
+        → 10 + 9 * count s ≤ length room
+        → EndedBy d (startRead d s′) before′ during′ end′
+        → rests caps (shownAt (startRead d s′) before′ during′ end′ []) d until′ ≡ true
+        → 10 + 9 * count s′ ≤ length room′
+        → (k : ℕ) → has s k ≡ true → has s′ k ≡ true
+        → Falls s (outputOfRead d s before during end until room) s′
+        (outputOfRead d s′ before′ during′ end′ until′ room′) k → ⊥
     -- 'a delivery at any place within the pile is accepted'
     pub deliverable : (before rest : List Call) → calls ≡ before ++ rest
         → (i : ℕ) → i < length (after caps w before .tables .messages)

@@ -6,6 +6,7 @@ use Prim.Native.Nat.{ℕ}
 use native.Mathlib.Omega.{arith}
 use Rattle.basics.specs.Lists.{without}
 use Rattle.basics.proofs.Lists.{length-without}
+use Rattle.protocol.specs.declared.Version.{Version}
 use Rattle.protocol.specs.declared.Message.{Message}
 use Rattle.protocol.specs.declared.Message.the-variants.{Commit}
 use Rattle.protocol.specs.Tables.{Tables, withMessages}
@@ -18,7 +19,6 @@ use Rattle.layout.specs.Layout.{header, at, messagesAt, versionsAt}
 use Rattle.layout.specs.Decode.{messageIn}
 use Rattle.layout.specs.Store.{takeOut}
 use Rattle.layout.specs.Encodes.{Encodes}
-use Rattle.layout.proofs.Masked.{MaskedMessage}
 use Rattle.layout.proofs.Room.{HasRoom, room-valid}
 use Rattle.layout.proofs.Held.{message-held}
 use Rattle.messages.proofs.EncodesTakeOut.{encodes-take-out}
@@ -38,13 +38,13 @@ counts-held : {b : List ℕ} {t : Tables} → Encodes b t → countsIn b ≡ cou
 counts-held n = rw (n .partitions, n .items, n .versionCount) refl
 
 module _ {b : List ℕ} {t : Tables} (i : ℕ) (n : Encodes b t)
-    (masked : MaskedMessage (messageAt t i)) (a : AcceptedDeliver capacities t i) where
+    (a : AcceptedDeliver capacities t i) where
   room : HasRoom t
   room = room-valid t (a .valid)
 
   -- the message that is read is the one at its place
   message-read : messageIn b i ≡ messageAt t i
-  message-read = message-held b i (messageAt t i) (n .messages i (a .place) (Commit 0 0)) masked
+  message-read = message-held b i (messageAt t i) (n .messages i (a .place) (Commit 0 0))
 
   -- taken out
   taken : Encodes (takeOut b (at b header messagesAt) i) (withMessages t (without i (t .messages)))
@@ -63,10 +63,10 @@ module _ {b : List ℕ} {t : Tables} (i : ℕ) (n : Encodes b t)
         client = room .client;
       }
 
-  value-read : testedIn b (at b header versionsAt) (messageAt t i) .value ≡ answerOf t
+  found-read : testedIn b (at b header versionsAt) (messageAt t i) .found ≡ answerOf t
       (messageAt t i)
-  value-read =
-      tested-tables (messageAt t i) n (a .valid .inRange) (accepted-message capacities t i a) .value
+  found-read =
+      tested-tables (messageAt t i) n (a .valid .inRange) (accepted-message capacities t i a) .found
 
   pub encodes-deliver : Encodes (deliveredBlock b i) (deliveredAt t i)
   unfolding deliveredBlock
@@ -75,24 +75,24 @@ module _ {b : List ℕ} {t : Tables} (i : ℕ) (n : Encodes b t)
       subst
       (λ (m : Message).
       Encodes (messageDelivered (takeOut b (at b header messagesAt) i) (countsIn b)
-      (testedIn b (at b header versionsAt) m .value) m) (deliveredAt t i))
+      (testedIn b (at b header versionsAt) m .found) m) (deliveredAt t i))
       (sym message-read)
       (subst
       (λ (c : Counts).
       Encodes (messageDelivered (takeOut b (at b header messagesAt) i) c
-      (testedIn b (at b header versionsAt) (messageAt t i) .value) (messageAt t i))
+      (testedIn b (at b header versionsAt) (messageAt t i) .found) (messageAt t i))
       (deliveredAt t i))
       (sym (counts-held n))
       (encodes-work t (without i (t .messages)) taken room-taken (messageAt t i)
-      (testedIn b (at b header versionsAt) (messageAt t i) .value)
-      (a .valid .inRange) (accepted-message capacities t i a) (a .expected) value-read
+      (testedIn b (at b header versionsAt) (messageAt t i) .found)
+      (a .valid .inRange) (accepted-message capacities t i a) (a .expected) found-read
       (after .versions) (after .messages)))
 
 -- what the code does, from its copies of the block's words, is the delivery of the message at place
 -- i
-pub delivered-block : (b : List ℕ) (n i : ℕ) (counts : Counts) (value : ℕ) (m : Message)
+pub delivered-block : (b : List ℕ) (n i : ℕ) (counts : Counts) (found : Version) (m : Message)
     → n ≡ at b header messagesAt → counts ≡ countsIn b
-    → m ≡ messageIn b i → value ≡ testedIn b (at b header versionsAt) m .value
-    → messageDelivered (takeOut b n i) counts value m ≡ deliveredBlock b i
+    → m ≡ messageIn b i → found ≡ testedIn b (at b header versionsAt) m .found
+    → messageDelivered (takeOut b n i) counts found m ≡ deliveredBlock b i
 unfolding deliveredBlock
-delivered-block b n i counts value m e c r v = rw (v, e, c, r) refl
+delivered-block b n i counts found m e c r v = rw (v, e, c, r) refl

@@ -1,5 +1,5 @@
 -- A got reply on the block is a got reply in the tables: the answer is kept, the view takes the
--- later, and the client goes on, or with the last one rests.
+-- latest of three, and the client goes on, or with the last one rests.
 use mathlib.Core.Bool.{true, false, cond, and-true}
 use mathlib.Core.List.{List}
 use mathlib.Core.Path.{_≡_, refl, sym, ap, _∙_, subst, fun-ext}
@@ -11,10 +11,10 @@ use Rattle.itemset.specs.Set.{has, remove}
 use Rattle.itemset.proofs.Laws.{has-empty}
 use Rattle.protocol.specs.declared.Version.{Version}
 use Rattle.protocol.specs.declared.Entry.{Entry}
-use Rattle.protocol.specs.Tables.{Tables, Client, ofRead, laterOf, rested, put}
+use Rattle.protocol.specs.Tables.{Tables, Client, ofRead, rested, put}
 use Rattle.protocol.specs.Tables.{withClient, withView}
 use Rattle.protocol.specs.Range.{isIdle, isWriting}
-use Rattle.protocol.specs.Steps.{answered, isLast, ended, got, seen}
+use Rattle.protocol.specs.Steps.{answered, isLast, ended, got, offered, seen}
 use Rattle.protocol.proofs.Ranges.Clients.{ClientInRange}
 use Rattle.layout.specs.Layout.{scalars, values, store, awaitedAt}
 use Rattle.layout.specs.Decode.{viewIn}
@@ -46,18 +46,18 @@ module _ {b : List ℕ} {t : Tables} (d : ℕ) (v : Version) (latest : Entry) (n
   c = t .client d
 
   abbrev view : ℕ → Entry
-  view = put (t .view d) (v .item) (laterOf (t .view d (v .item)) latest)
+  view = put (t .view d) (v .item) (offered (t .view d (v .item)) v latest)
 
   -- with the view's entry
   abbrev seenBlock : List ℕ
-  seenBlock = storeView b d (v .item) (laterOf (viewIn b d (v .item)) latest)
+  seenBlock = storeView b d (v .item) (offered (viewIn b d (v .item)) v latest)
 
   encodes-seen-later : Encodes seenBlock (withView t d view)
   encodes-seen-later =
       subst (λ (e : Entry). Encodes seenBlock (withView t d (put (t .view d) (v .item) e)))
-      (ap (λ (e : Entry). laterOf e latest)
+      (ap (λ (e : Entry). offered e v latest)
       (view-held d (v .item) (n .view d first last (v .item) item)))
-      (encodes-view d (v .item) (laterOf (viewIn b d (v .item)) latest) n r first last item)
+      (encodes-view d (v .item) (offered (viewIn b d (v .item)) v latest) n r first last item)
 
   reads : isWriting c ≡ false
   reads = awaits-answer (t .sizes) c range (v .item) awaits

@@ -8,6 +8,7 @@ use lib.ListN.{take, drop, length-take}
 use borrow.Author.Tests.{ltb-true}
 use Rattle.basics.proofs.Cases.{and-right}
 use Rattle.itemset.specs.Set.{remove}
+use Rattle.protocol.specs.declared.Version.{Version}
 use Rattle.protocol.specs.declared.Message.{Message}
 use Rattle.protocol.specs.declared.Message.the-variants.{Prepare, Prepared, Commit, Get, Got}
 use Rattle.protocol.specs.Tables.{writerOf}
@@ -44,17 +45,17 @@ past-take-out b n i l h =
 
 -- ---- messages
 
-past-work : (b : List ℕ) (n : Counts) (value : ℕ) (m : Message) → n .items ≤ 64 → Bounded m
-    → SamePast b (messageDelivered b n value m)
+past-work : (b : List ℕ) (n : Counts) (found : Version) (m : Message) → n .items ≤ 64 → Bounded m
+    → SamePast b (messageDelivered b n found m)
 unfolding messageDelivered prepareDelivered preparedDelivered commitDelivered getDelivered
     gotDelivered
-past-work b n value (Prepare v) h r =
+past-work b n found (Prepare v) h r =
     past-trans (past-keep b v) (past-send (keep b v) (Prepared (v .item) (v .stamp)))
-past-work b n value (Prepared k stamp) h r =
+past-work b n found (Prepared k stamp) h r =
     by-cond (SamePast b) (eqb (remove (at b scalars (awaitedAt (writerOf stamp))) k) 0) _ _
     (λ e. past-write-ended (writerOf stamp) (r .0) (r .1) b (n .partitions) (n .items) stamp h)
     (λ e. past-scalar (writerOf stamp) (r .0) (r .1) b 3 _ (lit< tt))
-past-work b n value (Commit p stamp) h r =
+past-work b n found (Commit p stamp) h r =
     past-each (commitVersion (n .partitions) p stamp) b (n .versions) (λ i c l.
     past-when c _ (eqb (versionIn c i .stamp) stamp)
     (by-cond (SamePast c) (eqb (versionIn c i .item % n .partitions) p
@@ -66,8 +67,8 @@ past-work b n value (Commit p stamp) h r =
     (ltb (versionIn c i .item) 64) e) in
     past-entry c latest (latestAt (versionIn c i .item)) _ (omega arith))
     (λ e. past-none c)))
-past-work b n value (Get d k stamp) h r = past-send b _
-past-work b n value (Got d v entry) h r =
+past-work b n found (Get d k stamp) h r = past-send b _
+past-work b n found (Got d v entry) h r =
     past-trans
     (past-trans (past-entry b views (viewAt d (v .item)) _ (omega arith))
     (past-store _ values (itemAt d (v .item)) (v .value) (omega arith)))
@@ -77,8 +78,8 @@ past-work b n value (Got d v entry) h r =
     (λ e. past-scalar d (r .0) (r .1) (keptAnswer b d v entry) 3 _ (lit< tt)))
 
 -- of n messages the one at place i
-pub past-deliver : (b : List ℕ) (n i : ℕ) (counts : Counts) (value : ℕ) (m : Message) → i < n
+pub past-deliver : (b : List ℕ) (n i : ℕ) (counts : Counts) (found : Version) (m : Message) → i < n
     → n ≤ mostMessages → counts .items ≤ 64 → Bounded m
-    → SamePast b (messageDelivered (takeOut b n i) counts value m)
-past-deliver b n i counts value m l h items r =
-    past-trans (past-take-out b n i l h) (past-work (takeOut b n i) counts value m items r)
+    → SamePast b (messageDelivered (takeOut b n i) counts found m)
+past-deliver b n i counts found m l h items r =
+    past-trans (past-take-out b n i l h) (past-work (takeOut b n i) counts found m items r)

@@ -7,6 +7,7 @@ use Rattle.itemset.specs.Set.{remove}
 use Rattle.protocol.specs.declared.Version.{Version}
 use Rattle.protocol.specs.declared.Entry.{Entry}
 use Rattle.protocol.specs.Tables.{writerOf}
+use Rattle.protocol.specs.Steps.{offered}
 use Rattle.layout.specs.Layout.{scalars, at, store, awaitedAt}
 use Rattle.ends.specs.Ends.{readEnded, writeEnded}
 use Rattle.slots.proofs.Chosen.{when, unless}
@@ -29,6 +30,12 @@ module _ (b y : List ℕ) (partitions items k stamp awaited rest : ℕ)
   prepared-more z h =
       unless _ _ _ _ (ne-eqb _ _ (λ x. z (struck-prepared ∙ x)))
       (h ∙ ap (store b scalars (awaitedAt (writerOf stamp))) struck-prepared)
+
+-- r is f of the latest of the entry read, y, and what a got offers
+pub offered-put : (f : Entry → List ℕ) (x y z : Entry) (v : Version) (e : Entry) (r : List ℕ)
+    → r ≡ f z → z ≡ offered y v e → y ≡ x → r ≡ f (offered x v e)
+offered-put f x y z v e r stored latest same =
+    stored ∙ ap f (latest ∙ ap (λ (u : Entry). offered u v e) same)
 
 module _ (b x y : List ℕ) (items d : ℕ) (v : Version) (latest : Entry) (awaited rest : ℕ)
     (e : awaited ≡ at b scalars (awaitedAt d))

@@ -19,7 +19,6 @@ use Rattle.protocol.proofs.Ranges.Tables.{InRange}
 use Rattle.protocol.proofs.Ranges.Clients.{ClientInRange}
 use Rattle.protocol.proofs.Refusals.{Expected, tells-prepared, tells-got}
 use Rattle.protocol.proofs.Commits.{no-commits}
-use Rattle.layout.specs.Decode.{latestIn}
 use Rattle.layout.specs.Encodes.{Encodes}
 use Rattle.layout.proofs.Room.{HasRoom}
 use Rattle.layout.proofs.Parts.{awaits-answer, writes-nothing}
@@ -64,24 +63,21 @@ module _ {b : List ℕ} (t : Tables) (ms : List Message) (n : Encodes b (withMes
       })
       (omega (arith, length-append ms (Prepared (v .item) (v .stamp) ∷ [])))
 
-  encodes-get : (d k stamp value : ℕ) → k < t .sizes .items
-      → value ≡ found (t .versions) k stamp .value
-      → length (ms ++ Got d (version k value stamp 0) (t .latest k) ∷ []) ≤ mostMessages
-      → Encodes (getDelivered b value d k stamp)
-      (withMessages t (ms ++ Got d (version k (found (t .versions) k stamp .value) stamp 0)
-      (t .latest k) ∷ []))
+  -- the reply to a get, with the version found
+  abbrev replyWith : ℕ → ℕ → ℕ → Version → Message
+  replyWith d k stamp v = Got d (version k (v .value) stamp (v .set)) (t .latest k)
+
+  encodes-get : (d k stamp : ℕ) (v : Version) → k < t .sizes .items
+      → length (ms ++ replyWith d k stamp v ∷ []) ≤ mostMessages
+      → Encodes (getDelivered b v d k stamp) (withMessages t (ms ++ replyWith d k stamp v ∷ []))
   unfolding getDelivered
-  encodes-get d k stamp value item same room =
+  encodes-get d k stamp v item room =
       subst
-      (λ (x : ℕ). Encodes (send b (Got d (version k value stamp 0) (latestIn b k)))
-      (withMessages t (ms ++ Got d (version k x stamp 0) (t .latest k) ∷ [])))
-      same
-      (subst
-      (λ (e : Entry). Encodes (send b (Got d (version k value stamp 0) e))
-      (withMessages t (ms ++ Got d (version k value stamp 0) (t .latest k) ∷ [])))
+      (λ (e : Entry). Encodes (send b (Got d (version k (v .value) stamp (v .set)) e))
+      (withMessages t (ms ++ replyWith d k stamp v ∷ [])))
       (sym (latest-held k (n .latest k item)))
-      (encodes-send (Got d (version k value stamp 0) (t .latest k)) n r
-      (omega (arith, length-append ms (Got d (version k value stamp 0) (t .latest k) ∷ [])))))
+      (encodes-send (replyWith d k stamp v) n r
+      (omega (arith, length-append ms (replyWith d k stamp v ∷ []))))
 
   -- with no write part no commit joins
   got-joins : (d : ℕ) (v : Version) → ClientInRange (t .sizes) (t .client d)
@@ -95,38 +91,30 @@ module _ {b : List ℕ} (t : Tables) (ms : List Message) (n : Encodes b (withMes
       (λ l. rw (l, writes-nothing (t .sizes) c range reads) (no-commits t (c .write .stamp)))
       (λ l. rw l refl)
 
-  pub encodes-work : (m : Message) (value : ℕ) → InRange t → MessageInRange (t .sizes) m
-      → Expected t m → value ≡ answerOf t m
+  pub encodes-work : (m : Message) (v : Version) → InRange t → MessageInRange (t .sizes) m
+      → Expected t m → v ≡ answerOf t m
       → length (delivered t m .versions) ≤ mostVersions → length (ms ++ joined t m) ≤ mostMessages
-      → Encodes (messageDelivered b (countsOf t) value m)
+      → Encodes (messageDelivered b (countsOf t) v m)
       (withMessages (delivered t m) (ms ++ joined t m))
   unfolding messageDelivered delivered joined answerOf
-  encodes-work (Prepare v) value z i e same versions messages = encodes-prepare v versions messages
-  encodes-work (Prepared k stamp) value z i e same versions messages =
+  encodes-work (Prepare v) u z i e same versions messages = encodes-prepare v versions messages
+  encodes-work (Prepared k stamp) u z i e same versions messages =
       let w = i .written (omega arith) .writer in
       let x = tells-prepared t k stamp .0 e in
       encodes-prepared t ms k stamp n r (z .sizes .somePartition) (z .sizes .partitions) (w .0)
       (w .1) (z .client _ w) (x .awaited) (x .stamp) messages
-  encodes-work (Commit p stamp) value z i e same versions messages =
+  encodes-work (Commit p stamp) u z i e same versions messages =
       subst (λ (x : List Message). Encodes
       (commitDelivered b (t .sizes .partitions) (length (t .versions)) p stamp)
       (withMessages (delivered t (Commit p stamp)) x))
       (sym (append-nil ms))
       (encodes-committed (withMessages t ms) r p stamp n (λ v h. z .versions v h .item))
-  encodes-work (Get d k stamp) value z i e same versions messages =
-      encodes-get d k stamp value (i .item) same (gets messages)
-    where
-      gets : length (ms ++ Got d (version k (found (t .versions) k stamp .value) stamp 0)
-          (t .latest k) ∷ []) ≤ mostMessages
-          → length (ms ++ Got d (version k value stamp 0) (t .latest k) ∷ []) ≤ mostMessages
-      gets l =
-          omega (
-            arith,
-            length-append ms (Got d (version k value stamp 0) (t .latest k) ∷ []),
-            length-append ms (Got d (version k (found (t .versions) k stamp .value) stamp 0)
-                (t .latest k) ∷ []),
-          )
-  encodes-work (Got d v latest) value z i e same versions messages =
+  encodes-work (Get d k stamp) v z i e same versions messages =
+      let answer = found (t .versions) k stamp in
+      subst (λ (x : Version). Encodes (getDelivered b x d k stamp)
+      (withMessages t (ms ++ replyWith d k stamp answer ∷ []))) (sym same)
+      (encodes-get d k stamp answer (i .item) messages)
+  encodes-work (Got d v latest) u z i e same versions messages =
       let w = i .client (omega arith) in
       let awaited = tells-got t d v latest .0 e .awaited in
       subst (λ (x : List Message). Encodes (gotDelivered b (t .sizes .items) d v latest)

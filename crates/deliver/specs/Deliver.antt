@@ -8,8 +8,8 @@ use Rattle.protocol.specs.declared.Version.{Version}
 use Rattle.protocol.specs.declared.Entry.{Entry}
 use Rattle.protocol.specs.declared.Message.{Message}
 use Rattle.protocol.specs.declared.Message.the-variants.{Prepare, Prepared, Commit, Get, Got}
-use Rattle.protocol.specs.Tables.{writerOf, laterOf}
-use Rattle.protocol.specs.Steps.{version}
+use Rattle.protocol.specs.Tables.{writerOf}
+use Rattle.protocol.specs.Steps.{version, offered}
 use Rattle.layout.specs.Layout.{header, scalars, values, at, store, partitionsAt, itemsAt}
 use Rattle.layout.specs.Layout.{versionsAt, messagesAt, awaitedAt, itemAt}
 use Rattle.layout.specs.Decode.{latestIn, viewIn, messageIn}
@@ -35,16 +35,16 @@ preparedDelivered b partitions items k stamp =
 
 -- ---- Commit: commitDelivered, of crate commit
 
--- ---- Get: the reply joins, with this value, the version's, and the item's latest
+-- ---- Get: the reply joins, with the value and the set of the version found, and the item's latest
 
-unfoldable pub getDelivered : List ℕ → ℕ → ℕ → ℕ → ℕ → List ℕ
-getDelivered b value d k stamp = send b (Got d (version k value stamp 0) (latestIn b k))
+unfoldable pub getDelivered : List ℕ → Version → ℕ → ℕ → ℕ → List ℕ
+getDelivered b v d k stamp = send b (Got d (version k (v .value) stamp (v .set)) (latestIn b k))
 
--- ---- Got: the version is kept, the view takes the later; with the last one the read ends
+-- ---- Got: the version is kept, the view takes the latest of three; the last one ends the read
 
 abbrev pub keptAnswer : List ℕ → ℕ → Version → Entry → List ℕ
 keptAnswer b d v latest =
-    store (storeView b d (v .item) (laterOf (viewIn b d (v .item)) latest)) values
+    store (storeView b d (v .item) (offered (viewIn b d (v .item)) v latest)) values
     (itemAt d (v .item)) (v .value)
 
 unfoldable pub gotDelivered : List ℕ → ℕ → ℕ → Version → Entry → List ℕ
@@ -55,14 +55,14 @@ gotDelivered b items d v latest =
 
 -- ---- the message at place i is taken out, and does its work
 
-unfoldable pub messageDelivered : List ℕ → Counts → ℕ → Message → List ℕ
-messageDelivered b n value (Prepare v) = prepareDelivered b v
-messageDelivered b n value (Prepared k stamp) =
+unfoldable pub messageDelivered : List ℕ → Counts → Version → Message → List ℕ
+messageDelivered b n found (Prepare v) = prepareDelivered b v
+messageDelivered b n found (Prepared k stamp) =
     preparedDelivered b (n .partitions) (n .items) k stamp
-messageDelivered b n value (Commit p stamp) =
+messageDelivered b n found (Commit p stamp) =
     commitDelivered b (n .partitions) (n .versions) p stamp
-messageDelivered b n value (Get d k stamp) = getDelivered b value d k stamp
-messageDelivered b n value (Got d v latest) = gotDelivered b (n .items) d v latest
+messageDelivered b n found (Get d k stamp) = getDelivered b found d k stamp
+messageDelivered b n found (Got d v latest) = gotDelivered b (n .items) d v latest
 
 abbrev pub countsIn : List ℕ → Counts
 countsIn b =
@@ -76,5 +76,5 @@ countsIn b =
 unfoldable pub deliveredBlock : List ℕ → ℕ → List ℕ
 deliveredBlock b i =
     messageDelivered (takeOut b (at b header messagesAt) i) (countsIn b)
-    (testedIn b (at b header versionsAt) (messageIn b i) .value)
+    (testedIn b (at b header versionsAt) (messageIn b i) .found)
     (messageIn b i)

@@ -9,6 +9,7 @@ ghost use Rattle.deliver.specs.Deliver.{messageDelivered};
 use commit::commit;
 use messages::take_out;
 use protocol::Message;
+use protocol::Version;
 
 pub mod replies;
 pub mod requests;
@@ -20,11 +21,11 @@ pub struct Counts {
     pub versions: u64,
 }
 
-// The work of message `m`, taken out before; a get is answered with `value`.
-fn work(b: &mut [u64], counts: Counts, value: u64, m: Message)
+// The work of message `m`, taken out before; a get is answered with `found`.
+fn work(b: &mut [u64], counts: Counts, found: Version, m: Message)
     requires { ⌜ (1 ≤ counts .partitions) × (counts .partitions ≤ 8) × (counts .items ≤ 64)
         × (counts .versions ≤ mostVersions) × Bounded m × (needed ≤ length (now b)) ⌝ }
-    ensures { λ _. ⌜ now (b .exit) ≡ messageDelivered (now (b .entry)) counts value m ⌝ }
+    ensures { λ _. ⌜ now (b .exit) ≡ messageDelivered (now (b .entry)) counts found m ⌝ }
 {
     match m {
         Message::Prepare(v) => requests::prepare(b, v),
@@ -46,7 +47,7 @@ fn work(b: &mut [u64], counts: Counts, value: u64, m: Message)
             client,
             item,
             stamp,
-        } => requests::get(b, value, client, item, stamp),
+        } => requests::get(b, found, client, item, stamp),
         Message::Got {
             client,
             version,
@@ -55,14 +56,14 @@ fn work(b: &mut [u64], counts: Counts, value: u64, m: Message)
     }
 }
 
-// Of `n` messages the one at place `i`, which is `m`, is delivered; a get is answered with `value`.
-pub fn deliver_message(b: &mut [u64], n: u64, i: u64, counts: Counts, value: u64, m: Message)
+// Of `n` messages the one at place `i`, which is `m`, is delivered; a get is answered with `found`.
+pub fn deliver_message(b: &mut [u64], n: u64, i: u64, counts: Counts, found: Version, m: Message)
     requires { ⌜ (i < n) × (n ≤ mostMessages) × (needed ≤ length (now b)) ⌝ }
     requires { ⌜ (1 ≤ counts .partitions) × (counts .partitions ≤ 8) × (counts .items ≤ 64)
         × (counts .versions ≤ mostVersions) × Bounded m ⌝ }
     ensures { λ _. ⌜ now (b .exit) ≡ messageDelivered (takeOut (now (b .entry)) n i)
-        counts value m ⌝ }
+        counts found m ⌝ }
 {
     take_out(b, n, i);
-    work(b, counts, value, m);
+    work(b, counts, found, m);
 }

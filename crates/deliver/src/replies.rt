@@ -30,13 +30,13 @@ pub fn prepared(b: &mut [u64], partitions: u64, items: u64, item: u64, stamp: u6
     }
 }
 
-// The version is the answer for its item, and the item's view entry becomes the later of itself and
-// the reply's latest.
+// The version is the answer for its item, and the item's view entry becomes the latest of itself,
+// the reply's latest and the version.
 fn answer(b: &mut [u64], d: u64, v: Version, latest: Entry)
     requires { ⌜ (1 ≤ d) × (d ≤ 8) × (v .item < 64) ⌝ }
     ensures { λ _. ⌜ now (b .exit) ≡ keptAnswer (now (b .entry)) d v latest ⌝ }
 {
-    let entry = view(b, d, v.item).later(latest);
+    let entry = view(b, d, v.item).offered(v, latest);
     put_view(b, d, v.item, entry);
     put_value(b, d, v.item, v.value);
 }

@@ -22,11 +22,11 @@ pub fn prepare(b: &mut [u64], v: Version)
     );
 }
 
-// The reply to client `d` joins: the version of `item` with this stamp, whose value is `value`, and
-// the item's latest.
-pub fn get(b: &mut [u64], value: u64, d: u64, item: u64, stamp: u64)
+// The reply to client `d` joins: the version of `item` with this stamp, which was found, and the
+// item's latest.
+pub fn get(b: &mut [u64], found: Version, d: u64, item: u64, stamp: u64)
     requires { ⌜ item < 64 ⌝ }
-    ensures { λ _. ⌜ now (b .exit) ≡ getDelivered (now (b .entry)) value d item stamp ⌝ }
+    ensures { λ _. ⌜ now (b .exit) ≡ getDelivered (now (b .entry)) found d item stamp ⌝ }
 {
     let entry = latest(b, item);
     send(
@@ -35,9 +35,9 @@ pub fn get(b: &mut [u64], value: u64, d: u64, item: u64, stamp: u64)
             client: d,
             version: Version {
                 item,
-                value,
+                value: found.value,
                 stamp,
-                set: 0,
+                set: found.set,
             },
             latest: entry,
         },

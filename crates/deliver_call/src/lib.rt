@@ -31,7 +31,7 @@ fn deliver_on(b: &mut [u64], i: u64, t: Tested, m: Message) -> Answer
         versions: layout::version_count(b),
     };
     let messages = layout::message_count(b);
-    deliver_message(b, messages, i, counts, t.value, m);
+    deliver_message(b, messages, i, counts, t.found, m);
     let length = layout::message_count(b);
     Answer::Delivered {
         kind,

@@ -6,7 +6,7 @@ use Prim.Native.Nat.{ℕ}
 use lib.Dec.{eqb}
 use Rattle.itemset.specs.Set.{has, remove}
 use Rattle.layout.specs.Layout.{scalars, at, modeAt, awaitedAt}
-use Rattle.deliver_tests.specs.Tests.{told, replyTested}
+use Rattle.deliver_tests.specs.Tests.{told, none, replyTested}
 
 pub reply-told : (b : List ℕ) (d kind k : ℕ) (right there : Bool)
     (awaited mode refusal rest outcome : ℕ)
@@ -16,6 +16,6 @@ pub reply-told : (b : List ℕ) (d kind k : ℕ) (right there : Bool)
     → refusal ≡ cond (eqb mode kind && there && right) 0 11
     → rest ≡ remove awaited k
     → outcome ≡ cond (eqb rest 0) kind 0
-    → told refusal outcome 0 ≡ replyTested b d kind k right
+    → told refusal outcome none ≡ replyTested b d kind k right
 reply-told b d kind k right there awaited mode refusal rest outcome a m h f r o =
     rw (f, o, r, h, m, a) refl

@@ -1,5 +1,5 @@
 -- What is told of a message from the words of a block is what the tables say: refusals 11 and 12,
--- the outcome, a get's value.
+-- the outcome, the version that answers a get.
 use mathlib.Core.Bool.{Bool, true, false, cond, not, _&&_, _||_, and-true, and-false}
 use mathlib.Core.List.{List, [], _∷_}
 use mathlib.Core.Path.{_≡_, refl, sym, ap, _∙_}
@@ -31,11 +31,11 @@ use Rattle.layout.proofs.Parts.{mode-writing, mode-other, no-answer-awaited, no
 use Rattle.layout.proofs.Parts.{writes-nothing, awaits-answer, awaits-reply}
 use Rattle.slots.proofs.ReadBack.{table-versions}
 use Rattle.deliver_tests.specs.declared.Tested.{Tested}
-use Rattle.deliver_tests.specs.Tests.{testedIn}
+use Rattle.deliver_tests.specs.Tests.{none, testedIn}
 
--- the value that answers a get; no other message has one
-unfoldable pub answerOf : Tables → Message → ℕ
-answerOf t m = cond (isGet m) (found (t .versions) (itemOf m) (partsOf m .stamp) .value) 0
+-- the version that answers a get; no other message has one
+unfoldable pub answerOf : Tables → Message → Version
+answerOf t m = cond (isGet m) (found (t .versions) (itemOf m) (partsOf m .stamp)) none
 
 -- ---- the tests
 
@@ -49,7 +49,7 @@ unless-awaited false = refl
 pub record Tells (x : Tested) (t : Tables) (m : Message) : Type 0 where
   pub refusal : x .refusal ≡ first (test 11 (unexpected t m) ∷ test 12 (missing t m) ∷ [])
   pub outcome : Expected t m → x .outcome ≡ outcomeOf t m
-  pub value : x .value ≡ answerOf t m
+  pub found : x .found ≡ answerOf t m
 
 -- ---- replies
 
@@ -112,7 +112,7 @@ unfolding testedIn unexpected missing outcomeOf answerOf first
 tested-tables {b} {t} (Prepare v) n z i = record {
   refusal = ap (λ (vs : List Version). cond (stored vs (v .item) (v .stamp)) 11 0) (read-back n);
   outcome = λ e. refl;
-  value = refl;
+  found = refl;
 }
 tested-tables {b} {t} (Prepared k stamp) n z i =
     let w = i .written (omega arith) .writer in
@@ -125,19 +125,19 @@ tested-tables {b} {t} (Prepared k stamp) n z i =
       outcome = λ e. ap (λ (x : Bool). cond x 2 0)
           (prepared-last (t .sizes) d k stamp c h (z .client d w)
           (tells-prepared t k stamp .0 e .awaited));
-      value = refl;
+      found = refl;
     }
 tested-tables {b} {t} (Commit p stamp) n z i = record {
   refusal = refl;
   outcome = λ e. refl;
-  value = refl;
+  found = refl;
 }
 tested-tables {b} {t} (Get d k stamp) n z i = record {
   refusal =
       ap (λ (vs : List Version). cond (eqb stamp 0 || stored vs k stamp) 0 12) (read-back n)
       ∙ get-tested stamp (stored (t .versions) k stamp);
   outcome = λ e. refl;
-  value = ap (λ (vs : List Version). found vs k stamp .value) (read-back n);
+  found = ap (λ (vs : List Version). found vs k stamp) (read-back n);
 }
 tested-tables {b} {t} (Got d v latest) n z i =
     let w = i .client (omega arith) in
@@ -153,5 +153,5 @@ tested-tables {b} {t} (Got d v latest) n z i =
           rw (writes-nothing (t .sizes) c (z .client d w) reads)
           (ap (λ (x : Bool). cond x 1 0)
           (got-last (t .sizes) d k (v .stamp) c h (z .client d w) awaited));
-      value = refl;
+      found = refl;
     }

@@ -1,4 +1,4 @@
-// What is told of a message before it is delivered: refusal 11 or 12, the outcome, and the value
+// What is told of a message before it is delivered: refusal 11 or 12, the outcome, and the version
 // that answers a get.
 ghost use mathlib.Core.Bool.{cond, _||_};
 ghost use mathlib.Core.Path.{_≡_};
@@ -17,18 +17,27 @@ use client_fields::stamp;
 use itemset::has;
 use itemset::remove;
 use protocol::Message;
+use protocol::Version;
 use versions::Found;
 use versions::find;
 use versions::is_stored;
 use versions::version;
 
 // What is told of a message before it is delivered: the refusal (11, 12 or 0), the outcome (0 none
-// ended, 1 a read ended, 2 a write ended), and the value that answers a get.
+// ended, 1 a read ended, 2 a write ended), and the version that answers a get.
 pub struct Tested {
     pub refusal: u64,
     pub outcome: u64,
-    pub value: u64,
+    pub found: Version,
 }
+
+// Of a message that is no get.
+const NONE: Version = Version {
+    item: 0,
+    value: 0,
+    stamp: 0,
+    set: 0,
+};
 
 fn pick(test: bool, yes: u64, no: u64) -> u64
     ensures { λ r. ⌜ r ≡ cond test yes no ⌝ }
@@ -45,28 +54,33 @@ fn reply(b: &[u64], d: u64, kind: u64, item: u64, right: bool) -> Tested
     Tested {
         refusal: pick((mode(b, d) == kind) & has(rest, item) & right, 0, 11),
         outcome: pick(remove(rest, item) == 0, kind, 0),
-        value: 0,
+        found: NONE,
     }
 }
 
 // A get of `item`, of exactly this stamp, among `n` stored versions: one search tells whether it is
-// stored, and its value.
+// stored, and its value and set.
 fn get(b: &[u64], n: u64, item: u64, stamp: u64) -> Tested
     requires { ⌜ (n ≤ mostVersions) × (needed ≤ length (now b)) ⌝ }
     ensures { λ r. ⌜ r ≡ told (cond (eqb stamp 0 || stored (table n (versionIn (now (b .entry))))
-        item stamp) 0 12) 0 (found (table n (versionIn (now (b .entry)))) item stamp .value) ⌝ }
+        item stamp) 0 12) 0 (found (table n (versionIn (now (b .entry)))) item stamp) ⌝ }
 {
     let place = find(b, n, item, stamp);
     match place {
         Found::At(i) => Tested {
             refusal: 0,
             outcome: 0,
-            value: version(b, i).value,
+            found: version(b, i),
         },
         Found::Nothing => Tested {
             refusal: pick(stamp == 0, 0, 12),
             outcome: 0,
-            value: 0,
+            found: Version {
+                item,
+                value: 0,
+                stamp,
+                set: 0,
+            },
         },
     }
 }
@@ -80,7 +94,7 @@ pub fn test(b: &[u64], n: u64, m: Message) -> Tested
         Message::Prepare(v) => Tested {
             refusal: pick(is_stored(b, n, v.item, v.stamp), 11, 0),
             outcome: 0,
-            value: 0,
+            found: NONE,
         },
         Message::Prepared { item, stamp: s } => reply(b, s % 16, 2, item, stamp(b, s % 16) == s),
         Message::Commit {
@@ -89,7 +103,7 @@ pub fn test(b: &[u64], n: u64, m: Message) -> Tested
         } => Tested {
             refusal: 0,
             outcome: 0,
-            value: 0,
+            found: NONE,
         },
         Message::Get {
             client: _,

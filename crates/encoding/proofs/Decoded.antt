@@ -9,7 +9,6 @@ use lib.ListN.{length}
 use borrow.Author.Tests.{ltb-true}
 use Rattle.basics.proofs.Cases.{by-test, between}
 use Rattle.basics.specs.Lists.{table}
-use Rattle.basics.proofs.Lists.{in-getD}
 use Rattle.itemset.specs.Set.{has}
 use Rattle.protocol.specs.declared.Entry.{Entry}
 use Rattle.protocol.specs.declared.Message.the-variants.{Commit}
@@ -157,8 +156,7 @@ module _ (b : List ℕ) (t : Tables) (e : Encodes b t) (m : Masked t) (r : InRan
       (λ i l. version-held b i _ (e .versions i l (version 0 0 0 0))) in
       let messages : table (min (at b header messagesAt) mostMessages) (messageIn b) ≡ t .messages =
       table-of _ (messageIn b) (t .messages) (Commit 0 0) (omega (arith, e .messageCount))
-      (λ i l. message-held b i _ (e .messages i l (Commit 0 0))
-      (m .messages _ (in-getD (t .messages) i (Commit 0 0) l))) in
+      (λ i l. message-held b i _ (e .messages i l (Commit 0 0))) in
       λ i.
       record {
         sizes = sizes-of i;

@@ -2,7 +2,7 @@
 -- and items that exist, and a client's stamps and values only at the items of its set. So does a
 -- fresh start.
 use mathlib.Core.Bool.{true, false, cond, _&&_}
-use mathlib.Core.List.{List, [], _∷_, _++_}
+use mathlib.Core.List.{List, _∷_, [], _++_}
 use mathlib.Core.Logic.{_≢_}
 use mathlib.Core.Path.{_≡_, refl, ap, _∙_, subst}
 use Prim.Native.Nat.{ℕ, _^_, _<_}
@@ -18,23 +18,20 @@ use Rattle.protocol.specs.declared.Entry.{Entry}
 use Rattle.protocol.specs.declared.Message.{Message}
 use Rattle.protocol.specs.declared.Message.the-variants.{Prepare, Prepared, Commit, Get, Got}
 use Rattle.protocol.specs.Tables.{Sizes, Tables, Client, ofRead, ofWrite, nothing, initial}
-use Rattle.protocol.specs.Tables.{fresh, resting, put, laterOf, writerOf, partitionOf}
+use Rattle.protocol.specs.Tables.{fresh, resting, put, writerOf, partitionOf}
 use Rattle.protocol.specs.Tables.{withClient, withView, withLatest, withVersions, withMessages}
 use Rattle.protocol.specs.Range.{Capacities, isClient, isItem, isWriting}
-use Rattle.protocol.specs.Steps.{asks, reader, gets, valueOf, writer, nextStamp, version, prepares}
-use Rattle.protocol.specs.Steps.{stored, found, struck, answered, endedRead, endedWrite, ended}
-use Rattle.protocol.specs.Steps.{isLast, prepared, got, seen, committed, delivered, touches}
-use Rattle.protocol.specs.Steps.{commits, joined, messageAt}
+use Rattle.protocol.specs.Steps.{reader, gets, writer, prepares, stored, found, struck, answered}
+use Rattle.protocol.specs.Steps.{endedRead, endedWrite, ended, isLast, prepared, got, offered, seen}
+use Rattle.protocol.specs.Steps.{committed, delivered, joined, messageAt}
 use Rattle.protocol.specs.Calls.{Call, startRead, startWrite, deliver, show, refusal, effect}
-use Rattle.protocol.proofs.Each.{Each, each-none, each-one, each-append, each-without, each-upto}
 use Rattle.protocol.proofs.Put.{by-cond, put-all, put-other}
 use Rattle.protocol.proofs.Stored.{found-held}
 use Rattle.protocol.proofs.Ranges.Values.{IsClient, MessageInRange}
 use Rattle.protocol.proofs.Ranges.Tables.{InRange}
 use Rattle.protocol.proofs.Refusals.{AcceptedDeliver, Expected, accepted-read, accepted-write}
 use Rattle.protocol.proofs.Refusals.{accepted-deliver, accepted-message, tells-prepared, tells-got}
-use Rattle.layout.specs.Decode.{messageOf}
-use Rattle.layout.proofs.Masked.{Only, MaskedEnded, MaskedClient, MaskedMessage, Masked}
+use Rattle.layout.proofs.Masked.{Only, MaskedEnded, MaskedClient, Masked}
 use Rattle.layout.proofs.Parts.{awaits-reply, awaits-answer}
 use Rattle.encoding.proofs.WellFormed.{client-test}
 use Rattle.encoding.proofs.MaskedTables.{masked-nothing, masked-rested}
@@ -61,7 +58,6 @@ module _ (t : Tables) (m : Masked t) where
         itemView = m .itemView;
         absent = λ e f. put-absent (t .sizes) (t .client) d c e i f ∙ m .absent e f;
         client = λ e. put-all MaskedClient (t .client) d c e h (m .client e);
-        messages = m .messages;
       }
 
   masked-view : (d : ℕ) (f : ℕ → Entry) → IsClient (t .sizes) d → MaskedEntries (t .sizes) f
@@ -77,7 +73,6 @@ module _ (t : Tables) (m : Masked t) where
             (m .itemView e k g);
         absent = m .absent;
         client = m .client;
-        messages = m .messages;
       }
 
   masked-latest : (f : ℕ → Entry) → MaskedEntries (t .sizes) f → Masked (withLatest t f)
@@ -86,17 +81,16 @@ module _ (t : Tables) (m : Masked t) where
   masked-versions : (vs : List Version) → Masked (withVersions t vs)
   masked-versions vs = search
 
-  masked-messages : (ms : List Message) → Each MaskedMessage ms → Masked (withMessages t ms)
-  masked-messages ms h = search
+  masked-messages : (ms : List Message) → Masked (withMessages t ms)
+  masked-messages ms = search
 
 -- ---- Starts
 
 masked-start : (t : Tables) → Masked t → (d : ℕ) (c : Client) (ms : List Message)
-    → IsClient (t .sizes) d → MaskedClient c → Each MaskedMessage ms
+    → IsClient (t .sizes) d → MaskedClient c
     → Masked (withMessages (withClient t d c) (t .messages ++ ms))
-masked-start t m d c ms i h each =
+masked-start t m d c ms i h =
     masked-messages (withClient t d c) (masked-client t m d c i h) (t .messages ++ ms)
-    (each-append MaskedMessage (t .messages) ms (m .messages) each)
 
 masked-reader : (t : Tables) → Masked t → (d s : ℕ) → MaskedClient (reader t d s)
 masked-reader t m d s =
@@ -228,12 +222,12 @@ masked-delivered t (Got d v latest) m r h x =
     let awaited = tells-got t d v latest .0 x .awaited in
     let own = range .read .within k awaited in
     let reads = awaits-answer (t .sizes) c range k awaited in
-    let view = put (t .view d) k (laterOf (t .view d k) latest) in
+    let view = put (t .view d) k (offered (t .view d k) v latest) in
     let entries : MaskedEntries (t .sizes) view = λ j f.
     let other : j ≢ k =
     λ p. not-both (lt-ltb k (t .sizes .items) (h .item))
     (subst (λ (y : ℕ). isItem (t .sizes) y ≡ false) p f) in
-    put-other (t .view d) k (laterOf (t .view d k) latest) j other ∙ m .itemView d j f in
+    put-other (t .view d) k (offered (t .view d k) v latest) j other ∙ m .itemView d j f in
     masked-view (withClient t d (got c k (v .value)))
     (masked-client t m d (got c k (v .value)) one
     (masked-got c k (v .value) (m .client d) reads own)) d
@@ -241,27 +235,6 @@ masked-delivered t (Got d v latest) m r h x =
     (by-cond (MaskedEntries (t .sizes)) (isLast ofRead c k) _ _
     (λ l. masked-seen (t .sizes) view (c .write .set) (c .write .stamp) (range .write .set) entries)
     (λ l. entries))
-
-masked-commits : (t : Tables) (s stamp : ℕ) → Each MaskedMessage (commits t s stamp)
-unfolding messageOf
-masked-commits t s stamp =
-    each-upto MaskedMessage (λ p. Commit p stamp) (t .sizes .partitions)
-    (λ p. touches t s p (t .sizes .items)) (λ p b e. refl)
-
-masked-joined : (t : Tables) (x : Message) → Each MaskedMessage (joined t x)
-unfolding joined messageOf
-masked-joined t (Prepare v) = each-one MaskedMessage (Prepared (v .item) (v .stamp)) refl
-masked-joined t (Prepared k stamp) =
-    let c = t .client (writerOf stamp) in
-    by-cond (Each MaskedMessage) (isLast ofWrite c k) _ _
-    (λ l. masked-commits t (c .write .set) stamp) (λ l. each-none MaskedMessage)
-masked-joined t (Commit p stamp) = each-none MaskedMessage
-masked-joined t (Get d k stamp) = each-one MaskedMessage
-    (Got d (version k (found (t .versions) k stamp .value) stamp 0) (t .latest k)) refl
-masked-joined t (Got d v latest) =
-    let c = t .client d in
-    by-cond (Each MaskedMessage) (isLast ofRead c (v .item)) _ _
-    (λ l. masked-commits t (c .write .set) (c .write .stamp)) (λ l. each-none MaskedMessage)
 
 masked-deliver : (caps : Capacities) (t : Tables) → Masked t → (i : ℕ) → AcceptedDeliver caps t i
     → Masked (effect t (deliver i))
@@ -271,24 +244,19 @@ masked-deliver caps t m i a =
     masked-messages (delivered t x)
     (masked-delivered t x m (a .valid .inRange) (accepted-message caps t i a) (a .expected))
     (without i (t .messages) ++ joined t x)
-    (each-append MaskedMessage (without i (t .messages)) (joined t x)
-    (each-without MaskedMessage i (t .messages) (m .messages)) (masked-joined t x))
 
 -- ---- Any call, and a fresh start
 
 pub masked-step : (caps : Capacities) (t : Tables) (c : Call) → refusal caps t c ≡ 0 → Masked t
     → Masked (effect t c)
-unfolding effect messageOf
+unfolding effect
 masked-step caps t (startRead d s) e m =
     let a = accepted-read caps t d s .0 e in
     masked-start t m d (reader t d s) (gets t d s) (a .client) (masked-reader t m d s)
-    (each-upto MaskedMessage (λ k. Get d k (asks t d k)) (t .sizes .items) (has s) (λ k l h. refl))
 masked-step caps t (startWrite d s bytes) e m =
     let a = accepted-write caps t d s bytes .0 e in
     masked-start t m d (writer t d s bytes) (prepares t d s bytes) (a .start .client)
     (masked-writer t m d s bytes (a .start .some))
-    (each-upto MaskedMessage (λ k. Prepare (version k (valueOf s bytes k) (nextStamp t d) s))
-    (t .sizes .items) (has s) (λ k l h. refl))
 masked-step caps t (deliver i) e m = masked-deliver caps t m i (accepted-deliver caps t i .0 e)
 masked-step caps t (show d output) e m = m
 
@@ -300,5 +268,4 @@ masked-fresh z =
       itemView = λ d k e. refl;
       absent = λ d e. refl;
       client = λ d. masked-rested (resting 0 nothing) nothing masked-nothing;
-      messages = λ x i. absurd i;
     }

@@ -3,7 +3,6 @@ use mathlib.Core.List.{List}
 use mathlib.Core.Bool.{true}
 use mathlib.Core.Path.{_≡_, refl}
 use lib.Dec.{leb}
-use native.Mathlib.Omega.{arith}
 use Prim.Native.Nat.{ℕ}
 use Rattle.basics.proofs.Cases.{by-test, not-both, between}
 use Rattle.protocol.specs.Tables.{ReadPart, WritePart, Client, Ended, nothing, showsRead}
@@ -11,11 +10,8 @@ use Rattle.protocol.specs.Tables.{showsWrite, resting, rested}
 use Rattle.protocol.specs.Range.{isClient, isWriting}
 use Rattle.protocol.proofs.Put.{by-cond}
 use Rattle.layout.specs.Layout.{at, scalars, modeAt, lastKindAt}
-use Rattle.layout.specs.Decode.{sizesIn, within, endedIn, clientIn, messageIn, tablesOf}
-use Rattle.layout.specs.Decode.{validBlock}
-use Rattle.layout.proofs.Masked.{Only, MaskedEnded, MaskedClient, MaskedMessage, Masked}
-use Rattle.layout.proofs.Held.{masked-message}
-use Rattle.encoding.proofs.Folds.{each-table}
+use Rattle.layout.specs.Decode.{sizesIn, within, endedIn, clientIn, tablesOf, validBlock}
+use Rattle.layout.proofs.Masked.{Only, MaskedEnded, MaskedClient, Masked}
 use Rattle.encoding.proofs.WellFormed.{client-range, tells-valid-block}
 use Rattle.encoding.proofs.Modes.{write-word}
 
@@ -93,7 +89,4 @@ masked-tables b v =
       client = λ d. by-cond MaskedClient (isClient (sizesIn b) d) _ _
           (λ c. masked-client b d (writes d c)) (λ c. masked-rested (resting 0 nothing) nothing
           masked-nothing);
-      messages = each-table MaskedMessage _ (messageIn b) (λ i l.
-          masked-message b i (f .wellFormed .someKind i (omega arith))
-          (f .wellFormed .kind i (omega arith)));
     }

@@ -15,12 +15,12 @@ use Rattle.protocol.specs.declared.Message.{Message}
 use Rattle.protocol.specs.declared.Message.the-variants.{Commit}
 use Rattle.protocol.specs.Tables.{Sizes, Tables, Client, ReadPart, WritePart, Ended}
 use Rattle.protocol.specs.Steps.{version}
-use Rattle.protocol.specs.Message.{Parts, kindOf, isPrepare}
+use Rattle.protocol.specs.Message.{kindOf, isPrepare}
 use Rattle.protocol.proofs.MessageKinds.{kind-within}
 use Rattle.protocol.specs.Range.{capacities, isIdle, isWriting, arrived, load}
 use Rattle.protocol.specs.Range.{occupied, valid}
 use Rattle.protocol.proofs.Ranges.Values.{SizesInRange, IsClient, EntryInRange, VersionInRange}
-use Rattle.protocol.proofs.Ranges.Values.{PartsInRange, MessageInRange}
+use Rattle.protocol.proofs.Ranges.Values.{MessageInRange}
 use Rattle.protocol.proofs.Ranges.Clients.{ReadPartInRange, WritePartInRange, EndedInRange}
 use Rattle.protocol.proofs.Ranges.Clients.{ClientInRange}
 use Rattle.protocol.proofs.Kept.Values.{range-no-read, range-no-write}
@@ -38,7 +38,7 @@ use Rattle.encoding.proofs.WellFormed.{tells-valid-block}
 use Rattle.encoding.proofs.Capacity.{load-words, occupied-words}
 use Rattle.encoding.proofs.Encoded.{encodes-tables}
 use Rattle.layout.proofs.Parts.{mode-writing, mode-other, writes-nothing, no-reply-awaited}
-use Rattle.layout.proofs.Held.{version-held, kind-held, parts-held}
+use Rattle.layout.proofs.Held.{version-held, kind-held, message-held}
 use Rattle.encoding.proofs.Decoded.{mode-others, entry-of, few-versions, few-messages}
 
 -- ---- The numbers are those of some mode or kind
@@ -107,7 +107,7 @@ module _ (b : List ℕ) (z : Sizes) where
 
   message-range : (i : ℕ) (m : Message) → HoldsMessage b i m → MessageInRange z m
       → MessageInRange z (messageIn b i)
-  message-range i m h r = subst (PartsInRange z) (sym (parts-held b i m h)) r
+  message-range i m h r = subst (MessageInRange z) (sym (message-held b i m h)) r
 
 -- ---- and the load and the versions in use are the same
 
@@ -121,7 +121,7 @@ arrived-same b z d c h r =
 
 prepare-same : (b : List ℕ) (i : ℕ) (m : Message) → HoldsMessage b i m
     → isPrepare (messageIn b i) ≡ isPrepare m
-prepare-same b i m h = ap (λ (p : Parts). eqb (p .kind) 1) (parts-held b i m h)
+prepare-same b i m h = ap isPrepare (message-held b i m h)
 
 -- the mode is 0 exactly if no item is awaited
 idle-word : (b : List ℕ) (z : Sizes) (d : ℕ) (c : Client) → HoldsClient b d c → ClientInRange z c

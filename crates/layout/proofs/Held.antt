@@ -14,13 +14,12 @@ use Rattle.protocol.specs.declared.Version.{Version}
 use Rattle.protocol.specs.declared.Entry.{Entry}
 use Rattle.protocol.specs.declared.Message.{Message}
 use Rattle.protocol.specs.declared.Message.the-variants.{Prepare, Prepared, Commit, Get, Got}
-use Rattle.protocol.specs.Message.{partsOf, kinds, kindOf}
+use Rattle.protocol.specs.Message.{kinds, kindOf}
 use Rattle.protocol.proofs.MessageKinds.{kind-within}
 use Rattle.layout.specs.Layout.{messageWords}
 use Rattle.layout.specs.Store.{wordsOfMessage, wordOf}
 use Rattle.layout.specs.Encodes.{HoldsVersion, used, HoldsMessage, word}
 use Rattle.layout.specs.Decode.{versionIn, kindIn, messageOf, messageFrom, messageIn}
-use Rattle.layout.proofs.Masked.{MaskedMessage}
 
 -- ---- versions
 
@@ -56,14 +55,14 @@ decoded (suc (suc (suc (suc (suc zero))))) w e l h =
     record { kind = rw e refl; same = rw e refl; words = rw e refl }
 decoded (suc (suc (suc (suc (suc (suc n)))))) w e l h = absurd (omega arith)
 
--- what is written of a message and read again has its parts
-parts-kept : (m : Message) → partsOf (messageFrom (wordOf m)) ≡ partsOf m
+-- what is written of a message and read again is the message
+message-kept : (m : Message) → messageFrom (wordOf m) ≡ m
 unfolding messageOf
-parts-kept (Prepare v) = refl
-parts-kept (Prepared k stamp) = refl
-parts-kept (Commit p stamp) = refl
-parts-kept (Get d k stamp) = refl
-parts-kept (Got d v e) = refl
+message-kept (Prepare v) = refl
+message-kept (Prepared k stamp) = refl
+message-kept (Commit p stamp) = refl
+message-kept (Get d k stamp) = refl
+message-kept (Got d v e) = refl
 
 from-same : (w w′ : ℕ → ℕ) → ((f : ℕ) → f < messageWords → w f ≡ w′ f)
     → messageFrom w ≡ messageFrom w′
@@ -89,23 +88,17 @@ module _ (b : List ℕ) (i : ℕ) (m : Message) (h : HoldsMessage b i m) where
   pub kind-held : kindIn b i ≡ kindOf m
   kind-held = h 0 (lit< tt) (kind-used (kindOf m) (kind-within m .0) (kind-within m .1))
 
-  message-words : messageIn b i ≡ messageFrom (wordOf m)
+  pub message-held : messageIn b i ≡ m
   unfolding messageIn
-  message-words =
+  message-held =
       let n = kindOf m in
       let k = kind-within m in
       decoded n (word b i) kind-held (k .0) (k .1) .same
       ∙ from-same (onlyUsed n (word b i)) (onlyUsed n (wordOf m))
       (λ f l. by-test (has (used n) f) (λ u. rw (u, h f l u) refl) (λ u. rw u refl))
-      ∙ sym (decoded n (wordOf m) refl (k .0) (k .1) .same)
+      ∙ sym (decoded n (wordOf m) refl (k .0) (k .1) .same) ∙ message-kept m
 
-  pub message-held : MaskedMessage m → messageIn b i ≡ m
-  message-held k = message-words ∙ k
-
-  pub parts-held : partsOf (messageIn b i) ≡ partsOf m
-  parts-held = ap partsOf message-words ∙ parts-kept m
-
--- and a message that is read is held, and has no more than words can hold
+-- and a message that is read is held
 module _ (b : List ℕ) (i : ℕ) (l : 1 ≤ kindIn b i) (h : kindIn b i ≤ kinds) where
   read : Decoded (kindIn b i) (word b i)
   read = decoded (kindIn b i) (word b i) refl l h
@@ -122,12 +115,6 @@ module _ (b : List ℕ) (i : ℕ) (l : 1 ≤ kindIn b i) (h : kindIn b i ≤ kin
 
   pub held-message : HoldsMessage b i (messageIn b i)
   held-message f g u = sym (read-word f g ∙ rw (rw kind-read at u) refl)
-
-  pub masked-message : MaskedMessage (messageIn b i)
-  unfolding messageIn
-  masked-message =
-      from-same (wordOf (messageIn b i)) (onlyUsed (kindIn b i) (word b i)) read-word
-      ∙ sym (read .same)
 
 -- from the last kind on, the message is one of the last kind
 pub last-kind : (n who k v stamp s : ℕ) (e : Entry) → kinds ≤ n

@@ -3,13 +3,9 @@ use mathlib.Core.Bool.{true, false}
 use mathlib.Core.Path.{_≡_}
 use Prim.Native.Nat.{ℕ}
 use Rattle.itemset.specs.Set.{has}
-use Rattle.protocol.specs.declared.Message.{Message}
 use Rattle.protocol.specs.Tables.{Tables, Client, noRead, noWrite, Ended, nothing, showsRead}
 use Rattle.protocol.specs.Tables.{showsWrite, initial, resting}
 use Rattle.protocol.specs.Range.{isClient, isItem, isWriting}
-use Rattle.basics.specs.Lists.{In}
-use Rattle.layout.specs.Decode.{messageFrom}
-use Rattle.layout.specs.Store.{wordOf}
 
 -- 0 outside s
 abbrev pub Only : ℕ → (ℕ → ℕ) → Type 0
@@ -32,14 +28,9 @@ pub record MaskedClient (c : Client) : Type 0 where
   pub others : isWriting c ≡ false → c .write ≡ noWrite
   pub last : MaskedEnded (c .last)
 
--- its words give it back. (A got's version has the empty set, for which there is no word.)
-abbrev pub MaskedMessage : Message → Type 0
-MaskedMessage m = messageFrom (wordOf m) ≡ m
-
 pub record Masked (t : Tables) : Type 0 where
   pub latest : (k : ℕ) → isItem (t .sizes) k ≡ false → t .latest k ≡ initial
   pub clientView : (d k : ℕ) → isClient (t .sizes) d ≡ false → t .view d k ≡ initial
   pub itemView : (d k : ℕ) → isItem (t .sizes) k ≡ false → t .view d k ≡ initial
   pub absent : (d : ℕ) → isClient (t .sizes) d ≡ false → t .client d ≡ resting 0 nothing
   pub client : (d : ℕ) → MaskedClient (t .client d)
-  pub messages : (m : Message) → In m (t .messages) → MaskedMessage m

@@ -45,7 +45,7 @@ messageOf (suc zero) who k v stamp s e = Prepare (version k v stamp s)
 messageOf (suc (suc zero)) who k v stamp s e = Prepared k stamp
 messageOf (suc (suc (suc zero))) who k v stamp s e = Commit who stamp
 messageOf (suc (suc (suc (suc zero)))) who k v stamp s e = Get who k stamp
-messageOf (suc (suc (suc (suc (suc n))))) who k v stamp s e = Got who (version k v stamp 0) e
+messageOf (suc (suc (suc (suc (suc n))))) who k v stamp s e = Got who (version k v stamp s) e
 
 -- ---- field by field
 

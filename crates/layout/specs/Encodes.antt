@@ -47,7 +47,8 @@ used (suc zero) = 2 ^ 0 + 2 ^ 2 + 2 ^ 3 + 2 ^ 4 + 2 ^ 5
 used (suc (suc zero)) = 2 ^ 0 + 2 ^ 2 + 2 ^ 4
 used (suc (suc (suc zero))) = 2 ^ 0 + 2 ^ 1 + 2 ^ 4
 used (suc (suc (suc (suc zero)))) = 2 ^ 0 + 2 ^ 1 + 2 ^ 2 + 2 ^ 4
-used (suc (suc (suc (suc (suc n))))) = 2 ^ 0 + 2 ^ 1 + 2 ^ 2 + 2 ^ 3 + 2 ^ 4 + 2 ^ 6 + 2 ^ 7
+used (suc (suc (suc (suc (suc n))))) =
+    2 ^ 0 + 2 ^ 1 + 2 ^ 2 + 2 ^ 3 + 2 ^ 4 + 2 ^ 5 + 2 ^ 6 + 2 ^ 7
 
 -- message i has the words of m that m's kind uses
 abbrev pub HoldsMessage : List ℕ → ℕ → Message → Type 0

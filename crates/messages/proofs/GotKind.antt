@@ -9,6 +9,6 @@ use Rattle.layout.proofs.Held.{last-kind}
 
 -- from kind 5 on, a got
 pub kind-got : (kind who k v stamp s : ℕ) (e : Entry) → 5 ≤ kind
-    → messageOf kind who k v stamp s e ≡ Got who (version k v stamp 0) e
+    → messageOf kind who k v stamp s e ≡ Got who (version k v stamp s) e
 unfolding messageOf
 kind-got = last-kind

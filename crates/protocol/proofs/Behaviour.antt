@@ -1,13 +1,13 @@
--- What the steps do, as plain facts: sentences of document 01 that a near miss breaks.
-use mathlib.Core.Bool.{true, false, cond, _&&_}
+-- What the steps do, as plain facts: sentences of documents 01 and 02 that a near miss breaks.
+use mathlib.Core.Bool.{Bool, true, false, cond, _&&_}
 use mathlib.Core.List.{List, [], _∷_, _++_}
 use mathlib.Core.Logic.{inl}
-use mathlib.Core.Path.{_≡_, refl, ap}
+use mathlib.Core.Path.{_≡_, refl, sym, ap, subst}
 use Prim.Native.Nat.{ℕ, _≤_, _<_}
-use native.Mathlib.Nat.{le-refl}
+use native.Mathlib.Nat.{le-refl, le-trans}
 use native.Mathlib.Omega.{arith}
 use lib.Dec.{eqb, ltb}
-use borrow.Author.Tests.{ltb-true, ltb-false}
+use borrow.Author.Tests.{ltb-true, ltb-false, lt-ltb, le-ltb}
 use Rattle.basics.proofs.Cases.{by-test, eqb-same}
 use Rattle.basics.specs.Lists.{In}
 use Rattle.itemset.specs.Set.{has}
@@ -15,12 +15,14 @@ use Rattle.protocol.specs.declared.Version.{Version}
 use Rattle.protocol.specs.declared.Entry.{Entry}
 use Rattle.protocol.specs.declared.Message.{Message}
 use Rattle.protocol.specs.declared.Message.the-variants.{Prepare, Prepared, Get, Got}
-use Rattle.protocol.specs.Tables.{Tables, ofRead, ofWrite, writerOf, laterOf, partitionOf}
+use Rattle.protocol.specs.Tables.{Tables, ofRead, ofWrite, writerOf, laterOf, entryOf}
+use Rattle.protocol.specs.Tables.{partitionOf, put}
 use Rattle.protocol.specs.Message.{partsOf}
 use Rattle.protocol.specs.Steps.{asks, committed, delivered, joined, deliveredAt, messageAt}
-use Rattle.protocol.specs.Steps.{stored, found, seen, isLast, startedWrite}
+use Rattle.protocol.specs.Steps.{stored, found, offered, seen, isLast, startedWrite}
 use Rattle.protocol.specs.Calls.{outcomeOf}
 use Rattle.protocol.proofs.Stored.{choice-own, choice-ge}
+use Rattle.protocol.proofs.Put.{put-same}
 
 -- ---- the later of two
 
@@ -33,6 +35,33 @@ later-one a b =
 pub later-other : (a b : Entry) → b .stamp ≤ laterOf a b .stamp
 later-other a b = by-test (ltb (a .stamp) (b .stamp)) (λ e. rw e (le-refl (b .stamp)))
     (λ e. rw e (ltb-false (a .stamp) (b .stamp) e))
+
+pub later-stays : (a b : Entry) → b .stamp ≤ a .stamp → laterOf a b ≡ a
+later-stays a b h = rw (le-ltb (a .stamp) (b .stamp) h) refl
+
+pub later-is : (a b : Entry) → a .stamp < b .stamp → laterOf a b ≡ b
+later-is a b h = rw (lt-ltb (a .stamp) (b .stamp) h) refl
+
+-- ---- the latest of three
+
+module _ (e : Entry) (v : Version) (l : Entry) where
+  -- none earlier than its own and the version
+  pub offered-own : e .stamp ≤ offered e v l .stamp
+  offered-own = le-trans (later-one e l) (later-one (laterOf e l) (entryOf v))
+
+  pub offered-version : v .stamp ≤ offered e v l .stamp
+  offered-version = later-other (laterOf e l) (entryOf v)
+
+  -- its own before the reply's latest, that before the version: each with its own set
+  pub offered-is-own : l .stamp ≤ e .stamp → v .stamp ≤ e .stamp → offered e v l ≡ e
+  offered-is-own h g = rw (later-stays e l h) (later-stays e (entryOf v) g)
+
+  pub offered-is-latest : e .stamp < l .stamp → v .stamp ≤ l .stamp → offered e v l ≡ l
+  offered-is-latest h g = rw (later-is e l h) (later-stays l (entryOf v) g)
+
+  pub offered-is-version : e .stamp < v .stamp → l .stamp < v .stamp → offered e v l ≡ entryOf v
+  offered-is-version h g = by-test (ltb (e .stamp) (l .stamp))
+      (λ t. rw t (later-is l (entryOf v) g)) (λ t. rw t (later-is e (entryOf v) h))
 
 -- ---- what a read asks for
 
@@ -92,6 +121,32 @@ ended-view t k s last j e =
     let entered : s ≤ cond (isLast ofWrite c k) (seen (t .view d) (c .write .set) s)
     (t .view d) j .stamp = rw last (seen-ge (t .view d) (c .write .set) s j e) in
     rw (eqb-same d) (omega arith)
+
+-- a transaction's end takes nothing from it
+pub end-ge : (last : Bool) (view : ℕ → Entry) (s stamp k : ℕ)
+    → view k .stamp ≤ cond last (seen view s stamp) view k .stamp
+end-ge true view s stamp k =
+    by-test (has s k) (λ e. rw e (later-one (view k) (record { stamp = stamp; set = s })))
+    (λ e. rw e (le-refl (view k .stamp)))
+end-ge false view s stamp k = le-refl (view k .stamp)
+
+-- ---- what a got brings into the view: its version
+
+pub got-view : (t : Tables) (d : ℕ) (v : Version) (e : Entry)
+    → v .stamp ≤ delivered t (Got d v e) .view d (v .item) .stamp
+unfolding delivered
+got-view t d v e =
+    let c = t .client d in
+    let k = v .item in
+    let grown : ℕ → Entry = put (t .view d) k (offered (t .view d k) v e) in
+    let last = isLast ofRead c k in
+    let view : ℕ → Entry = cond last (seen grown (c .write .set) (c .write .stamp)) grown in
+    let here : v .stamp ≤ grown k .stamp =
+    subst (λ (x : Entry). v .stamp ≤ x .stamp)
+    (sym (put-same (t .view d) k (offered (t .view d k) v e)))
+    (offered-version (t .view d k) v e) in
+    subst (λ (f : ℕ → Entry). v .stamp ≤ f k .stamp) (sym (put-same (t .view) d view))
+    (le-trans here (end-ge last grown (c .write .set) (c .write .stamp) k))
 
 -- ---- when a read ends
 

@@ -13,19 +13,18 @@ use borrow.Author.Tests.{eqb-true, eqb-false}
 use Rattle.basics.proofs.Cases.{by-test, not-both}
 use Rattle.basics.specs.Lists.{In}
 use Rattle.basics.proofs.Lists.{in-append}
-use Rattle.itemset.specs.Set.{has}
 use Rattle.protocol.specs.declared.Version.{Version}
 use Rattle.protocol.specs.declared.Entry.{Entry}
 use Rattle.protocol.specs.declared.Message.{Message}
 use Rattle.protocol.specs.declared.Message.the-variants.{Prepare, Prepared, Commit, Get, Got}
-use Rattle.protocol.specs.Tables.{Tables, Client, laterOf, put, ofRead, ofWrite, writerOf}
+use Rattle.protocol.specs.Tables.{Tables, Client, put, ofRead, ofWrite, writerOf}
 use Rattle.protocol.specs.Tables.{withClient, withView, withLatest, withVersions}
 use Rattle.protocol.specs.Message.{partsOf, kindOf, isPrepare, isPrepared, isGet, isGot}
 use Rattle.protocol.specs.Message.{ownerOf}
-use Rattle.protocol.specs.Steps.{isLast, prepared, got, seen, committed, commits, Delivery}
-use Rattle.protocol.specs.Steps.{deliveryOf, delivered, joined, touches}
+use Rattle.protocol.specs.Steps.{isLast, prepared, got, offered, committed, commits}
+use Rattle.protocol.specs.Steps.{Delivery, deliveryOf, delivered, joined, touches}
 use Rattle.protocol.specs.Calls.{outcomeOf}
-use Rattle.protocol.proofs.Behaviour.{later-one}
+use Rattle.protocol.proofs.Behaviour.{offered-own, end-ge}
 use Rattle.protocol.proofs.Put.{by-cond, put-other, put-every}
 use Rattle.protocol.proofs.Each.{Each, each-none, each-one, each-upto}
 use Rattle.protocol.proofs.Commits.{no-commits}
@@ -119,14 +118,7 @@ module _ (t : Tables) (m : Message) where
 
 -- ---- the sort of each delivery
 
--- the view, the client and the outcome at the end of a transaction
-
-end-ge : (last : Bool) (view : ℕ → Entry) (s stamp k : ℕ)
-    → view k .stamp ≤ cond last (seen view s stamp) view k .stamp
-end-ge true view s stamp k =
-    by-test (has s k) (λ e. rw e (later-one (view k) (record { stamp = stamp; set = s })))
-    (λ e. rw e (le-refl (view k .stamp)))
-end-ge false view s stamp k = le-refl (view k .stamp)
+-- the client and the outcome at the end of a transaction
 
 end-count : (last : Bool) (n : ℕ) (c c′ : Client) → c .count ≡ n → c′ .count ≡ n
     → n ≤ cond last c c′ .count
@@ -176,14 +168,15 @@ delivery-sort t (Got d v e) =
     let c = t .client d in
     let k = v .item in
     let last = isLast ofRead c k in
-    let offered : ℕ → Entry = put (t .view d) k (laterOf (t .view d k) e) in
-    let grown : (j : ℕ) → t .view d j .stamp ≤ offered j .stamp =
+    let grown : ℕ → Entry = put (t .view d) k (offered (t .view d k) v e) in
+    let grows : (j : ℕ) → t .view d j .stamp ≤ grown j .stamp =
     put-every (λ (j : ℕ) (x : Entry). t .view d j .stamp ≤ x .stamp) (t .view d) k
-    (laterOf (t .view d k) e) (later-one (t .view d k) e) (λ j n. le-refl (t .view d j .stamp)) in
+    (offered (t .view d k) v e) (offered-own (t .view d k) v e)
+    (λ j n. le-refl (t .view d j .stamp)) in
     record {
       work = answer-work t (Got d v e) (got c k (v .value)) _ refl
           (end-count last (c .count) _ _ refl refl)
-          (λ j. le-trans (grown j) (end-ge last offered (c .write .set) (c .write .stamp) j));
+          (λ j. le-trans (grows j) (end-ge last grown (c .write .set) (c .write .stamp) j));
       joins = ends last (c .write .stamp) (inr refl);
       outcome = inr (
         refl,

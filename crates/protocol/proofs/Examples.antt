@@ -14,6 +14,7 @@ use Rattle.protocol.proofs.Examples.Table.{anything, right, messagesAre
 use Rattle.protocol.proofs.Examples.Begin.{sizes, entry, loaded, holding, seeing, ahead}
 use Rattle.protocol.proofs.Examples.Begin.{spent, crowded, strayed}
 use Rattle.protocol.proofs.Examples.Faults.{faults}
+use Rattle.protocol.proofs.Examples.Falls.{falls}
 use Rattle.protocol.proofs.Examples.Numbers.{numbers}
 use Rattle.protocol.proofs.Examples.Pinned.{pinned}
 pub mod Table
@@ -21,6 +22,7 @@ pub mod Begin
 pub mod Faults
 pub mod Pinned
 pub mod Numbers
+pub mod Falls
 
 -- a value's four bytes, for values below 256
 abbrev value : ℕ → List ℕ
@@ -136,7 +138,7 @@ wholeSession =
           ∷ [];
       after = λ t.
           entryIs (t .latest 0) 1 1 3 && entryIs (t .latest 1) 0 0 0 && entryIs (t .view 2 0) 1 1 3
-          && entryIs (t .view 2 1) 0 0 0;
+          && entryIs (t .view 2 1) 1 1 3;
     }
 
 -- ---- Near misses
@@ -273,10 +275,11 @@ firstOfSeveral =
     }
 
 -- Stray messages. Those that 11 and 12 refuse stay where they are. Gets and commits are delivered
--- whatever their desk does: the get of a version stored twice is answered with the first, a commit
--- of nothing stored does nothing. At a tie latest and view keep their sets. The write is shown with
--- the number of its stamp, which isn't its desk's count. The last read asks for the stamp of line
--- 1's entry on both lines: for line 0 by its set, for line 1 as its own.
+-- whatever their desk does: the get of a version stored twice is answered with the first, its value
+-- and its set, and a commit of nothing stored does nothing. At a tie latest keeps its set. The view
+-- takes the got's version, which is later than its own entry and the got's latest. The write is
+-- shown with the number of its stamp, which isn't its desk's count. The last read asks for the
+-- stamp of line 1's entry on both lines: for line 0 by its set, for line 1 as its own.
 abbrev strays : Row
 strays =
     record {
@@ -301,10 +304,10 @@ strays =
           ∷ startRead 2 3 ⇒ "00000d"
           ∷ [];
       after = λ t.
-          entryIs (t .latest 0) 1 1 1 && entryIs (t .latest 1) 0 0 3 && entryIs (t .view 2 0) 1 1 1
+          entryIs (t .latest 0) 1 1 1 && entryIs (t .latest 1) 0 0 3 && entryIs (t .view 2 0) 1 2 1
           && messagesAre (drop 8 (t .messages))
-          ((5 ∷ 1 ∷ 1 ∷ 0 ∷ 0 ∷ 0 ∷ 0 ∷ 0 ∷ 3 ∷ [])
-          ∷ (5 ∷ 2 ∷ 0 ∷ 7 ∷ 1 ∷ 1 ∷ 1 ∷ 1 ∷ 1 ∷ [])
+          ((5 ∷ 1 ∷ 1 ∷ 0 ∷ 0 ∷ 0 ∷ 0 ∷ 0 ∷ 0 ∷ 3 ∷ [])
+          ∷ (5 ∷ 2 ∷ 0 ∷ 7 ∷ 1 ∷ 1 ∷ 3 ∷ 1 ∷ 1 ∷ 1 ∷ [])
           ∷ (3 ∷ 0 ∷ 1 ∷ 1 ∷ [])
           ∷ (4 ∷ 2 ∷ 0 ∷ 2 ∷ 1 ∷ [])
           ∷ (4 ∷ 2 ∷ 1 ∷ 2 ∷ 1 ∷ [])
@@ -341,7 +344,7 @@ rows =
     ∷ firstOfSeveral
     ∷ strays
     ∷ outOfRange
-    ∷ numbers ++ pinned
+    ∷ numbers ++ (falls ++ pinned)
 
 pub examples : all right rows ≡ true
 unfolding all right

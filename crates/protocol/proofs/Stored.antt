@@ -14,7 +14,7 @@ use Rattle.basics.specs.Lists.{In}
 use Rattle.itemset.specs.Set.{has}
 use Rattle.protocol.specs.declared.Version.{Version}
 use Rattle.protocol.specs.declared.Entry.{Entry}
-use Rattle.protocol.specs.Steps.{choice, alike, stored, found}
+use Rattle.protocol.specs.Steps.{choice, version, alike, stored, found}
 
 -- ---- stored, found
 
@@ -68,7 +68,7 @@ stored-more vs us k stamp e = stored-append vs us k stamp
     ∙ or-left (stored vs k stamp) (stored us k stamp) e
 
 pub not-found : (vs : List Version) (k stamp : ℕ) → stored vs k stamp ≡ false
-    → found vs k stamp .value ≡ 0
+    → found vs k stamp ≡ version k 0 stamp 0
 unfolding stored found
 not-found [] k stamp e = refl
 not-found (u ∷ us) k stamp e =

@@ -36,7 +36,7 @@ partsOf (Prepare v) = parts 1 0 (v .item) (v .value) (v .stamp) (v .set) initial
 partsOf (Prepared k stamp) = parts 2 0 k 0 stamp 0 initial
 partsOf (Commit p stamp) = parts 3 p 0 0 stamp 0 initial
 partsOf (Get d k stamp) = parts 4 d k 0 stamp 0 initial
-partsOf (Got d v e) = parts 5 d (v .item) (v .value) (v .stamp) 0 e
+partsOf (Got d v e) = parts 5 d (v .item) (v .value) (v .stamp) (v .set) e
 
 -- the kinds are 1 to 5
 abbrev pub kinds : ℕ

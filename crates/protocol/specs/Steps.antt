@@ -13,9 +13,9 @@ use Rattle.protocol.specs.declared.Message.{Message}
 use Rattle.protocol.specs.declared.Message.the-variants.{Prepare, Prepared, Commit, Get, Got}
 use Rattle.protocol.specs.Tables.{Tables, Client, ReadPart, WritePart, Ended, Side, ofRead}
 use Rattle.protocol.specs.Tables.{ofWrite, noRead, noWrite, stampOf, numberOf, writerOf}
-use Rattle.protocol.specs.Tables.{laterOf, rested, partitionOf, put, withClient, withView}
-use Rattle.protocol.specs.Tables.{withLatest, withVersions, withMessages, withCount, withRead}
-use Rattle.protocol.specs.Tables.{withWrite}
+use Rattle.protocol.specs.Tables.{laterOf, entryOf, rested, partitionOf, put, withClient}
+use Rattle.protocol.specs.Tables.{withView, withLatest, withVersions, withMessages, withCount}
+use Rattle.protocol.specs.Tables.{withRead, withWrite}
 
 -- ---- Start a read
 
@@ -153,6 +153,11 @@ abbrev pub got : Client → ℕ → ℕ → Client
 got c k value = cond (isLast ofRead c k) (rested c (ended (answered c k value)))
     (answered c k value)
 
+-- and its item's view entry 'becomes the latest of three (at a tie its own before the reply's
+-- latest, that before the version)' (document 02, P2)
+abbrev pub offered : Entry → Version → Entry → Entry
+offered present v latest = laterOf (laterOf present latest) (entryOf v)
+
 -- At the end of a transaction with a write part its commits join, and each written item's view
 -- entry becomes the later of itself and this write
 abbrev pub seen : (ℕ → Entry) → ℕ → ℕ → ℕ → Entry
@@ -200,15 +205,16 @@ deliveryOf t (Prepared k stamp) =
     (cond last (commits t (c .write .set) stamp) [])
     (cond last 2 0)
 deliveryOf t (Commit p stamp) = delivering (withLatest t (committed t p stamp)) [] 0
+-- 'A got reply now also carries its version's write set' (document 02, P2)
 deliveryOf t (Get d k stamp) =
-    delivering t
-    (Got d (version k (found (t .versions) k stamp .value) stamp 0) (t .latest k) ∷ []) 0
+    let v = found (t .versions) k stamp in
+    delivering t (Got d (version k (v .value) stamp (v .set)) (t .latest k) ∷ []) 0
 deliveryOf t (Got d v latest) =
     let c = t .client d in
     let k = v .item in
     let last = isLast ofRead c k in
-    let offered = put (t .view d) k (laterOf (t .view d k) latest) in
-    let view = cond last (seen offered (c .write .set) (c .write .stamp)) offered in
+    let grown = put (t .view d) k (offered (t .view d k) v latest) in
+    let view = cond last (seen grown (c .write .set) (c .write .stamp)) grown in
     delivering (withView (withClient t d (got c k (v .value))) d view)
     (cond last (commits t (c .write .set) (c .write .stamp)) [])
     (cond last (cond (eqb (c .write .set) 0) 1 2) 0)

@@ -30,6 +30,10 @@ initial = record { stamp = 0; set = 0 }
 abbrev pub laterOf : Entry → Entry → Entry
 laterOf present other = cond (ltb (present .stamp) (other .stamp)) other present
 
+-- the stamp and the write set of a version
+abbrev pub entryOf : Version → Entry
+entryOf v = record { stamp = v .stamp; set = v .set }
+
 -- ---- Client (desk)
 
 -- The transaction under way has a read part and a write part. Either may be empty: an ordinary read

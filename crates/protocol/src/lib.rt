@@ -2,6 +2,7 @@
 // kinds of ended transactions. The tables, the steps and the refusals are definitions, in specs/.
 ghost use mathlib.Core.Path.{_≡_};
 ghost use Rattle.protocol.specs.Tables.{laterOf};
+ghost use Rattle.protocol.specs.Steps.{offered};
 
 pub mod kind;
 
@@ -31,6 +32,18 @@ impl Entry {
         } else {
             self
         }
+    }
+
+    // The latest of itself, the latest and the version of a got; at equal stamps it stays before
+    // the latest, and the latest before the version.
+    pub fn offered(self, version: Version, latest: Entry) -> Entry
+        ensures { λ r. ⌜ r ≡ offered self version latest ⌝ }
+    {
+        let seen = self.later(latest);
+        seen.later(Entry {
+            stamp: version.stamp,
+            set: version.set,
+        })
     }
 }
 

@@ -30,6 +30,13 @@ version-order item value stamp later below own =
     test-ext _ _ (λ e. let f = simp tells-and at e in simp tells-and search)
     (λ e. let f = simp tells-and at e in simp tells-and search)
 
+got-order : (client item value stamp below latest : Bool)
+    → (client && item && value && (stamp && below) && latest)
+    ≡ (client && item && value && stamp && below && latest && true && true)
+got-order client item value stamp below latest =
+    test-ext _ _ (λ e. let f = simp tells-and at e in simp tells-and search)
+    (λ e. let f = simp tells-and at e in simp tells-and search)
+
 passed : (a : Bool) → (a && true) ≡ a
 passed true = refl
 passed false = refl
@@ -81,17 +88,19 @@ module _ (clients partitions items : ℕ) (some : 1 ≤ partitions) (one : 1 ≤
     unfolding messageOf messageInRange entryInRange stampInRange
     get-tests p q = rw (p, q, empty-below) (simp passed)
 
-  pub got-tests : (kind who k v stamp s : ℕ) (e : Entry) {stamped entry : Bool}
-      → stamped ≡ stampInRange (sized clients 0) stamp
+  pub got-tests : (kind who k v stamp s : ℕ) (e : Entry) {version entry : Bool}
+      → version ≡ entryInRange (sized clients items) (record { stamp = stamp; set = s })
       → entry ≡ entryInRange (sized clients items) e → kind ≢ 1 → kind ≢ 2 → kind ≢ 3 → kind ≢ 4
-      → (eqb kind 5 && ((leb 1 who && leb who clients) && ltb k items && ltb v (2 ^ 32) && stamped
+      → (eqb kind 5 && ((leb 1 who && leb who clients) && ltb k items && ltb v (2 ^ 32) && version
       && entry))
       ≡ numberTest kind (messageOf kind who k v stamp s e)
   unfolding messageOf messageInRange entryInRange stampInRange
   got-tests kind who k v stamp s e p q n₁ n₂ n₃ n₄ =
       by-test (eqb kind 0) (λ z. rw (eqb-true kind 0 z) refl)
       (λ z. by-test (eqb kind kinds)
-      (λ f. rw (eqb-true kind kinds f, p, q, empty-below) (simp passed))
+      (λ f. rw (eqb-true kind kinds f, p, q)
+      (got-order (leb 1 who && leb who clients) (ltb k items) (ltb v (2 ^ 32)) _
+      (ltb s (2 ^ items)) _))
       (λ f.
       let past : kinds < kind = omega (arith, eqb-false kind 0 z, eqb-false kind kinds f) in
       rw (f, le-leb 1 kind (omega arith), lt-leb kind kinds past) refl))

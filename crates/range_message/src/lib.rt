@@ -121,7 +121,7 @@ fn words_in_range(
         & (((1 <= who) & (who <= clients))
             & (item < items)
             & (value < 4294967296)
-            & stamp_in_range(clients, stamp)
+            & entry_in_range(clients, items, Entry { stamp, set })
             & entry_in_range(clients, items, latest))
 }
 

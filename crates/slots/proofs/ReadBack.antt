@@ -3,13 +3,11 @@ use mathlib.Core.List.{List}
 use mathlib.Core.Path.{_≡_}
 use Prim.Native.Nat.{ℕ, _<_}
 use lib.ListN.{length, getD}
-use Rattle.basics.specs.Lists.{In, table}
-use Rattle.basics.proofs.Lists.{in-getD}
+use Rattle.basics.specs.Lists.{table}
 use Rattle.protocol.specs.declared.Version.{Version}
 use Rattle.protocol.specs.declared.Message.{Message}
 use Rattle.protocol.specs.Tables.{Tables}
 use Rattle.layout.specs.Decode.{versionIn, messageIn}
-use Rattle.layout.proofs.Masked.{MaskedMessage}
 use Rattle.layout.specs.Encodes.{Encodes}
 use Rattle.layout.proofs.Held.{version-held, message-held}
 use Rattle.slots.proofs.Each.{table-each}
@@ -24,16 +22,12 @@ pub table-versions : {b : List ℕ} {t : Tables} → Encodes b t
     → table (length (t .versions)) (versionIn b) ≡ t .versions
 table-versions {b} {t} e = table-each (versionIn b) (t .versions) (read-version e)
 
--- of messages, where a got's version has the empty set
-pub read-message : {b : List ℕ} {t : Tables} → Encodes b t
-    → ((m : Message) → In m (t .messages) → MaskedMessage m)
-    → (i : ℕ) → i < length (t .messages) → (none : Message)
+pub read-message : {b : List ℕ} {t : Tables} → Encodes b t → (i : ℕ) → i < length (t .messages)
+    → (none : Message)
     → messageIn b i ≡ getD (t .messages) i none
-read-message {b} {t} e masked i l none =
-    let m = getD (t .messages) i none in
-    message-held b i m (e .messages i l none) (masked m (in-getD (t .messages) i none l))
+read-message {b} {t} e i l none = message-held b i (getD (t .messages) i none)
+    (e .messages i l none)
 
 pub table-messages : {b : List ℕ} {t : Tables} → Encodes b t
-    → ((m : Message) → In m (t .messages) → MaskedMessage m)
     → table (length (t .messages)) (messageIn b) ≡ t .messages
-table-messages {b} {t} e masked = table-each (messageIn b) (t .messages) (read-message e masked)
+table-messages {b} {t} e = table-each (messageIn b) (t .messages) (read-message e)

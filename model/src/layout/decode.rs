@@ -104,14 +104,14 @@ fn version(words: &[u64], place: usize) -> Version {
 
 fn message(words: &[u64], place: usize) -> Option<Message> {
     let (client, partition) = (words[place + 1], words[place + 1]);
-    let (item, value) = (words[place + 2], words[place + 3]);
-    let stamp = stamp(words, place + 4);
+    let version = version(words, place + 2);
+    let Version { item, stamp, .. } = version;
     match words[place] {
-        1 => Some(Message::Prepare(version(words, place + 2))),
+        1 => Some(Message::Prepare(version)),
         2 => Some(Message::Prepared { item, stamp }),
         3 => Some(Message::Commit { partition, stamp }),
         4 => Some(Message::Get { client, item, stamp }),
-        5 => Some(Message::Got { client, item, value, stamp, latest: entry(words, place + 6) }),
+        5 => Some(Message::Got { client, version, latest: entry(words, place + 6) }),
         _ => None,
     }
 }

@@ -71,8 +71,17 @@ impl Checker {
         let written = frame.shown().into_iter().filter(|entry| entry.stamp != Stamp::INITIAL);
         summary.reads_shown += usize::from(frame.read.is_some());
         summary.written_entries_shown += written.count();
-        if let Some(Part::Write(write)) = self.history.last_ended(client).map(|last| &last.part) {
-            summary.corrections += usize::from(![0, client].contains(&write.after.client));
+        match self.history.last_ended(client).map(|last| &last.part) {
+            Some(Part::Write(write)) => {
+                summary.corrections += usize::from(![0, client].contains(&write.after.client));
+            }
+            Some(Part::Read(read)) => {
+                let again = frame.shown().into_iter().filter(|entry| {
+                    read.after.get(&entry.item).is_some_and(|before| *before != Stamp::INITIAL)
+                });
+                summary.shown_again += again.count();
+            }
+            None => (),
         }
     }
 

@@ -2,7 +2,8 @@
 //!
 //! A message is of the client whose start put it there, or of the same client as the message whose
 //! delivery did. With the labels go the numbers that make a write's: a client learns a number by
-//! writing, and by a got, which has that of its item's latest write when the get was delivered.
+//! writing, and by a got, which has that of its item's latest write when the get was delivered. The
+//! number of a got's version its client knew already, since it asked for it.
 
 use crate::frames::hex;
 use crate::frames::log::LogFrame;
@@ -45,6 +46,8 @@ pub(super) struct Reply {
 /// A read from its accepted start.
 #[derive(Clone, Debug, Default)]
 pub(super) struct Read {
+    /// By item: the latest stamp that reads of its client had shown before its start.
+    pub(super) after: BTreeMap<u64, Stamp>,
     /// Gets of its client that joined from its start to its end.
     pub(super) requests: usize,
     /// Gots of its client that were delivered from its start to its end.
@@ -104,6 +107,8 @@ pub(super) struct History {
     known: BTreeMap<u64, u64>,
     /// By client: the latest stamp among all entries that showings gave it, its own writes' too.
     shown: BTreeMap<u64, Stamp>,
+    /// By client and item: the latest stamp that a read of that client showed.
+    read: BTreeMap<u64, BTreeMap<u64, Stamp>>,
 }
 
 impl History {
@@ -113,7 +118,9 @@ impl History {
 
     /// An accepted read start: one get per item joins.
     pub(super) fn start_read(&mut self, event: usize, client: u64, set: u64) {
-        self.start(event, client, set, Part::Read(Read::default()), Kind::Get);
+        let after = self.read.get(&client).cloned().unwrap_or_default();
+        let read = Read { after, ..Read::default() };
+        self.start(event, client, set, Part::Read(read), Kind::Get);
         let joined = size(set) as usize;
         for read in self.running_reads_mut(client) {
             read.requests += joined;
@@ -249,6 +256,11 @@ impl History {
         let (written, shown) = (frame.written(), frame.shown());
         let latest = self.shown.entry(client).or_default();
         *latest = written.iter().chain(&shown).map(|entry| entry.stamp).fold(*latest, Stamp::max);
+        let read = self.read.entry(client).or_default();
+        for entry in &shown {
+            let latest = read.entry(entry.item).or_default();
+            *latest = entry.stamp.max(*latest);
+        }
     }
 
     /// The client's transaction that ended last, if none of it is running.

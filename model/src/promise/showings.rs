@@ -47,6 +47,9 @@ pub(super) fn check(
             for entry in &entries {
                 no_own_write_is_missed(history, last, entry)?;
             }
+            for entry in &entries {
+                never_falls(read, entry)?;
+            }
         }
     }
     Ok(Some(frame))
@@ -160,6 +163,14 @@ fn no_own_write_is_missed(
         Err(Clause::OwnWriteMissed { item: entry.item })
     } else {
         Ok(())
+    }
+}
+
+/// No entry is older than what a read of the client that ended before this one's start showed.
+fn never_falls(read: &Read, entry: &Entry) -> Result<(), Clause> {
+    match read.after.get(&entry.item) {
+        Some(before) if entry.stamp < *before => Err(Clause::WentBack { item: entry.item }),
+        _ => Ok(()),
     }
 }
 

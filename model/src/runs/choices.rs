@@ -15,6 +15,9 @@ impl Runner<'_, '_> {
         }
         let is_preferred = |message: &Message| match self.order {
             Order::CommitsLast => !matches!(message, Message::Commit { .. }),
+            Order::PartitionLast(last) => {
+                !matches!(message, Message::Commit { partition, .. } if *partition == last)
+            }
             Order::ClientLast(client) => message.client() != client,
             _ => true,
         };

@@ -32,4 +32,14 @@ pub enum Fault {
     CountByOne,
     /// 7 is tested on the count alone.
     SevenByCount,
+    /// A got offers its latest alone to the view, as in document 01.
+    LatestAlone,
+    /// The version of a got is offered to the view with the last got alone.
+    VersionWithLastGot,
+    /// With equal stamps the view entry takes the set of the got's version.
+    TieTakesVersion,
+    /// The version of a got is offered to the view entries of its siblings too.
+    VersionToSiblings,
+    /// A got carries no write set.
+    GotWithoutSet,
 }

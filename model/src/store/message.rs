@@ -14,8 +14,8 @@ pub enum Message {
     Commit { partition: u64, stamp: Stamp },
     /// Kind 4: the version of the item with exactly this stamp is wanted.
     Get { client: u64, item: u64, stamp: Stamp },
-    /// Kind 5: that version, and the item's latest.
-    Got { client: u64, item: u64, value: u64, stamp: Stamp, latest: Entry },
+    /// Kind 5: that version, with its write set, and the item's latest.
+    Got { client: u64, version: Version, latest: Entry },
 }
 
 /// What a message is, part by part; a part that its kind doesn't have is none.
@@ -52,12 +52,13 @@ impl Message {
             Message::Get { client, item, stamp } => {
                 Parts { kind: 4, client: Some(client), item: Some(item), stamp, ..parts }
             }
-            Message::Got { client, item, value, stamp, latest } => Parts {
+            Message::Got { client, version, latest } => Parts {
                 kind: 5,
                 client: Some(client),
-                item: Some(item),
-                value: Some(value),
-                stamp,
+                item: Some(version.item),
+                value: Some(version.value),
+                stamp: version.stamp,
+                set: Some(version.set),
                 latest: Some(latest),
                 ..parts
             },

@@ -73,7 +73,9 @@ fn is_unwanted(tables: &Tables, message: &Message) -> bool {
     match *message {
         Message::Prepare(version) => tables.version(version.item, version.stamp).is_some(),
         Message::Prepared { item, stamp } => !awaits(stamp.client, WRITING, item, stamp),
-        Message::Got { client, item, stamp, .. } => !awaits(client, READING, item, stamp),
+        Message::Got { client, version, .. } => {
+            !awaits(client, READING, version.item, version.stamp)
+        }
         Message::Commit { .. } | Message::Get { .. } => false,
     }
 }

@@ -53,7 +53,7 @@ impl Store {
         let count = if by_one { record.count + 1 } else { number };
         *record = Client { mode: WRITING, count, set, awaited: set, stamps, values, ..*record };
         if self.has(Fault::ViewAtStart) {
-            self.see_own_write(client, stamp, set);
+            self.see_write(client, stamp, set);
         }
     }
 
@@ -87,9 +87,7 @@ impl Store {
             Message::Prepared { item, stamp } => self.deliver_prepared(item, stamp),
             Message::Commit { partition, stamp } => self.deliver_commit(partition, stamp),
             Message::Get { client, item, stamp } => self.deliver_get(client, item, stamp),
-            Message::Got { client, item, value, latest, .. } => {
-                self.deliver_got(client, item, value, latest)
-            }
+            Message::Got { client, version, latest } => self.deliver_got(client, version, latest),
         }
     }
 
@@ -104,7 +102,7 @@ impl Store {
         let set = record.set;
         let ended = Ended { kind: WRITE, set, stamp, values: record.values, ..Ended::NONE };
         *record = Client::resting(record.count, ended);
-        self.see_own_write(client, stamp, set);
+        self.see_write(client, stamp, set);
         for partition in 0..self.tables.sizes.partitions {
             if items(set).any(|item| self.tables.partition_of(item) == partition) {
                 self.tables.messages.push(Message::Commit { partition, stamp });
@@ -114,10 +112,29 @@ impl Store {
     }
 
     /// Each written item's view entry becomes the later of itself and this write.
-    fn see_own_write(&mut self, client: u64, stamp: Stamp, set: u64) {
+    fn see_write(&mut self, client: u64, stamp: Stamp, set: u64) {
         for item in items(set) {
             self.see(client, item, Entry::new(stamp, set));
         }
+    }
+
+    /// The view entry of a got's item becomes the later of itself and the version.
+    fn see_version(&mut self, client: u64, version: Version) {
+        let item = version.item;
+        let is_last = without(self.tables.client(client).awaited, item) == 0;
+        let entry = Entry::new(version.stamp, version.set);
+        match self.fault {
+            Some(Fault::LatestAlone) => return,
+            Some(Fault::VersionWithLastGot) if !is_last => return,
+            Some(Fault::VersionToSiblings) => self.see_write(client, version.stamp, version.set),
+            Some(Fault::TieTakesVersion)
+                if self.tables.view(client)[item as usize].stamp == version.stamp =>
+            {
+                self.tables.view_mut(client)[item as usize] = entry;
+            }
+            _ => (),
+        }
+        self.see(client, item, entry);
     }
 
     /// The view entry becomes the later of itself and this one; with equal stamps it stays.
@@ -147,37 +164,36 @@ impl Store {
         NONE_ENDED
     }
 
-    /// Appends a got with the version of exactly that stamp, and the item's latest.
+    /// Appends a got with the version of exactly that stamp, and the item's latest. The initial
+    /// version has value 0 and the empty set.
     fn deliver_get(&mut self, client: u64, item: u64, stamp: Stamp) -> u64 {
-        let mut value = match self.tables.version(item, stamp) {
-            Some(version) => version.value,
-            None => 0,
-        };
-        let mut stamp = stamp;
+        let initial = Version { item, value: 0, stamp, set: 0 };
+        let mut version = self.tables.version(item, stamp).copied().unwrap_or(initial);
         if self.has(Fault::NewestVersion) {
-            for version in self.tables.versions.iter().filter(|v| v.item == item) {
-                if version.stamp > stamp {
-                    (value, stamp) = (version.value, version.stamp);
+            for stored in self.tables.versions.iter().filter(|v| v.item == item) {
+                if stored.stamp > version.stamp {
+                    version = *stored;
                 }
             }
-            self.tables.client_mut(client).stamps[item as usize] = stamp;
+            self.tables.client_mut(client).stamps[item as usize] = version.stamp;
         }
-        self.tables.messages.push(Message::Got {
-            client,
-            item,
-            value,
-            stamp,
-            latest: self.tables.latest[item as usize],
-        });
+        if self.has(Fault::GotWithoutSet) {
+            version.set = 0;
+        }
+        let latest = self.tables.latest[item as usize];
+        self.tables.messages.push(Message::Got { client, version, latest });
         NONE_ENDED
     }
 
-    /// Keeps the version as the item's answer and sees the latest; with the last one the read ends.
-    fn deliver_got(&mut self, client: u64, item: u64, value: u64, latest: Entry) -> u64 {
+    /// Keeps the version as the item's answer and sees it after the latest; with the last one the
+    /// read ends.
+    fn deliver_got(&mut self, client: u64, version: Version, latest: Entry) -> u64 {
+        let item = version.item;
         self.see(client, item, latest);
+        self.see_version(client, version);
         let ends_early = self.has(Fault::EndAtFirstReply);
         let record = self.tables.client_mut(client);
-        record.values[item as usize] = value;
+        record.values[item as usize] = version.value;
         record.awaited = without(record.awaited, item);
         if record.awaited != 0 {
             return if ends_early { READ_ENDED } else { NONE_ENDED };

@@ -19,6 +19,7 @@ pub struct Runs {
     pub reads_shown: usize,
     pub written_entries_shown: usize,
     pub corrections: usize,
+    pub shown_again: usize,
     pub greatest_load: u64,
     pub most_versions: usize,
 }
@@ -61,6 +62,7 @@ fn random_run(
     runs.reads_shown += summary.reads_shown;
     runs.written_entries_shown += summary.written_entries_shown;
     runs.corrections += summary.corrections;
+    runs.shown_again += summary.shown_again;
     runs.greatest_load = runs.greatest_load.max(run.greatest_load);
     runs.most_versions = runs.most_versions.max(run.most_versions);
     Ok(())

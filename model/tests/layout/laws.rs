@@ -37,7 +37,7 @@ fn full_tables() -> Tables {
     }
     let version = Version { item: 63, value: 1, stamp, set: u64::MAX };
     tables.versions = vec![version; 512];
-    let got = Message::Got { client: 8, item: 63, value: 1, stamp, latest: entry };
+    let got = Message::Got { client: 8, version, latest: entry };
     tables.messages = vec![got; 128];
     tables
 }
@@ -52,7 +52,7 @@ fn fields_lie_within_the_needed_length_and_no_two_at_one_place() {
     assert_eq!(places.last(), Some(&(NEEDED - 1)));
     // Header, scalars, latest, views, asked and last stamps, values, versions, messages.
     let of_clients = 8 * 7 + 4 * 64 + 4 * 64 + 2 * 8 * 64;
-    let count = 5 + of_clients + 128 + 8 * 128 + 4 * 512 + 7 * 128;
+    let count = 5 + of_clients + 128 + 8 * 128 + 4 * 512 + 8 * 128;
     assert_eq!(fields.len(), count);
     for field in fields {
         assert!(field.word <= field.sort.greatest(&full.sizes), "{field:?}");

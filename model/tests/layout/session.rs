@@ -90,13 +90,19 @@ fn the_words_of_the_session() {
         (5400, &asked),
     ];
     assert_words(&store, &[&written[..], &reading_again].concat());
-    while store.tables.messages.len() > 1 {
-        store.deliver(1);
-    }
+
+    store.deliver(1);
+    store.deliver(1);
+    let gots: [u64; 16] = [5, 2, 1, 8, 17, 3, 0, 0, 5, 2, 2, 0, 0, 0, 0, 0];
+    let answered = [&reading_again[..5], &[(5400, &gots)]].concat();
+    assert_words(&store, &[&written[..], &answered].concat());
+
+    store.deliver(1);
+    store.deliver(1);
     let read_again: [(usize, &[u64]); 6] = [
         (0, &[2, 2, 3, 2, 1]),
         (32, &[0, 0, 0, 0, 0, 1, 6]),
-        (400, &[17, 3]),
+        (400, &[17, 3, 17, 3]),
         (2385, &[17]),
         (2897, &[8]),
         (5392, &commit),
@@ -109,7 +115,7 @@ fn the_words_of_the_session() {
     let writing: [(usize, &[u64]); 8] = [
         (0, &[2, 2, 3, 2, 2]),
         (32, &[2, 2, 4, 4, 34, 1, 6]),
-        (400, &[17, 3]),
+        (400, &[17, 3, 17, 3]),
         (1874, &[9]),
         (2385, &[17]),
         (2897, &[8]),

@@ -18,6 +18,7 @@ fn small_stores() {
     runs.met.assert_refused(&[1, 2, 3, 4, 5, 6, 10, 13, 14], 500);
     assert!(runs.written_entries_shown >= 40_000, "{runs:?}");
     assert!(runs.corrections >= 1_000, "{runs:?}");
+    assert!(runs.shown_again >= 20_000, "{runs:?}");
 }
 
 #[test]
@@ -37,4 +38,5 @@ fn crowded_stores_of_some_thousand_calls() {
     assert_eq!((runs.greatest_load, runs.most_versions), (128, 512));
     assert!(runs.written_entries_shown >= 2_000, "{runs:?}");
     assert!(runs.corrections >= 30, "{runs:?}");
+    assert!(runs.shown_again >= 2_000, "{runs:?}");
 }

@@ -120,3 +120,29 @@ fn a_correction_by_a_client_that_has_written_less_is_what_is_read_next() {
     let (input, output): (Vec<&str>, Vec<&str>) = steps.into_iter().unzip();
     assert_eq!(run(input.concat().as_bytes()), output.concat());
 }
+
+/// Client 1 writes items 0 and 1, and its commit for item 1 stays in flight. Client 2 learns of the
+/// write with item 0 and is shown it with item 1. Then client 1 writes item 0 alone, and client 2
+/// learns of that: item 1 is shown as before.
+#[test]
+fn an_entry_once_shown_does_not_go_back() {
+    let read_of_1 = ("02020000000000000002\n040001\n040001\n", "000002\n0004000200\n0005000101\n");
+    let read_of_0 = ("02020000000000000001\n040001\n040001\n", read_of_1.1);
+    let shown = ("0502\n", "0021020000000000000002000000010100000008\n");
+    let steps = [
+        ("01020202\n", "00\n"),
+        ("030100000000000000030000000700000008\n", "000002\n"),
+        ("040000\n040000\n040000\n", "0001000200\n0001000200\n0002000100\n"),
+        ("040000\n040000\n", "0002000202\n0003000100\n"),
+        read_of_0,
+        read_of_1,
+        shown,
+        ("0301000000000000000100000009\n", "000002\n"),
+        ("040001\n040001\n040001\n", "0001000200\n0002000202\n0003000100\n"),
+        read_of_0,
+        read_of_1,
+        shown,
+    ];
+    let (input, output): (Vec<&str>, Vec<&str>) = steps.into_iter().unzip();
+    assert_eq!(run(input.concat().as_bytes()), output.concat());
+}

@@ -34,13 +34,14 @@ fn damages(served: &dyn Calls) -> Result<Damaged, Difference> {
             damaged_blocks(served, &busy, 60, &mut random, &mut damaged)?;
         }
     }
-    for seed in 95..125 {
+    for seed in 95..155 {
         damaged_blocks(served, &Busy::unlike_any(seed), 60, &mut random, &mut damaged)?;
     }
     Ok(damaged)
 }
 
-/// Edges of small blocks and of some at the brim of a capacity.
+/// Edges of small blocks, of some at the brim of a capacity, and of some unlike any that calls
+/// leave.
 fn edge_calls(served: &dyn Calls) -> Result<Met, Difference> {
     let mut met = Met::default();
     for seed in 0..4 {
@@ -48,6 +49,9 @@ fn edge_calls(served: &dyn Calls) -> Result<Met, Difference> {
     }
     for busy in brimming().iter().take(7) {
         edges(served, busy, &mut met)?;
+    }
+    for seed in 95..155 {
+        edges(served, &Busy::unlike_any(seed), &mut met)?;
     }
     Ok(met)
 }

@@ -10,6 +10,7 @@ fn runs_meet_every_call_and_most_refusals() {
     runs.met.assert_refused(&[1, 2, 3, 4, 5, 6, 8, 9, 10, 13, 14], 1);
     assert!(runs.longest >= 3_000, "{runs:?}");
     assert!(runs.corrections >= 50, "{runs:?}");
+    assert!(runs.shown_again >= 200, "{runs:?}");
 }
 
 #[test]

@@ -86,6 +86,31 @@ fn runs_and_damages_catch_every_wrong_store() {
     }
 }
 
+/// Those that offer a got's version to the view otherwise than document 02, P2.
+#[test]
+fn runs_and_edges_catch_every_other_offer_of_a_version() {
+    for fault in [
+        Fault::LatestAlone,
+        Fault::VersionWithLastGot,
+        Fault::VersionToSiblings,
+        Fault::GotWithoutSet,
+    ] {
+        let wrong = Modelled { fault: Some(fault) };
+        assert!(runs(&wrong).is_err(), "{fault:?}");
+        assert!(edge_calls(&wrong).is_err(), "{fault:?}");
+    }
+}
+
+/// In runs all copies of a stamp's set agree, so that no tie shows; other blocks have ties whose
+/// sets differ.
+#[test]
+fn damages_and_edges_catch_a_tie_that_takes_the_version_s_set() {
+    let wrong = Modelled { fault: Some(Fault::TieTakesVersion) };
+    assert!(runs(&wrong).is_ok());
+    assert!(damages(&wrong).is_err());
+    assert!(edge_calls(&wrong).is_err());
+}
+
 /// No run comes near the greatest number; damages and edges have it in views.
 #[test]
 fn damages_and_edges_catch_7_tested_on_the_count_alone() {

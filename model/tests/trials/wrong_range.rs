@@ -58,6 +58,37 @@ fn a_number_past_its_range_accepted() {
     assert!(range(&spare_bits).is_err());
 }
 
+/// The words of a block with the set of each got in flight changed by this.
+fn with_got_sets(words: &[u64], change: impl Fn(&mut u64, u64)) -> Vec<u64> {
+    let mut words = words.to_vec();
+    let messages = decode(&words).map_or(0, |tables| tables.messages.len());
+    for message in (0..messages).map(places::message) {
+        if words[message] == 5 {
+            let item = words[message + 2];
+            change(&mut words[message + 5], item);
+        }
+    }
+    words
+}
+
+#[test]
+fn a_got_s_set_out_of_range_accepted() {
+    let unchecked = |words: &[u64]| is_valid(&with_got_sets(words, |set, _| *set = 0));
+    assert!(range(&unchecked).is_err());
+}
+
+#[test]
+fn a_got_s_set_without_its_item_refused() {
+    let strict = |words: &[u64]| {
+        let with_item = with_got_sets(words, |set, item| {
+            let has_item = item < 64 && *set >> item & 1 == 1;
+            *set = if has_item { *set } else { u64::MAX };
+        });
+        is_valid(words) && with_item == words
+    };
+    assert!(range(&strict).is_err());
+}
+
 #[test]
 fn a_range_one_too_narrow() {
     let count = places::scalar(1, Scalar::Count);

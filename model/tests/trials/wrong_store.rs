@@ -3,7 +3,7 @@
 use koolvent_model::block::{Calls, Modelled};
 use koolvent_model::layout::places::{self, Scalar, NEEDED};
 use koolvent_model::layout::{decode, fields};
-use koolvent_model::store::tables::IDLE;
+use koolvent_model::store::tables::{IDLE, LOAD_CAPACITY};
 use std::ops::Range;
 
 const MODEL: Modelled = Modelled { fault: None };
@@ -66,7 +66,8 @@ impl Wrong {
     }
 
     fn spoil_messages(self, before: &[u64], after: &mut [u64]) {
-        let (was, is) = (before[places::MESSAGES], after[places::MESSAGES]);
+        let was = before[places::MESSAGES].min(LOAD_CAPACITY);
+        let is = after[places::MESSAGES];
         let words = |first: u64, end: u64| {
             places::message(first as usize)..places::message(end.max(first) as usize)
         };

@@ -32,7 +32,7 @@ use Rattle.condition3.specs.World.{outcomeIn, delivers, endsFor, stays, 
 use Rattle.protocol.proofs.Examples.Table.{same}
 use Rattle.condition3.specs.Condition3.{now, sent, came, shownAt, output, later, outputOfRead}
 use Rattle.condition3.specs.Condition3.{answeredAt, shownNumber, shownWriter, shownValue}
-use Rattle.condition3.specs.Condition3.{shownOwnNumber, ShownOlder}
+use Rattle.condition3.specs.Condition3.{shownOwnNumber, ShownOlder, Falls}
 
 abbrev w : World
 w = begin (record { clients = 2; partitions = 2; items = 2 })
@@ -166,6 +166,32 @@ ownCommits =
     && delivers v 1 (deliver 0) && accepts capacities v (deliver 0)
     && not (endsFor capacities v 1 (deliver 0)) && rests capacities v 1 (deliver 0 ∷ [])
 
+-- ---- Two reads of one item by one client
+
+-- Client 1 has written both items, and only item 0's commit is delivered; client 2 has read item 0,
+-- and then reads item 1, twice. Between these client 1 writes item 0 alone, and client 2 reads it.
+abbrev untilFirst : List Call
+untilFirst = written-first ++ startRead 2 1 ∷ deliver 1 ∷ deliver 1 ∷ []
+
+abbrev betweenReads : List Call
+betweenReads =
+    startWrite 1 1 (0 ∷ 0 ∷ 0 ∷ 9 ∷ []) ∷ deliver 1 ∷ deliver 1 ∷ deliver 1
+    ∷ startRead 2 1 ∷ deliver 1 ∷ deliver 1 ∷ []
+
+abbrev untilSecond : List Call
+untilSecond =
+    untilFirst ++ startRead 2 2 ∷ (deliver 1 ∷ []) ++ deliver 1 ∷ show 2 room ∷ betweenReads
+
+-- each is accepted, under way and ended, and shows item 1 as it was written
+abbrev readsBoth : List Call → Bool
+readsBoth before =
+    let shown = outputOfRead capacities w 2 2 before (deliver 1 ∷ []) (deliver 1) [] room in
+    accepts capacities (after capacities w before) (startRead 2 2)
+    && stays capacities (now capacities w 2 2 before []) 2 (deliver 1 ∷ [])
+    && endsFor capacities (now capacities w 2 2 before (deliver 1 ∷ [])) 2 (deliver 1)
+    && same (shownNumber 2 shown 1 ∷ shownWriter 2 shown 1 ∷ shownValue 2 shown 1 ∷ [])
+    (1 ∷ 1 ∷ 8 ∷ [])
+
 -- ---- Two writes of number 1
 
 -- of client 1 by call 0 and of client 2 by call 3, with prepares delivered by calls 1 and 4
@@ -200,6 +226,8 @@ rows =
     ∷ times
     ∷ numbers
     ∷ ownCommits
+    ∷ readsBoth untilFirst
+    ∷ readsBoth untilSecond
     ∷ writesAndStores
     ∷ []
 
@@ -231,9 +259,12 @@ never n h = omega arith
 above : 2 < 1 → ⊥
 above h = omega arith
 
--- the first is older than client 2's write, and not than its own; the second is older than neither
+-- the first is older than client 2's write, and not than its own; the second is older than neither;
+-- from the second to the first the stamp would fall, from the first to itself or to the second it
+-- doesn't
 pub ties : ShownOlder 1 own 0 (stampOf 1 2) × (ShownOlder 1 own 0 (stampOf 1 1) → ⊥)
     × (ShownOlder 1 other 0 (stampOf 1 1) → ⊥) × (ShownOlder 1 other 0 (stampOf 1 2) → ⊥)
+    × (Falls 1 own 1 own 0 → ⊥) × Falls 1 other 1 own 0 × (Falls 1 own 1 other 0 → ⊥)
 unfolding next after joining leaving staying begun withoutAll storing joiningOver leavingOver
     outcomeIn delivers stays startsFor rests step refusal first unexpected missing isNothing effect
     reply written lent outcomeOf valid inRange sizesInRange stampInRange entryInRange versionInRange
@@ -245,4 +276,7 @@ ties = (
   ⊎-elim (never 1) (λ p. never 1 (p .1)),
   ⊎-elim (never 1) (λ p. above (p .1)),
   ⊎-elim (never 1) (λ p. never 2 (p .1)),
+  ⊎-elim (never 1) (λ p. never 1 (p .1)),
+  inr (refl, below),
+  ⊎-elim (never 1) (λ p. above (p .1)),
 )

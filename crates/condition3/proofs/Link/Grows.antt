@@ -1,13 +1,16 @@
--- The history of calls only grows, and what the link says of it with it.
+-- The history of calls only grows, and what the link says of it with it; so do views.
 use mathlib.Core.Logic.{inl, inr}
 use Prim.Native.Nat.{ℕ, _≤_}
-use native.Mathlib.Nat.{le-suc, lt-of-lt-of-le}
+use mathlib.Core.Path.{_≡_}
+use native.Mathlib.Nat.{le-refl, le-suc, lt-of-lt-of-le}
 use Rattle.basics.specs.Lists.{In}
 use Rattle.basics.proofs.Lists.{in-left}
 use Rattle.protocol.specs.declared.Message.{Message}
-use Rattle.protocol.specs.Calls.{Call}
+use Rattle.protocol.specs.Range.{Capacities}
+use Rattle.protocol.specs.Calls.{Call, refusal, effect}
 use Rattle.condition3.specs.World.{World, Label, Write, Store, begun, storing, moved, passed}
-use Rattle.protocol.proofs.Sorts.{writes}
+use Rattle.protocol.proofs.Sorts.{ViewGrows}
+use Rattle.protocol.proofs.Keeps.{keeps}
 use Rattle.condition3.proofs.Link.{LandedBefore, Landed, Comes}
 use Rattle.condition3.proofs.Common.{known}
 
@@ -15,6 +18,7 @@ pub record Grows (w w′ : World) : Type 0 where
   pub writes : (a : Write) → In a (w .writes) → In a (w′ .writes)
   pub stores : (σ : Store) → In σ (w .stores) → In σ (w′ .stores)
   pub time : w .time ≤ w′ .time
+  pub view : ViewGrows (w .tables) (w′ .tables)
 
 pub grow-known : (w w′ : World) → Grows w w′ → (a : Write) → In a (known (w .writes))
     → In a (known (w′ .writes))
@@ -61,13 +65,22 @@ grow-comes w w′ g l m x =
       };
     }
 
-pub moved-grows : (w : World) (c : Call) → Grows w (moved w c)
-moved-grows w c =
+pub moved-grows : (caps : Capacities) (w : World) (c : Call) → refusal caps (w .tables) c ≡ 0
+    → Grows w (moved w c)
+unfolding effect
+moved-grows caps w c e =
     record {
       writes = λ a i. in-left a (w .writes) (begun w c) i;
       stores = λ σ i. in-left σ (w .stores) (storing w c) i;
       time = le-suc (w .time);
+      view = keeps caps (w .tables) c e .view;
     }
 
 pub grows-self : (w : World) → Grows w (passed w)
-grows-self w = record { writes = λ a i. i; stores = λ σ i. i; time = le-suc (w .time) }
+grows-self w =
+    record {
+      writes = λ a i. i;
+      stores = λ σ i. i;
+      time = le-suc (w .time);
+      view = λ d k. le-refl (w .tables .view d k .stamp);
+    }

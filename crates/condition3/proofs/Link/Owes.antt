@@ -59,7 +59,7 @@ module _ (caps : Capacities) (w : World) (inv : Inv caps w) where
 
   pub pay : (c : Call) → refusal caps (w .tables) c ≡ 0 → Owes c → Inv caps (moved w c)
   pay c e o =
-      let g : Grows w (moved w c) = moved-grows w c in
+      let g : Grows w (moved w c) = moved-grows caps w c e in
       record {
         ledger = ledgerAfter L (does w c .begins);
         sound = sound-accepted caps L (w .tables) (inv .sound) c e;

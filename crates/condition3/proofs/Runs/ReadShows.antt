@@ -48,7 +48,7 @@ use Rattle.condition3.proofs.Common.{known, origin}
 parts-same : (a b : ℕ) → numberOf a ≡ numberOf b → writerOf a ≡ writerOf b → a ≡ b
 parts-same a b p q = omega arith
 
-parts-less : (a b : ℕ) → (numberOf a < numberOf b)
+pub parts-less : (a b : ℕ) → (numberOf a < numberOf b)
     ⊎ ((numberOf a ≡ numberOf b) × (writerOf a < writerOf b)) → a < b
 parts-less a b (inl p) = omega arith
 parts-less a b (inr p) = omega (arith, p .0, p .1)
@@ -118,11 +118,11 @@ module _ (caps : Capacities) (w : World) (inv : Inv caps w) (d s : ℕ) (before 
   abbrev output : List ℕ
   output = step caps (x .tables) (show d room) .output
 
-  number-shown : (k : ℕ) → has s k ≡ true → shownNumber s output k ≡ numberOf (stamps k)
+  pub number-shown : (k : ℕ) → has s k ≡ true → shownNumber s output k ≡ numberOf (stamps k)
   number-shown k m = number-is caps x inv-shown d (v .tables .client d) last
       room isClient refl kept enough k m
 
-  writer-shown : (k : ℕ) → has s k ≡ true → shownWriter s output k ≡ writerOf (stamps k)
+  pub writer-shown : (k : ℕ) → has s k ≡ true → shownWriter s output k ≡ writerOf (stamps k)
   writer-shown k m = writer-is caps x inv-shown d (v .tables .client d) last
       room isClient refl kept enough k m
 
@@ -276,6 +276,16 @@ module _ (caps : Capacities) (w : World) (inv : Inv caps w) (d s : ℕ) (before 
       (or-cases (eqb (choice (w₁ .tables .view d) k (w₁ .tables .sizes .items)) 0)
       (has (asks k m .write .set) k) (asks k m .mine))
 
+  -- ---- nothing is shown earlier than the view had it at the start, and the view then has it
+
+  pub shown-ge : (k : ℕ) → has s k ≡ true → w₁ .tables .view d k .stamp ≤ stamps k
+  shown-ge k m = rw m (choice-own (w₁ .tables .view d) k (w₁ .tables .sizes .items))
+
+  pub shown-seen : (k : ℕ) → has s k ≡ true → stamps k ≤ x .tables .view d k .stamp
+  shown-seen k m =
+      subst (λ (y : World). stamps k ≤ y .tables .view d k .stamp) (sym shown-is)
+      (le-trans (answer k m .seen) (after-view caps (moved v end) until d k))
+
   -- ---- no entry is older than an own write that had ended before
 
   -- the view at the read's start has all that it had right after an earlier call
@@ -302,10 +312,8 @@ module _ (caps : Capacities) (w : World) (inv : Inv caps w) (d s : ℕ) (before 
       ended-write caps w inv d z bytes earlier meanwhile finish o .seen in
       let now : stamp ≤ w₁ .tables .view d k .stamp =
       le-trans (seen k h) (at-start (earlier ++ c ∷ meanwhile) finish later split k) in
-      let chosen-ge : w₁ .tables .view d k .stamp ≤ stamps k =
-      rw m (choice-own (w₁ .tables .view d) k (w₁ .tables .sizes .items)) in
       let less : stamps k < stamp = shown-older k m stamp older in
-      omega arith
+      omega (arith, shown-ge k m)
 
   -- ---- its client's later writes are later than all it shows
 

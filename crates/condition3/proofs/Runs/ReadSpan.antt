@@ -4,7 +4,8 @@ use mathlib.Core.Bool.{Bool, true, false, cond}
 use mathlib.Core.List.{List, [], _∷_, _++_}
 use mathlib.Core.Logic.{_≢_, inl}
 use mathlib.Core.Path.{_≡_, refl, sym, ap, _∙_, subst}
-use Prim.Native.Nat.{ℕ, zero, suc, _+_}
+use Prim.Native.Nat.{ℕ, zero, suc, _+_, _≤_}
+use native.Mathlib.Nat.{le-trans}
 use native.Mathlib.Omega.{arith}
 use lib.Dec.{eqb}
 use borrow.Author.Tests.{eqb-true, eqb-false}
@@ -35,8 +36,8 @@ use Rattle.condition3.proofs.Link.Messages.{in-message, fits}
 use Rattle.condition3.proofs.Link.Asks.{answer-value}
 use Rattle.condition3.proofs.Common.{known, isFor}
 
--- item k has the value of the write asked for, brought by a reply among `left`, and that write had
--- landed when the reply joined
+-- item k has the value of the write asked for, brought by a reply among `left`, that write had
+-- landed when the reply joined, and the view has it or a later one
 pub record Answer (v : World) (d k asked value : ℕ) (left : List Labelled) : Type 0 where
   pub write : Write
   pub isKnown : In write (known (v .writes))
@@ -47,6 +48,7 @@ pub record Answer (v : World) (d k asked value : ℕ) (left : List Labelled) : T
   pub isFor : isReplyFor d k reply ≡ true
   pub landed : (j : ℕ) → has (write .set) j ≡ true
       → LandedBefore (v .stores) write j (reply .label .since)
+  pub seen : asked ≤ v .tables .view d k .stamp
 
 -- the read of s by client d that asked for these stamps, once the messages `left` have been
 -- delivered
@@ -77,6 +79,7 @@ answer-grows v v′ d k a x left more g y =
       isLeft = in-left (y .reply) left more (y .isLeft);
       isFor = y .isFor;
       landed = λ j e. let σ = y .landed j e in (σ .0, g .stores (σ .0) (σ .1), σ .2, σ .3, σ .4);
+      seen = le-trans (y .seen) (g .view d k);
     }
 
 -- messages that bring the client no reply
@@ -176,33 +179,44 @@ module _ (caps : Capacities) (v : World) (inv : Inv caps v) (d s : ℕ) (asked :
   abbrev values : ℕ → ℕ
   values = put (c .read .values) k (u .value)
 
+  -- it is of the stamp asked for
+  stamp-asked : u .stamp ≡ asked k
+  stamp-asked = sym (fit .asked) ∙ ap (λ (f : ℕ → ℕ). f k) (r .asks)
+
+  -- the world after it: the view has its version or a later one
+  pub record Brings (v′ : World) : Type 0 where
+    pub grows : Grows v v′
+    pub seen : u .stamp ≤ v′ .tables .view d k .stamp
+
   -- what it brings: the value of the write asked for
-  brought : (v′ : World) → Grows v v′ → Answer v′ d k (asked k) (values k) (left ++ placed v i ∷ [])
-  brought v′ g =
+  brought : (v′ : World) → Brings v′ → Answer v′ d k (asked k) (values k) (left ++ placed v i ∷ [])
+  brought v′ b =
+      let g : Grows v v′ = b .grows in
       record {
         write = from .write;
         isKnown = grow-known v v′ g (from .write) (from .isKnown);
-        same = from .same ∙ sym (fit .asked) ∙ ap (λ (f : ℕ → ℕ). f k) (r .asks);
-        brings = answer-value caps v inv (placed v i .label) k (u .stamp) (fit .good) from
+        same = from .same ∙ stamp-asked;
+        brings = answer-value caps v inv (placed v i .label) k (u .stamp) (fit .version .good) from
             ∙ sym (fit .value) ∙ sym (put-same (c .read .values) k (u .value));
         reply = placed v i;
         isLeft = in-right (placed v i) left (placed v i ∷ []) (inl refl);
         isFor = is-reply-for k ∙ eqb-same k;
         landed = λ j e. let σ = from .landed j e in
             (σ .0, g .stores (σ .0) (σ .1), σ .2, σ .3, σ .4);
+        seen = subst (λ (n : ℕ). n ≤ v′ .tables .view d k .stamp) stamp-asked (b .seen);
       }
 
-  answered-after : (v′ : World) → Grows v v′ → (j : ℕ) → has s j ≡ true
+  answered-after : (v′ : World) → Brings v′ → (j : ℕ) → has s j ≡ true
       → has (remove (c .read .awaited) k) j ≡ false
       → Answer v′ d j (asked j) (values j) (left ++ placed v i ∷ [])
-  answered-after v′ g j e f =
+  answered-after v′ b j e f =
       by-test (eqb j k)
       (λ t. subst (λ (x : ℕ). Answer v′ d x (asked x) (values x) (left ++ placed v i ∷ []))
-      (sym (eqb-true j k t)) (brought v′ g))
+      (sym (eqb-true j k t)) (brought v′ b))
       (λ t. let other : j ≡ k → ⊥ = eqb-false j k t in
       subst (λ (x : ℕ). Answer v′ d j (asked j) x (left ++ placed v i ∷ []))
       (sym (put-other (c .read .values) k (u .value) j other))
-      (answer-grows v v′ d j (asked j) (c .read .values j) left (placed v i ∷ []) g
+      (answer-grows v v′ d j (asked j) (c .read .values j) left (placed v i ∷ []) (b .grows)
       (r .answered j e (sym (has-remove-other (c .read .awaited) k j other) ∙ f))))
 
   replied-more : counted (isReply d) (left ++ placed v i ∷ []) ≡ suc (counted (isReply d) left)
@@ -236,10 +250,10 @@ module _ (caps : Capacities) (v : World) (inv : Inv caps v) (d s : ℕ) (asked :
       (let before = r .once j in omega arith ∙ before)))
 
   -- not the last: the read goes on
-  pub goes-on : (v′ : World) → Grows v v′ → v′ .tables .client d ≡ answered c k (u .value)
+  pub goes-on : (v′ : World) → Brings v′ → v′ .tables .client d ≡ answered c k (u .value)
       → eqb (remove (c .read .awaited) k) 0 ≡ false
       → Reading d s asked v′ (left ++ placed v i ∷ [])
-  goes-on v′ g same f =
+  goes-on v′ b same f =
       record {
         mode = λ z. r .mode (sym (ap (λ (x : Client). x .read .set) same) ∙ z);
         alone = ap (λ (x : Client). x .write) same ∙ r .alone;
@@ -260,16 +274,16 @@ module _ (caps : Capacities) (v : World) (inv : Inv caps v) (d s : ℕ) (asked :
             λ j e q. subst
             (λ (x : Client). Answer v′ d j (asked j) (x .read .values j) (left ++ placed v i ∷ []))
             (sym same)
-            (answered-after v′ g j e
+            (answered-after v′ b j e
             (sym (ap (λ (x : Client). has (x .read .awaited) j) same) ∙ q));
       }
 
   -- the last: all items are answered
-  pub all-answered : (v′ : World) → Grows v v′ → eqb (remove (c .read .awaited) k) 0 ≡ true
+  pub all-answered : (v′ : World) → Brings v′ → eqb (remove (c .read .awaited) k) 0 ≡ true
       → (j : ℕ) → has s j ≡ true
       → Answer v′ d j (asked j) (values j) (left ++ placed v i ∷ [])
-  all-answered v′ g last j e =
-      answered-after v′ g j e (subst (λ (x : ℕ). has x j ≡ false)
+  all-answered v′ b last j e =
+      answered-after v′ b j e (subst (λ (x : ℕ). has x j ≡ false)
       (sym (eqb-true (remove (c .read .awaited) k) 0 last)) (has-empty j))
 
   pub all-replied : eqb (remove (c .read .awaited) k) 0 ≡ true

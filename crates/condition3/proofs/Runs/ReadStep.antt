@@ -3,7 +3,7 @@ use mathlib.Core.Bool.{true, false, cond, and-false, Bool}
 use mathlib.Core.List.{List, [], _++_}
 use mathlib.Core.Logic.{_⊎_, inl, inr, ⊎-elim}
 use mathlib.Core.Path.{_≡_, refl, sym, ap, _∙_, subst}
-use Prim.Native.Nat.{ℕ}
+use Prim.Native.Nat.{ℕ, _≤_}
 use lib.Dec.{eqb}
 use borrow.Author.Tests.{eqb-true, eq-eqb, eqb-false}
 use Rattle.basics.proofs.Cases.{by-test, not-both}
@@ -22,6 +22,7 @@ use Rattle.condition3.specs.World.{World, Labelled, placed, joining, lea
 use Rattle.condition3.specs.World.{passed, next, isReply, isReplyFor, isRequest, outcomeIn}
 use Rattle.condition3.specs.World.{delivers, endsFor, startsFor}
 use Rattle.protocol.proofs.Put.{put-same}
+use Rattle.protocol.proofs.Behaviour.{got-view}
 use Rattle.protocol.proofs.Keeps.{keeps}
 use Rattle.condition3.proofs.Link.{Inv}
 use Rattle.condition3.proofs.Link.Messages.{placed-message, fits}
@@ -29,7 +30,7 @@ use Rattle.condition3.proofs.Link.Grows.{moved-grows, grows-self}
 use Rattle.condition3.proofs.Runs.Touch.{refused-outcome, delivered-outcome, no-requests}
 use Rattle.condition3.proofs.Runs.Touch.{Way, quiet, starts, answers, way, answers-owner}
 use Rattle.condition3.proofs.Runs.Touch.{got-of}
-use Rattle.condition3.proofs.Runs.ReadSpan.{Answer, Reading, undisturbed, goes-on}
+use Rattle.condition3.proofs.Runs.ReadSpan.{Answer, Reading, undisturbed, Brings, goes-on}
 use Rattle.condition3.proofs.Runs.ReadSpan.{all-answered, all-replied, once-each}
 
 -- ---- the record of the client that a got is for
@@ -41,6 +42,12 @@ module _ (t : Tables) (i d : ℕ) (u : Version) (latest : Entry)
   got-client =
       ap (λ (m : Message). delivered t m .client d) is-got
       ∙ put-same (t .client) d (got (t .client d) (u .item) (u .value))
+
+  -- and its view has the version or a later one
+  got-seen : u .stamp ≤ effect t (deliver i) .view d (u .item) .stamp
+  unfolding effect
+  got-seen = subst (λ (m : Message). u .stamp ≤ delivered t m .view d (u .item) .stamp) (sym is-got)
+      (got-view t d u latest)
 
   got-outcome : outcomeOf t (messageAt t i) ≡ cond (isLast ofRead (t .client d) (u .item))
       (cond (eqb (t .client d .write .set) 0) 1 2) 0
@@ -122,6 +129,11 @@ module _ (caps : Capacities) (v : World) (inv : Inv caps v) (d s : ℕ) (asked :
       let no-set : c .write .set ≡ 0 = ap (λ (p : WritePart). p .set) (r .alone) in
       let no-more : c .write .awaited ≡ 0 = ap (λ (p : WritePart). p .awaited) (r .alone) in
       let delivers-it : delivers v d (deliver i) ≡ true = delivers-reply i here is-got in
+      let brings : Brings caps v inv d s asked left r i here u latest is-got (moved v (deliver i)) =
+      record {
+        grows = moved-grows caps v (deliver i) a;
+        seen = got-seen (v .tables) i d u latest same;
+      } in
       by-test (eqb (remove (c .read .awaited) (u .item)) 0)
       (λ last. inr (
         ends-by i (outcome ∙ rw (last-read c (u .item) no-more true last, no-set) refl) delivers-it,
@@ -135,12 +147,11 @@ module _ (caps : Capacities) (v : World) (inv : Inv caps v) (d s : ℕ) (asked :
           client = record-after ∙ rw
               (last-read c (u .item) no-more true last, r .alone, r .set, r .asks) refl;
           answered = all-answered caps v inv d s asked left r i here u latest is-got
-              (moved v (deliver i)) (moved-grows v (deliver i)) last;
+              (moved v (deliver i)) brings last;
         },
       ))
       (λ f. inl (
-        goes-on caps v inv d s asked left r i here u latest is-got (moved v (deliver i))
-            (moved-grows v (deliver i))
+        goes-on caps v inv d s asked left r i here u latest is-got (moved v (deliver i)) brings
             (record-after ∙ rw (last-read c (u .item) no-more false f) refl) f,
         no-requests caps v inv d i,
         silent i (outcome ∙ rw (last-read c (u .item) no-more false f) refl),
@@ -149,8 +160,8 @@ module _ (caps : Capacities) (v : World) (inv : Inv caps v) (d s : ℕ) (asked :
   by-way : (c : Call) → refusal caps (v .tables) c ≡ 0 → Way caps v inv d c → Ways c
   by-way c a (quiet c′ q) =
       inl (
-        undisturbed d s asked v (moved v c′) left (leaving v c′) (moved-grows v c′) (q .client)
-            (q .replies) r,
+        undisturbed d s asked v (moved v c′) left (leaving v c′) (moved-grows caps v c′ a)
+            (q .client) (q .replies) r,
         q .requests,
         q .ends,
       )

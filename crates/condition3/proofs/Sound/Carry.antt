@@ -15,7 +15,7 @@ use Rattle.protocol.specs.declared.Entry.{Entry}
 use Rattle.protocol.specs.declared.Message.{Message}
 use Rattle.protocol.specs.declared.Message.the-variants.{Prepare, Prepared, Commit, Get, Got}
 use Rattle.protocol.specs.Tables.{Tables, Client, Ended, writerOf}
-use Rattle.protocol.specs.Tables.{laterOf}
+use Rattle.protocol.specs.Tables.{laterOf, entryOf}
 use Rattle.protocol.specs.Message.{partsOf, ownerOf}
 use Rattle.protocol.specs.Range.{Capacities}
 use Rattle.protocol.specs.Steps.{stored}
@@ -129,8 +129,8 @@ module _ (L L′ : Ledger) (vs vs′ : List Version) where
       record {
         mode = λ z. x .mode (sym (s .reads) ∙ z);
         asked = s .asked (v .item) ∙ x .asked;
-        good = carry-good (v .item) (v .stamp) a (x .good);
-        value = x .value ∙ sym (a .value (v .item) (x .good .mine));
+        version = carry-entry (v .item) (entryOf v) a (x .version);
+        value = x .value ∙ sym (a .value (v .item) (x .version .good .mine));
         latest = carry-entry (v .item) e b (x .latest);
       }
 

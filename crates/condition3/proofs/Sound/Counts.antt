@@ -82,7 +82,7 @@ module _ (caps : Capacities) (L : Ledger) (t : Tables) (sound : SoundBy caps L t
   stamps (Got d v l) i =
       let fit = sound .fits (Got d v l) i in
       record {
-        own = good-counted (v .item) (v .stamp) (fit .good);
+        own = good-counted (v .item) (v .stamp) (fit .version .good);
         latest = good-counted (v .item) (l .stamp) (fit .latest .good);
         asked = λ e. not-both e refl;
       }

@@ -18,7 +18,8 @@ use Rattle.protocol.proofs.Ranges.Values.{IsClient}
 use Rattle.protocol.proofs.Ranges.Tables.{Valid}
 use Rattle.condition3.proofs.Sound.{Ledger, FitsGet, Fits, SoundBy}
 use Rattle.condition3.proofs.Sound.Delivery.{Taken}
-use Rattle.condition3.proofs.Sound.Staying.{afterDelivery, staying, same-clients, found-value}
+use Rattle.condition3.proofs.Sound.Staying.{afterDelivery, staying, same-clients}
+use Rattle.condition3.proofs.Sound.Staying.{found-set, found-value}
 use Rattle.condition3.proofs.Common.{isFor}
 
 module _ (caps : Capacities) (L : Ledger) (t : Tables) (sound : SoundBy caps L t) (i : ℕ) where
@@ -29,7 +30,7 @@ module _ (caps : Capacities) (L : Ledger) (t : Tables) (sound : SoundBy caps L t
     fit = sound .fits (Get d k s) (taken .isIn)
 
     abbrev reply : Message
-    reply = Got d (version k (found (t .versions) k s .value) s 0) (t .latest k)
+    reply = let v = found (t .versions) k s in Got d (version k (v .value) s (v .set)) (t .latest k)
 
     joins : Fits L (t .versions) (t .client (ownerOf reply)) reply
     unfolding Fits
@@ -37,7 +38,10 @@ module _ (caps : Capacities) (L : Ledger) (t : Tables) (sound : SoundBy caps L t
         record {
           mode = fit .mode;
           asked = fit .asked;
-          good = fit .good;
+          version = record {
+            good = fit .good;
+            agrees = found-set caps L t sound i k s (fit .good);
+          };
           value = found-value caps L t sound i k s (fit .good);
           latest = sound .latest k
               (sound .valid .inRange .messages (Get d k s) (taken .isIn) .item);

@@ -14,11 +14,11 @@ use Rattle.protocol.specs.declared.Entry.{Entry}
 use Rattle.protocol.specs.declared.Message.{Message}
 use Rattle.protocol.specs.declared.Message.the-variants.{Got}
 use Rattle.protocol.specs.Tables.{Tables, Client, Side, ofRead, ofWrite, awaitedOf, rested}
-use Rattle.protocol.specs.Tables.{laterOf, put}
+use Rattle.protocol.specs.Tables.{laterOf, entryOf, put}
 use Rattle.protocol.specs.Message.{ownerOf}
 use Rattle.protocol.specs.Range.{Capacities}
 use Rattle.protocol.specs.Steps.{delivered, joined, stored, seen, commits, got, answered}
-use Rattle.protocol.specs.Steps.{endedRead, ended, isLast}
+use Rattle.protocol.specs.Steps.{offered, endedRead, ended, isLast}
 use Rattle.protocol.proofs.Each.{Each, each-none, each-append}
 use Rattle.protocol.proofs.Put.{by-cond, put-every}
 use Rattle.protocol.proofs.Ranges.Values.{IsClient}
@@ -58,24 +58,26 @@ module _ (caps : Capacities) (L : Ledger) (t : Tables) (sound : SoundBy caps L t
   arrived l j e = sound .writes d is-client (has-some (c .write .set) j e) .arrived j e
       (struck-last ofRead c k l ofWrite j)
 
-  abbrev offered : ℕ → Entry
-  offered = put (t .view d) k (laterOf (t .view d k) latest)
+  abbrev grown : ℕ → Entry
+  grown = put (t .view d) k (offered (t .view d k) v latest)
 
   abbrev entries : ℕ → Entry
-  entries = cond last (seen offered (c .write .set) (c .write .stamp)) offered
+  entries = cond last (seen grown (c .write .set) (c .write .stamp)) grown
 
-  offered-good : (j : ℕ) → j < t .sizes .items → GoodEntry L (t .versions) j (offered j)
-  offered-good =
+  -- all three that the entry is the latest of are good
+  grown-good : (j : ℕ) → j < t .sizes .items → GoodEntry L (t .versions) j (grown j)
+  grown-good =
       put-every (λ (j : ℕ) (x : Entry). j < t .sizes .items → GoodEntry L (t .versions) j x)
-      (t .view d) k (laterOf (t .view d k) latest)
-      (λ l. later-good L (t .versions) k (t .view d k) latest (sound .view d k is-client l)
-      (fit .latest)) (λ j n l. sound .view d j is-client l)
+      (t .view d) k (offered (t .view d k) v latest)
+      (λ l. later-good L (t .versions) k (laterOf (t .view d k) latest) (entryOf v)
+      (later-good L (t .versions) k (t .view d k) latest (sound .view d k is-client l)
+      (fit .latest)) (fit .version)) (λ j n l. sound .view d j is-client l)
 
   entries-good : (j : ℕ) → j < t .sizes .items → GoodEntry L (t .versions) j (entries j)
   entries-good j l =
       by-test last
-      (λ e. rw e (seen-good caps L t sound d is-client (arrived e) offered j (offered-good j l)))
-      (λ e. rw e (offered-good j l))
+      (λ e. rw e (seen-good caps L t sound d is-client (arrived e) grown j (grown-good j l)))
+      (λ e. rw e (grown-good j l))
 
   view : (e j : ℕ) → IsClient (t .sizes) e → j < t .sizes .items
       → GoodEntry L (t .versions) j (put (t .view) d entries e j)

@@ -17,7 +17,7 @@ use Rattle.protocol.specs.declared.Message.{Message}
 use Rattle.protocol.specs.Tables.{Tables, Client, numberOf, stampOf, withMessages}
 use Rattle.protocol.specs.Message.{ownerOf}
 use Rattle.protocol.specs.Range.{Capacities}
-use Rattle.protocol.specs.Steps.{delivered, joined, stored, found}
+use Rattle.protocol.specs.Steps.{version, delivered, joined, stored, found}
 use Rattle.protocol.proofs.Each.{Each}
 use Rattle.protocol.proofs.Stored.{found-held, not-found}
 use Rattle.protocol.proofs.Ranges.Values.{IsClient}
@@ -68,13 +68,25 @@ module _ (caps : Capacities) (L : Ledger) (t : Tables) (sound : SoundBy caps L t
       absurd (omega (arith, r .number)))
       (λ e. e)
 
-  -- what is found under a good stamp is the ledger's value
+  -- what is found under a good stamp is the ledger's set and value
+  initial-found : (k s : ℕ) → s ≡ 0 → found (t .versions) k s ≡ version k 0 s 0
+  initial-found k s zero = not-found (t .versions) k s (rw zero (none-initial k))
+
+  pub found-set : (k s : ℕ) → Good L (t .versions) k s → found (t .versions) k s .set ≡ L .set s
+  found-set k s x =
+      ⊎-elim
+      (λ e. let zero : s ≡ 0 = eqb-true s 0 e in
+      ap (λ (v : Version). v .set) (initial-found k s zero) ∙ sym (ap (L .set) zero ∙ sound .noSet))
+      (λ e. let held = found-held (t .versions) k s (x .whole k e) in
+      sound .versions (found (t .versions) k s) (held .isIn) .agrees ∙ ap (L .set) (held .stamp))
+      (or-cases (eqb s 0) (has (L .set s) k) (x .mine))
+
   pub found-value : (k s : ℕ) → Good L (t .versions) k s
       → found (t .versions) k s .value ≡ L .value s k
   found-value k s x =
       ⊎-elim
       (λ e. let zero : s ≡ 0 = eqb-true s 0 e in
-      not-found (t .versions) k s (rw zero (none-initial k))
+      ap (λ (v : Version). v .value) (initial-found k s zero)
       ∙ sym (ap (λ (r : ℕ). L .value r k) zero ∙ sound .noValue k))
       (λ e. let held = found-held (t .versions) k s (x .whole k e) in
       let kept = sound .versions (found (t .versions) k s) (held .isIn) in

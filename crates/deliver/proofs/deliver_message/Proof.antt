@@ -22,7 +22,8 @@ returns c =
     let taken = worked .before .before .before .before in
     let a = taken .before .before .before .args in
     worked .work .ensures
-    ∙ ap (λ (w : List ℕ). messageDelivered w (a .counts) (a .value) (a .m)) (taken .take-out .ensures)
+    ∙ ap (λ (w : List ℕ). messageDelivered w (a .counts) (a .found) (a .m))
+    (taken .take-out .ensures)
 
 pub deliver-message-spec : {M : Type 1} → statement M
 deliver-message-spec =

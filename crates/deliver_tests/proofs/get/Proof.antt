@@ -4,7 +4,6 @@ use mathlib.Core.Bool.{true, false, or-false}
 use Prim.Native.Nat.{ℕ}
 use Rattle.basics.proofs.Cases.{or-right}
 use Rattle.basics.specs.Lists.{table}
-use Rattle.protocol.specs.declared.Version.{Version}
 use Rattle.protocol.specs.Steps.{version, alike, stored, found}
 use Rattle.layout.specs.Decode.{versionIn}
 use Rattle.versions.specs.declared.Found.the-variants.{At, Nothing}
@@ -50,7 +49,7 @@ returns c =
     let v : found (table (a .n) f) (a .item) (a .stamp) ≡ f i =
     found-first (a .n) f (a .item) (a .stamp) ∙ ap (foundAt f (a .item) (a .stamp)) e
     in
-    rw (or-right _ _ s) (ap (λ (u : Version). told 0 0 (u .value)) (c .version .ensures ∙ sym v))
+    rw (or-right _ _ s) (ap (told 0 0) (c .version .ensures ∙ sym v))
 
 returns-2 : tie.Need-returns-2
 returns-2 c =
@@ -63,7 +62,8 @@ returns-2 c =
     let v : found (table (a .n) f) (a .item) (a .stamp) ≡ version (a .item) 0 (a .stamp) 0 =
     found-first (a .n) f (a .item) (a .stamp) ∙ ap (foundAt f (a .item) (a .stamp)) e
     in
-    rw (s, or-false, v) (ap (λ (x : ℕ). told x 0 0) (c .pick .ensures))
+    rw (s, or-false, v)
+    (ap (λ (x : ℕ). told x 0 (version (a .item) 0 (a .stamp) 0)) (c .pick .ensures))
 
 pub get-spec : {M : Type 1} → statement M
 get-spec =

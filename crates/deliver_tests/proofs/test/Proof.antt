@@ -5,7 +5,7 @@ use Prim.Native.Nat.{ℕ}
 use denote.Ref.{now}
 use lib.Dec.{eqb}
 use Rattle.protocol.specs.Tables.{writerOf}
-use Rattle.deliver_tests.specs.Tests.{Bounded, told, replyTested, testedIn}
+use Rattle.deliver_tests.specs.Tests.{Bounded, told, none, replyTested, testedIn}
 use borrow.Author.Needs.{needs}
 use Rattle.deliver_tests.proofs.test.Statement.{statement}
 use Rattle.deliver_tests.proofs.test.Tie as tie
@@ -53,7 +53,7 @@ reply-requires-2 c κs = let x = subst Bounded (c .before .before .before .m4 .g
 returns : tie.Need-returns
 unfolding testedIn
 returns c =
-    rw (c .before .before .before .m .given .1) (ap (λ (x : ℕ). told x 0 0)
+    rw (c .before .before .before .m .given .1) (ap (λ (x : ℕ). told x 0 none)
     (c .pick .ensures ∙ ap (λ (t : Bool). cond t 11 0) (c .before .is-stored .ensures)))
 
 returns-2 : tie.Need-returns-2

@@ -129,7 +129,7 @@ strayed =
       client =
           put (put (λ d. resting 0 nothing) 1 (writer 3 2 (stampOf 1 1) 7)) 2
           (reader 1 1 (stampOf 1 2) 0);
-      versions = version 0 7 1 1 3 ∷ version 0 9 1 1 3 ∷ [];
+      versions = version 0 7 1 1 3 ∷ version 0 9 1 1 1 ∷ [];
       messages =
           Prepare (version 0 7 1 1 3)
           ∷ Prepared 0 (stampOf 1 1)
@@ -143,7 +143,7 @@ strayed =
           ∷ Get 2 0 (stampOf 1 1)
           ∷ Commit 0 (stampOf 2 2)
           ∷ Commit 0 (stampOf 1 1)
-          ∷ Got 2 (version 0 8 1 2 0) (entry 1 1 3)
+          ∷ Got 2 (version 0 8 1 2 1) (entry 1 1 3)
           ∷ Prepared 1 (stampOf 1 1)
           ∷ [];
     }

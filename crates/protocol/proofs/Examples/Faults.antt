@@ -59,6 +59,7 @@ faults =
     ∷ withLast (writeOf 2 (stampOf 1 1) (λ k. 4294967296))
     -- sets
     ∷ withLatestOf (entry 1 1 6) ∷ withViewOf (entry 1 1 6)
+    ∷ withMessage (Got 1 (version 1 0 0 0 6) initial)
     ∷ withMessage (Got 1 (version 1 0 0 0 0) (entry 1 1 6))
     ∷ withStored (version 1 0 1 1 6) ∷ withMessage (Prepare (version 1 0 1 1 6))
     ∷ withBusy (reader 6 2 0 0) ∷ withBusy (writer 6 2 (stampOf 1 2) 0)

@@ -91,7 +91,8 @@ idleGet =
     record {
       start = on (withMessages (fresh (sizes 2 2 2)) (Get 2 1 0 ∷ []));
       lines = deliver 0 ⇒ "0004000100" ∷ [];
-      after = λ t. messagesAre (t .messages) ((5 ∷ 2 ∷ 1 ∷ 0 ∷ 0 ∷ 0 ∷ 0 ∷ 0 ∷ 0 ∷ []) ∷ []);
+      after = λ t. messagesAre (t .messages)
+          ((5 ∷ 2 ∷ 1 ∷ 0 ∷ 0 ∷ 0 ∷ 0 ∷ 0 ∷ 0 ∷ 0 ∷ []) ∷ []);
     }
 
 -- Of two versions alike a commit takes the first one's set.
@@ -144,12 +145,12 @@ oddButInRange =
       after = anything;
     }
 
--- a got of the initial stamp with a value
+-- a got of the initial stamp with a value and with a set, which lacks its line
 abbrev oddReply : Row
 oddReply =
     record {
       start = on (withMessages (withSecond (reader 1 1 0 0))
-          (Got 2 (version 0 5 0 0 0) initial ∷ []));
+          (Got 2 (version 0 5 0 0 2) initial ∷ []));
       lines = deliver 0 ⇒ "0005000001"
           ∷ show 2 (room 19) ⇒ "0021020000000000000001000000000000000005" ∷ [];
       after = anything;

@@ -125,7 +125,7 @@ fieldsOf (Prepared k stamp) = 2 ∷ k ∷ numberOf stamp ∷ writerOf stamp ∷ 
 fieldsOf (Commit p stamp) = 3 ∷ p ∷ numberOf stamp ∷ writerOf stamp ∷ []
 fieldsOf (Get d k stamp) = 4 ∷ d ∷ k ∷ numberOf stamp ∷ writerOf stamp ∷ []
 fieldsOf (Got d v latest) =
-    5 ∷ d ∷ v .item ∷ v .value ∷ numberOf (v .stamp) ∷ writerOf (v .stamp)
+    5 ∷ d ∷ v .item ∷ v .value ∷ numberOf (v .stamp) ∷ writerOf (v .stamp) ∷ v .set
     ∷ numberOf (latest .stamp) ∷ writerOf (latest .stamp) ∷ latest .set ∷ []
 
 abbrev pub same : List ℕ → List ℕ → Bool

@@ -11,10 +11,10 @@ use Rattle.basics.proofs.Cases.{by-test}
 use Rattle.basics.specs.Lists.{without}
 use Rattle.protocol.specs.declared.Message.{Message}
 use Rattle.protocol.specs.declared.Message.the-variants.{Prepare, Prepared, Commit, Get, Got}
-use Rattle.protocol.specs.Tables.{Sizes, Tables, ofRead, ofWrite, put, laterOf, writerOf}
+use Rattle.protocol.specs.Tables.{Sizes, Tables, ofRead, ofWrite, put, writerOf}
 use Rattle.protocol.specs.Range.{Capacities}
 use Rattle.protocol.specs.Steps.{found, isLast, prepared, got, committed, commits, touches}
-use Rattle.protocol.specs.Steps.{version, delivered, joined, messageAt}
+use Rattle.protocol.specs.Steps.{offered, version, delivered, joined, messageAt}
 use Rattle.protocol.specs.Calls.{deliver, effect}
 use Rattle.protocol.proofs.Each.{Each, each-none, each-one, each-append, each-without}
 use Rattle.protocol.proofs.Each.{each-upto}
@@ -29,7 +29,7 @@ use Rattle.protocol.proofs.Delivered.{delivered-work}
 use Rattle.protocol.proofs.Put.{by-cond, put-all}
 use Rattle.protocol.proofs.Kept.Changes.{range-both, range-latest, range-versions}
 use Rattle.protocol.proofs.Kept.Changes.{range-messages}
-use Rattle.protocol.proofs.Kept.Values.{range-later, range-seen, range-found}
+use Rattle.protocol.proofs.Kept.Values.{range-offered, range-seen, range-found}
 use Rattle.protocol.proofs.Kept.Values.{range-committed, range-prepared, range-got}
 use Rattle.protocol.proofs.Kept.Values.{awaits-some}
 
@@ -68,10 +68,10 @@ range-delivered t (Got d v latest) r h x =
     let one : IsClient z d = h .client (omega arith) in
     let k = v .item in
     let view = r .view d one in
-    let entry = range-later z (t .view d k) latest (view k (h .item)) (h .latest) in
+    let entry = range-offered z (t .view d k) v latest (view k (h .item)) h in
     let c = t .client d in
-    let after : EntriesInRange z (put (t .view d) k (laterOf (t .view d k) latest)) =
-    λ j l. put-all (EntryInRange z) (t .view d) k (laterOf (t .view d k) latest) j entry
+    let after : EntriesInRange z (put (t .view d) k (offered (t .view d k) v latest)) =
+    λ j l. put-all (EntryInRange z) (t .view d) k (offered (t .view d k) v latest) j entry
     (view j l) in
     range-both t r d (got c k (v .value)) _
     (range-got z c k (v .value) (r .client d one) (tells-got t d v latest .0 x .awaited) (h .value))
@@ -101,15 +101,17 @@ range-joined t (Prepared k stamp) r h x =
     (λ l. each-none (MessageInRange (t .sizes)))
 range-joined t (Commit p stamp) r h x = each-none (MessageInRange (t .sizes))
 range-joined t (Get d k stamp) r h x =
+    let v = found (t .versions) k stamp in
+    let found-in = range-found (t .sizes) (t .versions) k stamp (r .versions) in
     each-one (MessageInRange (t .sizes))
-    (Got d (version k (found (t .versions) k stamp .value) stamp 0) (t .latest k))
+    (Got d (version k (v .value) stamp (v .set)) (t .latest k))
     (record {
       client = λ l. h .client (omega arith);
       partition = λ l. absurd (omega arith);
       item = h .item;
-      value = range-found (t .sizes) (t .versions) k stamp (r .versions) .value;
+      value = found-in .value;
       stamp = h .stamp;
-      set = h .set;
+      set = found-in .set;
       latest = r .latest k (h .item);
       written = λ l. absurd (omega arith);
       own = λ e. absurd (omega arith);

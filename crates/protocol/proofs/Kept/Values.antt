@@ -15,15 +15,16 @@ use Rattle.itemset.specs.Set.{has, remove}
 use Rattle.itemset.proofs.Laws.{has-empty, has-remove, remove-le, set-empty}
 use Rattle.protocol.specs.declared.Version.{Version}
 use Rattle.protocol.specs.declared.Entry.{Entry}
+use Rattle.protocol.specs.declared.Message.the-variants.{Got}
 use Rattle.protocol.specs.Tables.{Sizes, Tables, Client, ReadPart, Ended, nothing, isKind}
-use Rattle.protocol.specs.Tables.{ofRead, ofWrite, noRead, noWrite, laterOf, partitionOf}
-use Rattle.protocol.specs.Tables.{resting, rested, put, WritePart, withCount, withRead, withWrite}
-use Rattle.protocol.specs.Tables.{withLast}
+use Rattle.protocol.specs.Tables.{ofRead, ofWrite, noRead, noWrite, laterOf, entryOf}
+use Rattle.protocol.specs.Tables.{partitionOf, resting, rested, put, WritePart, withCount}
+use Rattle.protocol.specs.Tables.{withRead, withWrite, withLast}
 use Rattle.protocol.specs.Steps.{alike, stored, found, answered, isLast, ended, prepared, got}
-use Rattle.protocol.specs.Steps.{struck, seen, committed}
+use Rattle.protocol.specs.Steps.{struck, offered, seen, committed}
 use Rattle.protocol.proofs.Each.{Each}
 use Rattle.protocol.proofs.Ranges.Values.{Stamped, StampInRange, EntryInRange}
-use Rattle.protocol.proofs.Ranges.Values.{EntriesInRange, VersionInRange}
+use Rattle.protocol.proofs.Ranges.Values.{EntriesInRange, VersionInRange, MessageInRange}
 use Rattle.protocol.proofs.Ranges.Clients.{EndedInRange, ReadPartInRange, WritePartInRange}
 use Rattle.protocol.proofs.Ranges.Clients.{ClientInRange}
 use Rattle.protocol.proofs.Ranges.Tables.{InRange}
@@ -44,6 +45,13 @@ range-max z a b p q =
 pub range-later : (z : Sizes) (e f : Entry) → EntryInRange z e → EntryInRange z f
     → EntryInRange z (laterOf e f)
 range-later z e f p q = by-cond (EntryInRange z) (ltb (e .stamp) (f .stamp)) _ _ (λ l. q) (λ l. p)
+
+-- the latest of three, of which two come in a got
+pub range-offered : {d : ℕ} (z : Sizes) (e : Entry) (v : Version) (latest : Entry)
+    → EntryInRange z e → MessageInRange z (Got d v latest) → EntryInRange z (offered e v latest)
+range-offered z e v latest p h =
+    range-later z (laterOf e latest) (entryOf v) (range-later z e latest p (h .latest))
+    (record { stamp = h .stamp; set = h .set })
 
 pub range-seen : (z : Sizes) (f : ℕ → Entry) (s stamp : ℕ) → EntriesInRange z f → s < 2 ^ z .items
     → StampInRange z stamp

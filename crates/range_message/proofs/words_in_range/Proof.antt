@@ -49,18 +49,18 @@ returns-5 c =
     get-tests (a .clients) (a .partitions) (a .items) (omega arith) (omega arith) (a .kind) (a .who) (a .item) (a .value)
     (a .stamp) (a .set) (a .latest) (c .stamp-in-range3 .ensures) (omega arith)
 
-stamp-in-range-requires-4 : tie.Need-stamp-in-range-requires-4
-stamp-in-range-requires-4 c κs = search needs
-
 entry-in-range-requires : tie.Need-entry-in-range-requires
 entry-in-range-requires c κs = search needs
+
+entry-in-range-requires-2 : tie.Need-entry-in-range-requires-2
+entry-in-range-requires-2 c κs = search needs
 
 returns-6 : tie.Need-returns-6
 returns-6 c =
     let a = c .before .before .before .before .args in
     got-tests (a .clients) (a .partitions) (a .items) (omega arith) (omega arith) (a .kind) (a .who) (a .item) (a .value)
-    (a .stamp) (a .set) (a .latest) (c .before .stamp-in-range4 .ensures)
-    (c .entry-in-range .ensures) (omega arith) (omega arith) (omega arith) (omega arith)
+    (a .stamp) (a .set) (a .latest) (c .before .entry-in-range .ensures)
+    (c .entry-in-range2 .ensures) (omega arith) (omega arith) (omega arith) (omega arith)
 
 pub words-in-range-spec : {M : Type 1} → statement M
 words-in-range-spec =
@@ -75,6 +75,6 @@ words-in-range-spec =
     returns-4
     stamp-in-range-requires-3
     returns-5
-    stamp-in-range-requires-4
     entry-in-range-requires
+    entry-in-range-requires-2
     returns-6)

@@ -3,6 +3,7 @@
 
 mod answers;
 mod corrections;
+mod falls;
 mod showings;
 mod unshown;
 
@@ -56,6 +57,7 @@ fn a_write_and_its_read_keep_every_clause() {
         reads_shown: 1,
         written_entries_shown: 2,
         corrections: 0,
+        shown_again: 0,
     };
     assert_eq!(check(&own_read()), Ok(expected));
 }

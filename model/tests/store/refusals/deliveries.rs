@@ -35,7 +35,7 @@ fn prepared(item: u64, stamp: Stamp) -> Message {
 }
 
 fn got(client: u64, item: u64, stamp: Stamp) -> Message {
-    Message::Got { client, item, value: 5, stamp, latest: Entry::INITIAL }
+    Message::Got { client, version: version(item, 5, stamp, &[item]), latest: Entry::INITIAL }
 }
 
 #[test]

@@ -1,5 +1,6 @@
-//! Each step's tables, written down from document 01.
+//! Each step's tables, written down from documents 01 and 02.
 
+mod offers;
 mod reads;
 mod showings;
 mod starts;
@@ -9,14 +10,14 @@ use crate::support::{deliver, made, set_of};
 use koolvent_model::answer::Answer;
 use koolvent_model::stamp::{Entry, Stamp};
 use koolvent_model::store::message::Message;
-use koolvent_model::store::tables::{Client, Tables, WRITING};
+use koolvent_model::store::tables::{Client, Tables, Version, WRITING};
 
 fn get(client: u64, item: u64, stamp: Stamp) -> Message {
     Message::Get { client, item, stamp }
 }
 
-fn got(client: u64, item: u64, value: u64, stamp: Stamp, latest: Entry) -> Message {
-    Message::Got { client, item, value, stamp, latest }
+fn got(client: u64, version: Version, latest: Entry) -> Message {
+    Message::Got { client, version, latest }
 }
 
 /// Delivers the only message of the tables and gives the tables after it.

@@ -2,10 +2,10 @@
 use mathlib.Core.Path.{ap, _∙_}
 use mathlib.Core.List.{List}
 use Prim.Native.Nat.{ℕ}
-use Rattle.slots.proofs.Chosen.{later-put}
 use Rattle.layout.specs.Layout.{values, store, itemAt}
 use Rattle.layout.specs.Store.{storeView}
 use borrow.Author.Needs.{needs}
+use Rattle.deliver.proofs.Rows.{offered-put}
 use denote.Ref.{now}
 use Rattle.deliver.proofs.replies.answer.Statement.{statement}
 use Rattle.deliver.proofs.replies.answer.Tie as tie
@@ -13,8 +13,8 @@ use Rattle.deliver.proofs.replies.answer.Tie as tie
 view-requires : tie.Need-view-requires
 view-requires c κs = search needs
 
-later-requires : tie.Need-later-requires
-later-requires c κs = search needs
+offered-requires : tie.Need-offered-requires
+offered-requires c κs = search needs
 
 put-view-requires : tie.Need-put-view-requires
 put-view-requires c κs = search needs
@@ -30,9 +30,9 @@ returns c =
     let a = c .before .before .before .before .before .before .before .before .before .before .before .before .args in
     c .before .before .put-value .ensures
     ∙ ap (λ (x : List ℕ). store x values (itemAt (a .d) (a .v .item)) (a .v .value))
-    (later-put (storeView (now (a .b)) (a .d) (a .v .item)) _ _ _ _ _
+    (offered-put (storeView (now (a .b)) (a .d) (a .v .item)) _ _ _ (a .v) _ _
     (c .before .before .before .before .before .before .put-view .ensures)
-    (c .before .before .before .before .before .before .before .before .later .ensures)
+    (c .before .before .before .before .before .before .before .before .offered .ensures)
     (c .before .before .before .before .before .before .before .before .before .view .ensures))
 
 pub answer-spec : {M : Type 1} → statement M
@@ -40,7 +40,7 @@ answer-spec =
     tie.close
     (tie.spec
     view-requires
-    later-requires
+    offered-requires
     put-view-requires
     put-value-requires
     same-length

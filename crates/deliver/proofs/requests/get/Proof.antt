@@ -26,7 +26,8 @@ returns c =
     let read = sent .before .before in
     let a = read .before .before .before .args in
     sent .send .ensures
-    ∙ ap (λ (e : Entry). send (now (a .b)) (Got (a .d) (version (a .item) (a .value) (a .stamp) 0) e))
+    ∙ ap (λ (e : Entry). send (now (a .b))
+    (Got (a .d) (version (a .item) (a .found .value) (a .stamp) (a .found .set)) e))
     (read .latest .ensures)
 
 pub get-spec : {M : Type 1} → statement M
