@@ -238,7 +238,8 @@ enum koolvent_finding {
 };
 
 /* Judges a log, whoever wrote it: the first read at fault, and there the lowest of the findings above. Refused by 15
- * and 16, the latter tested first. It takes some 21,000 bytes of stack; the calls on a block take less than 1,000. */
+ * and 16, the latter tested first. It takes some 21,000 bytes of stack; the calls on a block take less than 1,100, of
+ * which 512 are a stamp for each item when a read starts. */
 uint64_t koolvent_judge(const uint8_t *log, size_t length);
 
 /* After an accepted judging: an enum koolvent_finding. */

@@ -7,14 +7,16 @@ use Prim.Native.Nat.{ℕ, zero, suc, _+_, _-_, _*_, _/_, _%_, _^_, _≤_, _<_, m
 use native.Mathlib.Nat.{zero-add, pow-suc, div-eq-of-lt, le-div-iff-mul-le, div-div-eq-div-mul}
 use native.Mathlib.Nat.{one-mul, suc-add, sub-add-cancel}
 use native.Mathlib.Omega.{arith}
-use lib.Bits.{bitAnd, bitOr, and-step, or-step, and-mask}
+use lib.Bits.{bitAnd, bitOr, and-step, and-self, or-step, and-mask}
 use lib.Count.{ones, trailingZeros, under}
 use lib.Dec.{eqb, ltb, lit<}
+use lib.Arith.{lt-one}
 use lib.Pow.{pow-pos, shl-exact}
 use borrow.Author.Tests.{eq-eqb, ne-eqb, ltb-true, ltb-false}
 use Rattle.itemset.specs.Set.{has, count, rank, insert, remove, allBelow, leastFrom}
 use Rattle.itemset.proofs.Laws.{low-set, low-clear, has-power, has-empty, has-insert}
-use Rattle.itemset.proofs.Laws.{insert-hasnt, set-ext}
+use Rattle.itemset.proofs.Laws.{insert-hasnt, set-ext, remove-low, remove-half}
+use Rattle.itemset.proofs.Laws.{remove-zero-low, remove-zero-half}
 use Rattle.basics.proofs.Cases.{by-test}
 use Rattle.itemset.proofs.Counts.{low-digit, rank-mod}
 
@@ -134,3 +136,59 @@ least-trailing n s k l =
     let low : trailingZeros (n - k) (s / 2 ^ k) ≡ min (n - k) (trailingZeros n (s / 2 ^ k)) =
     rw (sub-add-cancel l) at (trailing-min (n - k) k (s / 2 ^ k)) in
     omega (arith, least-shift (n - k) s k)
+
+-- ---- the least member of a set that has one, in a word of n bits
+
+pub least-below : (n s : ℕ) → s < 2 ^ n → 1 ≤ s → trailingZeros n s < n
+unfolding trailingZeros
+least-below zero s h l = absurd (omega (arith, lt-one h))
+least-below (suc n) s h l =
+    by-test (eqb (s % 2) 1)
+    (λ e. rw (low-set s e) (omega arith))
+    (λ e. rw (low-clear s e)
+    (omega (
+      arith,
+      least-below n (s / 2) (omega (arith, pow-suc 2 n))
+          (omega (arith, low-clear s e)),
+    )))
+
+pub least-member : (n s : ℕ) → s < 2 ^ n → 1 ≤ s → has s (trailingZeros n s) ≡ true
+unfolding trailingZeros has
+least-member zero s h l = absurd (omega (arith, lt-one h))
+least-member (suc n) s h l =
+    by-test (eqb (s % 2) 1)
+    (λ e. rw (low-set s e) e)
+    (λ e. rw (low-clear s e)
+    (least-member n (s / 2) (omega (arith, pow-suc 2 n)) (omega (arith, low-clear s e))))
+
+-- `& (s - 1)` takes it out
+pub without-least : (n s : ℕ) → s < 2 ^ n → 1 ≤ s
+    → bitAnd s (s - 1) ≡ remove s (trailingZeros n s)
+unfolding trailingZeros
+without-least zero s h l = absurd (omega (arith, lt-one h))
+without-least (suc n) s h l =
+    by-test (eqb (s % 2) 1)
+    (λ e.
+    let half : (s - 1) / 2 ≡ s / 2 = omega (arith, low-set s e) in
+    rw (low-set s e)
+    (omega (
+      arith,
+      and-step s (s - 1),
+      ap (bitAnd (s / 2)) half,
+      and-self (s / 2),
+      low-set s e,
+      remove-zero-low s,
+      remove-zero-half s,
+    )))
+    (λ e.
+    let half : (s - 1) / 2 ≡ s / 2 - 1 = omega (arith, low-clear s e) in
+    rw (low-clear s e)
+    (omega (
+      arith,
+      and-step s (s - 1),
+      ap (bitAnd (s / 2)) half,
+      without-least n (s / 2) (omega (arith, pow-suc 2 n)) (omega (arith, low-clear s e)),
+      low-clear s e,
+      remove-low s (trailingZeros n (s / 2)),
+      remove-half s (trailingZeros n (s / 2)),
+    )))

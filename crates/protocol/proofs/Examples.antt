@@ -110,6 +110,36 @@ asksGreaterClient =
           ∷ []);
     }
 
+-- Three more that tell the pass over the entries from near misses (document 02, P3). An entry that
+-- comes after a line names it, and not its own line, for which it counts all the same.
+abbrev asksLaterEntry : Row
+asksLaterEntry =
+    record {
+      start = on (seeing (entry 1 2 1) (entry 2 1 1));
+      lines = startRead 3 3 ⇒ "000002" ∷ [];
+      after = λ t. messagesAre (t .messages) ((4 ∷ 3 ∷ 0 ∷ 2 ∷ 1 ∷ []) ∷ (4 ∷ 3 ∷ 1 ∷ 2 ∷ 1 ∷ [])
+          ∷ []);
+    }
+
+-- and one that comes before it
+abbrev asksEarlierEntry : Row
+asksEarlierEntry =
+    record {
+      start = on (seeing (entry 2 1 2) (entry 1 2 2));
+      lines = startRead 3 3 ⇒ "000002" ∷ [];
+      after = λ t. messagesAre (t .messages) ((4 ∷ 3 ∷ 0 ∷ 2 ∷ 1 ∷ []) ∷ (4 ∷ 3 ∷ 1 ∷ 2 ∷ 1 ∷ [])
+          ∷ []);
+    }
+
+-- and one that comes after the last line that is read
+abbrev asksPastTheSet : Row
+asksPastTheSet =
+    record {
+      start = on (seeing (entry 1 2 1) (entry 2 1 3));
+      lines = startRead 3 1 ⇒ "000001" ∷ [];
+      after = λ t. messagesAre (t .messages) ((4 ∷ 3 ∷ 0 ∷ 2 ∷ 1 ∷ []) ∷ []);
+    }
+
 -- ---- Document 01's whole session
 
 abbrev pub wholeSession : Row
@@ -336,6 +366,9 @@ rows =
     ∷ versionsTwoTooMany
     ∷ asksSibling
     ∷ asksGreaterClient
+    ∷ asksLaterEntry
+    ∷ asksEarlierEntry
+    ∷ asksPastTheSet
     ∷ wholeSession
     ∷ ownWrite
     ∷ halfStored

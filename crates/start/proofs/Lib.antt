@@ -1,6 +1,8 @@
--- The laws of the starts: the choice of a stamp, the passes over the items, and that each start is
+-- The laws of the starts: the choice of stamps, the passes over the items, and that each start is
 -- the protocol's change of the tables.
+pub mod Raised
 pub mod Choice
+pub mod Kept
 pub mod Numbers
 pub mod Started
 pub mod Ready

@@ -2,6 +2,7 @@
 use mathlib.Core.Bool.{cond}
 use mathlib.Core.List.{List}
 use Prim.Native.Nat.{ℕ, suc, _+_, _*_, _%_, _^_, max}
+use lib.ListN.{getD}
 use Rattle.basics.specs.Fold.{upTo}
 use Rattle.hex.specs.Number.{numberAt}
 use Rattle.itemset.specs.Set.{has, rank}
@@ -19,21 +20,34 @@ abbrev pub busy : List ℕ → ℕ → ℕ → ℕ → List ℕ
 busy b d mode s = store (store (store b scalars (modeAt d) mode) scalars (setAt d) s) scalars
     (awaitedAt d) s
 
--- of n messages and set s, one more message for item k: those of the set's items below k have
--- joined
+-- one more message for item k of set s, behind those that are there
+abbrev pub joinItem : ℕ → ℕ → Message → List ℕ → ℕ → List ℕ
+joinItem there s m b k = cond (has s k) (appendMessage b there m) b
+
+-- behind n messages and those of the set's items below k
 abbrev pub sendItem : ℕ → ℕ → Message → List ℕ → ℕ → List ℕ
-sendItem n s m b k = cond (has s k) (appendMessage b (n + rank s k) m) b
+sendItem n s m b k = joinItem (n + rank s k) s m b k
 
 -- ---- a read
 
 -- item k: the stamp asked for, no value yet
+abbrev pub askFor : ℕ → ℕ → ℕ → List ℕ → ℕ → List ℕ
+askFor d s stamp b k =
+    cond (has s k) (store (store b asked (itemAt d k) stamp) values (itemAt d k) 0) b
+
+-- of stamps that are chosen already
+abbrev pub askFrom : ℕ → ℕ → List ℕ → List ℕ → ℕ → List ℕ
+askFrom d s stamps b k = askFor d s (getD stamps k 0) b k
+
 abbrev pub askItem : ℕ → ℕ → ℕ → List ℕ → ℕ → List ℕ
-askItem d s items b k =
-    cond (has s k) (store (store b asked (itemAt d k) (choice (viewIn b d) k items)) values
-    (itemAt d k) 0) b
+askItem d s items b k = askFor d s (choice (viewIn b d) k items) b k
+
+-- the get of item k
+abbrev pub getOf : ℕ → ℕ → List ℕ → Message
+getOf d k b = Get d k (at b asked (itemAt d k))
 
 abbrev pub sendGet : ℕ → ℕ → ℕ → List ℕ → ℕ → List ℕ
-sendGet n d s b k = sendItem n s (Get d k (at b asked (itemAt d k))) b k
+sendGet n d s b k = sendItem n s (getOf d k b) b k
 
 unfoldable pub readStarted : List ℕ → ℕ → ℕ → List ℕ
 readStarted b d s =

@@ -42,4 +42,8 @@ pub enum Fault {
     VersionToSiblings,
     /// A got carries no write set.
     GotWithoutSet,
+    /// A read asks for an item's own entry only if that entry's set has the item.
+    OwnEntryByItsSet,
+    /// The pass over the view's entries ends with the last item of the read set.
+    PassEndsWithTheSet,
 }

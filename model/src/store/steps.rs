@@ -13,7 +13,7 @@ impl Store {
     pub(super) fn step_start_read(&mut self, client: u64, set: u64) {
         let mut stamps = [Stamp::INITIAL; ITEMS];
         for item in items(set) {
-            let stamp = self.stamp_to_ask_for(client, item);
+            let stamp = self.stamp_to_ask_for(client, set, item);
             stamps[item as usize] = stamp;
             self.tables.messages.push(Message::Get { client, item, stamp });
         }
@@ -24,9 +24,16 @@ impl Store {
 
     /// The latest stamp among the view's own entry for the item and all view entries whose set
     /// contains it.
-    fn stamp_to_ask_for(&self, client: u64, item: u64) -> Stamp {
-        let view = &self.tables.view(client)[..self.tables.sizes.items as usize];
-        let mut chosen = view[item as usize].stamp;
+    fn stamp_to_ask_for(&self, client: u64, set: u64, item: u64) -> Stamp {
+        let entries = match self.fault {
+            Some(Fault::PassEndsWithTheSet) => u64::BITS - set.leading_zeros(),
+            _ => self.tables.sizes.items as u32,
+        };
+        let view = &self.tables.view(client)[..entries as usize];
+        let mut chosen = match self.fault {
+            Some(Fault::OwnEntryByItsSet) => Stamp::INITIAL,
+            _ => view[item as usize].stamp,
+        };
         for entry in view.iter().filter(|entry| has(entry.set, item)) {
             if self.is_later(entry.stamp, chosen) {
                 chosen = entry.stamp;

@@ -101,6 +101,20 @@ fn runs_and_edges_catch_every_other_offer_of_a_version() {
     }
 }
 
+/// Those that choose a read's stamps otherwise than document 02, P3. In runs every entry's set has
+/// its item; other blocks have entries whose sets lack it.
+#[test]
+fn runs_damages_and_edges_catch_every_other_choice_of_stamps() {
+    let wrong = Modelled { fault: Some(Fault::PassEndsWithTheSet) };
+    assert!(runs(&wrong).is_err());
+    assert!(damages(&wrong).is_err());
+    assert!(edge_calls(&wrong).is_err());
+    let wrong = Modelled { fault: Some(Fault::OwnEntryByItsSet) };
+    assert!(runs(&wrong).is_ok());
+    assert!(damages(&wrong).is_err());
+    assert!(edge_calls(&wrong).is_err());
+}
+
 /// In runs all copies of a stamp's set agree, so that no tie shows; other blocks have ties whose
 /// sets differ.
 #[test]

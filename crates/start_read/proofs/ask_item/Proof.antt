@@ -1,5 +1,5 @@
 -- `start_read::ask_item` meets its contract: two stores or none, by the test on the set.
-use mathlib.Core.Path.{sym, ap, _∙_}
+use mathlib.Core.Path.{sym, _∙_}
 use borrow.Author.Needs.{needs}
 use Rattle.start_read.proofs.ask_item.Statement.{statement}
 use Rattle.start_read.proofs.ask_item.Tie as tie
@@ -8,11 +8,9 @@ returns : tie.Need-returns
 returns c =
     let valued = c .before .before in
     let asked = valued .before .before .before .before in
-    let chosen = asked .before .before in
-    let found = chosen .before .before in
+    let found = asked .before .before .before in
     rw (
       sym (found .before .has .ensures) ∙ found .if1 .taken,
-      ← chosen .choose .ensures,
       ← asked .put-asked .ensures,
     )
     (valued .put-value .ensures)
@@ -22,7 +20,8 @@ ask-item-spec =
     tie.close
     (tie.spec
     (λ c κs. search needs)
-    (λ c κs. search needs)
+    (λ c. search needs)
+    (λ c. search needs)
     (λ c κs. search needs)
     (λ c κs. search needs)
     (λ c. search needs)

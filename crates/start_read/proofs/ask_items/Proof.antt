@@ -1,16 +1,16 @@
 -- `start_read::ask_items` meets its contract: its loop runs the fold.
 use Prim.Native.Nat.{_-_}
 use borrow.Author.Needs.{needs}
-use Rattle.start.specs.Start.{askItem}
+use Rattle.start.specs.Start.{askFrom}
 use Rattle.basics.proofs.Turns.{Turns, turns-first, turns-next, turns-last}
 use Rattle.start_read.proofs.ask_items.Statement.{statement}
 use Rattle.start_read.proofs.ask_items.Tie as tie
 
 abbrev Inv-loop : tie.InvT-loop
-Inv-loop b₀ d s items k₀ b k = Turns (askItem d s items) items b₀ b k
+Inv-loop b₀ d s stamps items k₀ b k = Turns (askFrom d s stamps) items b₀ b k
 
 abbrev μ-loop : tie.MeasureT-loop
-μ-loop b₀ d s items k₀ b k = items - k
+μ-loop b₀ d s stamps items k₀ b k = items - k
 
 loop-again : tie.Need-loop-again Inv-loop μ-loop
 loop-again c =

@@ -1,33 +1,26 @@
--- `start_read::get_item` meets its contract: one message or none, by the test on the set. A
--- member's rank is below the count, so there is room for it.
-use mathlib.Core.Path.{sym, _∙_}
-use Prim.Native.Nat.{_<_}
+-- `start_read::get_item` meets its contract: one message or none, by the test on the set.
+use mathlib.Core.Path.{refl, sym, _∙_}
+use Prim.Native.Nat.{_+_, _≤_}
 use native.Mathlib.Omega.{arith}
 use borrow.Author.Needs.{needs}
-use Rattle.itemset.specs.Set.{count}
-use Rattle.itemset.proofs.Counts.{rank-lt}
+use Rattle.layout.specs.Layout.{mostMessages}
 use Rattle.start_read.proofs.get_item.Statement.{statement}
 use Rattle.start_read.proofs.get_item.Tie as tie
 
--- the item's place among the members
-place : (c : tie.After-rank) → c .rank .result < count
-    (c .before .before .before .before .before .before .before .args .s)
-place c =
-    let found = c .before .before .before .before in
-    rw (c .rank .ensures) (rank-lt _ _ (sym (found .before .has .ensures) ∙ found .if1 .taken))
+-- a member has room for its message
+room : (c : tie.Then1) → c .before .before .before .args .n + 1 ≤ mostMessages
+room c = rw (sym (c .before .has .ensures) ∙ c .if1 .taken) at (c .before .before .before .pre .0)
 
 returns : tie.Need-returns
 returns c =
     let sent = c .before .before in
-    let ranked = sent .before in
-    let kept = ranked .before .before in
+    let kept = sent .before .before in
     let found = kept .before .before in
     rw (
       sym (found .before .has .ensures) ∙ found .if1 .taken,
-      ← ranked .rank .ensures,
       ← kept .asked .ensures,
     )
-    (sent .append .ensures)
+    (refl, sent .append .ensures)
 
 pub get-item-spec : {M : Type 1} → statement M
 get-item-spec =
@@ -35,9 +28,8 @@ get-item-spec =
     (tie.spec
     (λ c κs. search needs)
     (λ c κs. search needs)
-    (λ c κs. search needs)
-    (λ c. omega (arith, place c))
-    (λ c κs. omega (arith, place c))
+    (λ c κs. omega (arith, room (c .before .before .before)))
+    (λ c. search needs)
     (λ c. search needs)
     returns
-    (λ c. rw (sym (c .before .has .ensures) ∙ c .if1 .left)))
+    (λ c. rw (sym (c .before .has .ensures) ∙ c .if1 .left) (omega arith, refl)))

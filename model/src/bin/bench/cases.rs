@@ -2,6 +2,7 @@
 
 use crate::session::{first_items, some_values, Session, COMMIT, GET, GOT, PREPARE, PREPARED};
 use koolvent_model::call::Call;
+use koolvent_model::stamp::Stamp;
 use koolvent_model::store::tables::Sizes;
 
 /// A call on a block that accepts it, or refuses it by 3 after the check of all fields.
@@ -23,6 +24,10 @@ fn fresh(session: &Session) -> Case {
     let call = Call::Fresh { long_enough: true, clients, partitions, items };
     case("fresh", session, call)
 }
+
+pub const READ_OF_4: &str = "start a read of 4 items";
+pub const READ_OF_64: &str = "start a read of 64 items";
+pub const READ_OF_64_IN_ONE_SLOT: &str = "start a read of 64 items, both writes in one slot";
 
 /// The start of a read.
 pub fn read(name: &'static str, session: &Session, client: u64, set: u64) -> Case {
@@ -67,7 +72,7 @@ pub fn small() -> Vec<Case> {
     session.deliver(PREPARED, 1, 1);
     cases.push(deliver("deliver a commit", &session, COMMIT, 1));
     session.deliver(COMMIT, 1, 2);
-    cases.push(read("start a read of 4 items", &session, 2, SHEET));
+    cases.push(read(READ_OF_4, &session, 2, SHEET));
     session.start_read(2, SHEET);
     cases.push(deliver("deliver a get", &session, GET, 2));
     session.deliver(GET, 2, 4);
@@ -93,7 +98,7 @@ pub fn busy() -> Vec<Case> {
         deliver("deliver a prepared", &session, PREPARED, 4),
         deliver("deliver the last prepared", &session, PREPARED, 5),
         deliver("deliver a commit", &session, COMMIT, 2),
-        read("start a read of 4 items", &session, 2, SHEET),
+        read(READ_OF_4, &session, 2, SHEET),
         deliver("deliver a get", &session, GET, 7),
         deliver("deliver a got", &session, GOT, 7),
         deliver("deliver the last got", &session, GOT, 8),
@@ -102,13 +107,58 @@ pub fn busy() -> Vec<Case> {
     ]
 }
 
-/// Every client has written 60 items and read all 64. Then writes by 2 and 3 whose 15 commits lie
-/// in the pile, writes by 4, 5 and 6 under way with 4 and 1 prepared replies and 4 prepares, and
-/// reads by 3, 7 and 8 with 63 gets and 33 gots.
+/// The busy block before client 7 starts its read of all 64 items: 500 stored versions and 56
+/// messages, since 120 leave no room for such a read.
+pub fn busy_with_room() -> Vec<Case> {
+    let session = session_with_room(None);
+    vec![
+        read(READ_OF_4, &session, 7, SHEET),
+        read(READ_OF_64, &session, 7, first_items(64)),
+        check(CHECK, &session),
+    ]
+}
+
+/// The same where two writes alternate in client 7's view. A read's start keeps entries that it has
+/// looked at in 8 slots, by number and client added up: the two have two slots, or one.
+pub fn alternating() -> Vec<Case> {
+    let two_slots = session_with_room(Some(8));
+    assert_alternate(&two_slots, [Stamp::new(2, 8), Stamp::new(1, 7)]);
+    let one_slot = session_with_room(Some(7));
+    assert_alternate(&one_slot, [Stamp::new(2, 7), Stamp::new(1, 8)]);
+    vec![
+        read(READ_OF_4, &two_slots, 7, SHEET),
+        read(READ_OF_64, &two_slots, 7, first_items(64)),
+        read(READ_OF_64_IN_ONE_SLOT, &one_slot, 7, first_items(64)),
+        check(CHECK, &two_slots),
+    ]
+}
+
+fn assert_alternate(session: &Session, stamps: [Stamp; 2]) {
+    let view = session.tables().view(7)[..60].iter();
+    assert!(view.map(|entry| entry.stamp).eq(stamps.into_iter().cycle().take(60)));
+}
+
+/// With client 7's read under way too: 32 gets and 32 gots more.
 fn busy_session() -> Session {
+    let mut session = session_with_room(None);
+    session.start_read(7, first_items(64));
+    session.deliver(GET, 7, 32);
+    session
+}
+
+/// Every second of the first 60 items.
+const EVERY_SECOND: u64 = 0x0555_5555_5555_5555;
+
+/// Every client has written 60 items, or, if one is named, that one every second of them, twice,
+/// when the others have; and all have read all 64. Then writes by 2 and 3 whose 15 commits lie in
+/// the pile, writes by 4, 5 and 6 under way with 4 and 1 prepared replies and 4 prepares, and reads
+/// by 3 and 8 with 31 gets and a got.
+fn session_with_room(by_halves: Option<u64>) -> Session {
     let mut session = Session::fresh(8, 8, 64);
-    for client in 1..=8 {
-        session.write(client, first_items(60));
+    let whole = (1..=8).filter(|client| Some(*client) != by_halves);
+    let halves = by_halves.into_iter().flat_map(|client| [(client, EVERY_SECOND); 2]);
+    for (client, set) in whole.map(|client| (client, first_items(60))).chain(halves) {
+        session.write(client, set);
         session.deliver_all();
     }
     for client in 1..=8 {
@@ -121,10 +171,10 @@ fn busy_session() -> Session {
     session.start_write(5, 1);
     session.deliver(PREPARE, 5, 1);
     session.start_write(6, SHEET);
-    session.start_read(7, first_items(64));
-    session.deliver(GET, 7, 32);
     session.start_read(8, 1);
     session.deliver(GET, 8, 1);
     session.start_read(3, first_items(31));
+    let tables = session.tables();
+    assert_eq!((tables.versions.len(), tables.messages.len()), (500, 56));
     session
 }

@@ -1,7 +1,7 @@
 //! The limits, and whether what was measured meets them: the quickest rounds are held to them.
 
 use crate::call::Row;
-use crate::cases::{CHECK, CHECK_OF_A_FRESH_SHEET};
+use crate::cases::{CHECK, CHECK_OF_A_FRESH_SHEET, READ_OF_4, READ_OF_64};
 use crate::clock::Figure;
 use crate::page::{time, Measured};
 
@@ -18,6 +18,9 @@ pub struct Limit {
 const CHECK_FLOORS: f64 = 2.8;
 const FLOORS: f64 = 3.5;
 const MODELS: f64 = 1.0;
+/// Where the busy block has room for a read of 64 items, it takes at most so many times one of 4
+/// (document 02, P3).
+const WIDE_READS: f64 = 1.5;
 /// Floors of the check of a fresh small sheet before stamps were gathered (on an AMD EPYC, quickest
 /// round, as its library was linked then), and how many times as many it may take. The two
 /// libraries, aligned alike and in one program: docs/changes/ready.md.
@@ -50,6 +53,14 @@ pub fn limits(measured: &Measured) -> Vec<Limit> {
             busy,
             |row| row.models,
             MODELS,
+        ),
+        at_most(
+            format!(
+                "busy block with room for it: a read of 64 items at most {WIDE_READS} times a read \
+                 of 4 items"
+            ),
+            wide_read(&measured.busy_with_room, READ_OF_64),
+            WIDE_READS,
         ),
         at_most(
             format!(
@@ -87,6 +98,12 @@ pub fn limits(measured: &Measured) -> Vec<Limit> {
 fn named<'a>(rows: &'a [Row], name: &str) -> &'a Row {
     let row = rows.iter().find(|row| row.name == name);
     row.expect("a call of the name")
+}
+
+/// How many times a read of 4 items the start of that name is.
+pub fn wide_read(rows: &[Row], name: &str) -> Figure {
+    let [wide, narrow] = [name, READ_OF_4].map(|name| named(rows, name).store);
+    Figure { quickest: wide.quickest / narrow.quickest, median: wide.median / narrow.median }
 }
 
 fn ratio(ratio: f64) -> String {

@@ -22,6 +22,8 @@ fn main() {
     let measured = page::Measured {
         small: call::rows(&cases::small()),
         busy: call::rows(&cases::busy()),
+        busy_with_room: call::rows(&cases::busy_with_room()),
+        alternating: call::rows(&cases::alternating()),
         sheets: sheet::rows(),
         slowest: judges::slowest(),
         versions: growth::versions(),

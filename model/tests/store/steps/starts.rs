@@ -5,7 +5,7 @@ use crate::support::{
     entry, fresh, made, set_of, start_read, start_write, tables, value_bytes, version,
 };
 use koolvent_model::answer::Answer;
-use koolvent_model::stamp::Stamp;
+use koolvent_model::stamp::{Entry, Stamp};
 use koolvent_model::store::message::Message;
 use koolvent_model::store::tables::{Client, Ended, Tables, IDLE, READING, WRITE, WRITING};
 
@@ -58,6 +58,38 @@ fn a_read_asks_for_the_own_entry_of_an_item_even_where_its_set_lacks_the_item() 
     before.view_mut(1)[2] = entry(2, 2, &[0, 2]);
     let (_, after, _) = made(&before, start_read(1, set_of(&[0])));
     assert_eq!(after.messages, [get(1, 0, Stamp::new(3, 2))]);
+}
+
+/// Client 1, whose view has these numbers of client 2 (0 for the initial stamp) and these sets,
+/// reads all items and asks for these numbers.
+fn assert_asks(view: &[(u64, &[u64])], numbers: &[u64]) {
+    let stamp = |number: u64| match number {
+        0 => Stamp::INITIAL,
+        _ => Stamp::new(number, 2),
+    };
+    let items = view.len() as u64;
+    let mut before = tables(2, 2, items);
+    for (seen, (number, set)) in before.view_mut(1).iter_mut().zip(view) {
+        *seen = Entry::new(stamp(*number), set_of(set));
+    }
+    let (_, after, _) = made(&before, start_read(1, u64::MAX >> (64 - items)));
+    let expected = (0..items).zip(numbers).map(|(item, number)| get(1, item, stamp(*number)));
+    assert_eq!(after.messages, expected.collect::<Vec<Message>>());
+}
+
+#[test]
+fn an_entry_counts_for_items_before_and_behind_its_own() {
+    assert_asks(&[(1, &[0]), (2, &[0])], &[2, 2]);
+    assert_asks(&[(2, &[1]), (1, &[1])], &[2, 2]);
+    assert_asks(&[(1, &[0, 2]), (3, &[1]), (2, &[2, 0])], &[2, 3, 2]);
+}
+
+/// On a damaged block copies of one stamp's set may differ, and the initial stamp may have a set.
+#[test]
+fn every_entry_counts_by_its_own_set_whatever_its_neighbours_stamps() {
+    assert_asks(&[(2, &[0]), (2, &[1, 2]), (1, &[2]), (1, &[3, 4]), (0, &[])], &[2, 2, 2, 1, 1]);
+    assert_asks(&[(2, &[0, 3]), (1, &[1]), (2, &[2, 4]), (0, &[3]), (0, &[4])], &[2, 1, 2, 2, 2]);
+    assert_asks(&[(0, &[0, 1]), (0, &[1]), (3, &[0]), (0, &[2]), (3, &[1])], &[3, 3, 3, 0, 3]);
 }
 
 #[test]
