@@ -1,11 +1,11 @@
 /*
  * Koolvent: a store whose reads are never fractured and never wait, and a judge of its logs.
  *
- * A sheet is a number of items (entries of 32 bits), spread over partitions. Clients read and write any set of
- * items in transactions. A read that shows one item of a write never shows another item of that write older, never
- * misses what its own client had written before it started, never shows an item older than an earlier read of its
- * client did, and ends after one reply for each item, whatever the order in which messages arrive. A write is later
- * than everything that its client was shown before it started.
+ * A sheet is a number of items (entries of 32 bits), spread over partitions. Clients read any set of items, and write
+ * up to 12 at a time, in transactions. A read that shows one item of a write never shows another item of that write
+ * older, never misses what its own client had written before it started, never shows an item older than an earlier
+ * read of its client did, and ends after one reply for each item, whatever the order in which messages arrive. A write
+ * is later than everything that its client was shown before it started.
  *
  * The host owns all memory and moves all messages. It lends a block of words to each call, and the store keeps
  * everything there: nothing is allocated, no thread is started, no clock is read, nothing is kept elsewhere.
@@ -65,6 +65,9 @@ extern "C" {
 #define KOOLVENT_MOST_PARTITIONS 8
 #define KOOLVENT_MOST_ITEMS 64
 
+/* The most items of a write; a read may be of all. A block in which an older store left wider writes stays valid. */
+#define KOOLVENT_MOST_WRITE_ITEMS 12
+
 /* The greatest load: messages in flight (the pile), and for each write under way the items whose prepared reply has
  * come. And the most stored versions, prepares in flight counted with them: no version is ever taken away. */
 #define KOOLVENT_MOST_LOAD 128
@@ -117,7 +120,8 @@ enum koolvent_refusal {
     /* A start: the load would exceed KOOLVENT_MOST_LOAD. Deliver, and try again. */
     KOOLVENT_REFUSED_LOAD = 8,
     /* koolvent_start_write: versions would exceed KOOLVENT_MOST_VERSIONS. Reads go on; for writes, copy the sheet
-     * to a fresh block. */
+     * to a fresh block, in several writes if it has more than KOOLVENT_MOST_WRITE_ITEMS items: reads between them show
+     * it in part. */
     KOOLVENT_REFUSED_VERSIONS = 9,
     /* koolvent_deliver: no message lies at that place. */
     KOOLVENT_REFUSED_PLACE = 10,
@@ -134,7 +138,9 @@ enum koolvent_refusal {
     /* koolvent_judge: a line of the log is malformed; koolvent_verdict_line says which. */
     KOOLVENT_REFUSED_MALFORMED = 15,
     /* koolvent_judge: the log is longer than the judge takes. */
-    KOOLVENT_REFUSED_LOG_TOO_LONG = 16
+    KOOLVENT_REFUSED_LOG_TOO_LONG = 16,
+    /* koolvent_start_write: the set has more than KOOLVENT_MOST_WRITE_ITEMS items. */
+    KOOLVENT_REFUSED_WRITE_TOO_WIDE = 17
 };
 
 /* The refusal of any answer, or KOOLVENT_ACCEPTED. A call on a block that is refused answers exactly that number, with
@@ -147,7 +153,7 @@ static inline unsigned koolvent_refusal(uint64_t answer)
 /* ---- The five calls on a block ----
  *
  * A set holds item k as the bit worth 2 to the power k. Of several refusals that apply to a call the lowest is given,
- * but for koolvent_fresh, where 2 goes before 1. */
+ * but for koolvent_fresh, where 2 goes before 1, and koolvent_start_write, where 17 goes between 6 and 7. */
 
 /* Makes a store of so many clients, partitions and items, nothing written, every value 0. What the block held is lost;
  * it may hold anything. Refused by 1 and 2. */
@@ -157,9 +163,10 @@ uint64_t koolvent_fresh(uint64_t *block, size_t words, uint64_t clients, uint64_
  * from the replies of later ones, for its next read. Refused by 1, 3, 4, 5 and 8. */
 uint64_t koolvent_start_read(uint64_t *block, size_t words, uint64_t client, uint64_t set);
 
-/* Starts a write of the items of a set, with KOOLVENT_VALUE_BYTES bytes for each, by ascending item. Its number is 1
- * more than the greatest of the client's own writes and of all that it knows of, whoever wrote them and whatever their
- * items: so it is later than everything that the client has been shown. Refused by 1 and 3 to 9. */
+/* Starts a write of the items of a set, at most KOOLVENT_MOST_WRITE_ITEMS, with KOOLVENT_VALUE_BYTES bytes for each, by
+ * ascending item. Its number is 1 more than the greatest of the client's own writes and of all that it knows of,
+ * whoever wrote them and whatever their items: so it is later than everything that the client has been shown. Refused
+ * by 1, 3 to 9 and 17. */
 uint64_t koolvent_start_write(uint64_t *block, size_t words, uint64_t client, uint64_t set, const uint8_t *values,
                               size_t value_bytes);
 

@@ -110,12 +110,17 @@ static void sizes(void)
     SAME(items, KOOLVENT_MOST_ITEMS);
 }
 
+/* The set of the first items. */
+static uint64_t first(unsigned items)
+{
+    return ~UINT64_C(0) >> (64 - items);
+}
+
 /* The greatest load, and the most versions, are those at which even one item is refused. */
 static void starts(void)
 {
-    const uint64_t all = ~UINT64_C(0);
     uint64_t answer, client;
-    unsigned value_bytes = 0, load = 0, versions = 0;
+    unsigned value_bytes = 0, items = 0, load = 0, versions = 0;
 
     fresh(3, 2, 2);
     SAME(read_items(4, 1), KOOLVENT_REFUSED_CLIENT);
@@ -128,14 +133,24 @@ static void starts(void)
     SAME(show(1, ROOM), KOOLVENT_REFUSED_BUSY);
     SAME(show(2, ROOM), KOOLVENT_REFUSED_NOTHING_ENDED);
 
+    do {
+        fresh(1, 1, 64);
+        items++;
+        answer = write_items(1, first(items), 4 * items);
+    } while (items < 64 && koolvent_refusal(answer) == KOOLVENT_ACCEPTED);
+    SAME(answer, KOOLVENT_REFUSED_WRITE_TOO_WIDE);
+    SAME(items - 1, KOOLVENT_MOST_WRITE_ITEMS);
+    SAME(write_items(1, first(items), 4 * items - 1), KOOLVENT_REFUSED_VALUES);
+    SAME(write_items(1, first(64), 256), KOOLVENT_REFUSED_WRITE_TOO_WIDE);
+
     fresh(8, 2, 64);
-    for (client = 1; koolvent_refusal(answer = read_items(client, all)) == 0; client++)
+    for (client = 1; koolvent_refusal(answer = read_items(client, first(64))) == 0; client++)
         load = koolvent_started_messages(answer);
     SAME(read_items(client, 1), KOOLVENT_REFUSED_LOAD);
     SAME(load, KOOLVENT_MOST_LOAD);
 
     fresh(1, 1, 64);
-    while (koolvent_refusal(answer = write_items(1, all, 256)) == 0) {
+    while (koolvent_refusal(answer = write_items(1, first(8), 32)) == 0) {
         versions += koolvent_started_messages(answer);
         deliver_all();
     }
@@ -154,9 +169,10 @@ static void damaged_blocks(void)
     block[COUNT] = UINT32_MAX;
     SAME(write_items(1, 1, 4), KOOLVENT_REFUSED_COUNT);
 
-    fresh(1, 1, 1);
+    fresh(1, 1, 13);
     block[STAMP_OF_VIEW] = (uint64_t)UINT32_MAX << 4 | 1;
     SAME(write_items(1, 1, 4), KOOLVENT_REFUSED_COUNT);
+    SAME(write_items(1, first(13), 52), KOOLVENT_REFUSED_WRITE_TOO_WIDE);
 
     fresh(1, 1, 1);
     read_items(1, 1);
@@ -204,7 +220,7 @@ static void frames(void)
         SAME(koolvent_frame_entry(output, item).value, 0x01020304 + item);
     }
 
-    read_items(1, ~UINT64_C(0));
+    read_items(1, first(64));
     deliver_all();
     while (room < ROOM && show(1, room) == KOOLVENT_REFUSED_ROOM)
         room++;

@@ -56,7 +56,11 @@ impl Answer {
             },
             Call::Show { .. } => Answer::Shown { length: number >> 8 & 0xffff },
         };
-        (answer.number() == number && answer.refusal() <= 14).then_some(answer)
+        let is_given = match answer.refusal() {
+            17 => matches!(call, Call::Write { .. }),
+            refusal => refusal <= 14,
+        };
+        (answer.number() == number && is_given).then_some(answer)
     }
 
     /// The bytes that a driver prints, of a call with this output.

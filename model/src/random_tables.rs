@@ -1,4 +1,5 @@
-//! Random tables whose fields are in range, otherwise unlike any that calls leave.
+//! Random tables whose fields are in range, otherwise unlike any that calls leave. Those of every
+//! fifth seed have many items, and sets that are wider than a write's.
 
 use crate::random::Random;
 use crate::set::has;
@@ -21,7 +22,11 @@ struct Maker {
 impl Maker {
     fn new(seed: u64) -> Maker {
         let mut random = Random::new(seed);
-        let sizes = Sizes::new(random.between(1, 3), random.between(1, 3), random.between(1, 4));
+        let items = match seed % 5 {
+            0 => random.between(13, 64),
+            _ => random.between(1, 4),
+        };
+        let sizes = Sizes::new(random.between(1, 3), random.between(1, 3), items);
         Maker { random, sizes }
     }
 

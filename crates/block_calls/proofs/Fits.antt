@@ -25,17 +25,17 @@ use Rattle.block_calls.proofs.Accepted.{answer-accepted, answer-refused
 -- ---- refusals
 
 -- one more test
-more : (n : ℕ) (a : Bool) (xs : List Test) → n ≤ 14 → first xs ≤ 14 → first (test n a ∷ xs) ≤ 14
+more : (n : ℕ) (a : Bool) (xs : List Test) → n ≤ 17 → first xs ≤ 17 → first (test n a ∷ xs) ≤ 17
 unfolding first
 more n true xs x y = x
 more n false xs x y = y
 
-none : first [] ≤ 14
+none : first [] ≤ 17
 unfolding first
 none = omega arith
 
 -- one of the refusal table's numbers, or 0
-pub refusal-le : (t : Tables) (c : Call) → refusal capacities t c ≤ 14
+pub refusal-le : (t : Tables) (c : Call) → refusal capacities t c ≤ 17
 unfolding refusal
 refusal-le t (startRead d s) =
     more 1 _ _ (omega arith) (more 3 _ _ (omega arith)
@@ -45,15 +45,15 @@ refusal-le t (startWrite d s bytes) =
     (more 3 _ _ (omega arith)
     (more 4 _ _ (omega arith)
     (more 5 _ _ (omega arith)
-    (more 6 _ _ (omega arith) (more 7 _ _ (omega arith)
-    (more 8 _ _ (omega arith) (more 9 _ _ (omega arith) none)))))))
+    (more 6 _ _ (omega arith) (more 17 _ _ (omega arith) (more 7 _ _ (omega arith)
+    (more 8 _ _ (omega arith) (more 9 _ _ (omega arith) none))))))))
 refusal-le t (deliver i) = more 1 _ _ (omega arith)
     (more 10 _ _ (omega arith) (more 11 _ _ (omega arith) (more 12 _ _ (omega arith) none)))
 refusal-le t (show d output) =
     more 1 _ _ (omega arith) (more 3 _ _ (omega arith)
     (more 4 _ _ (omega arith) (more 13 _ _ (omega arith) (more 14 _ _ (omega arith) none))))
 
-fresh-refusal-le : (b : List ℕ) (z : Sizes) → freshRefusalOn b z ≤ 14
+fresh-refusal-le : (b : List ℕ) (z : Sizes) → freshRefusalOn b z ≤ 17
 unfolding freshRefusalOn
 fresh-refusal-le b z = more 2 _ _ (omega arith) (more 1 _ _ (omega arith) none)
 

@@ -10,8 +10,8 @@ use Rattle.itemset.specs.Set.{allBelow, count}
 use Rattle.protocol.specs.Range.{capacities, isClient, isIdle, load, occupied}
 use Rattle.protocol.specs.Steps.{greatestOf}
 use Rattle.protocol.specs.Calls.{startRead, startWrite, show, refusal, first, isNothing}
-use Rattle.layout.specs.Layout.{mostVersions, mostMessages, header, scalars, at, itemsAt, modeAt}
-use Rattle.layout.specs.Layout.{awaitedAt, lastKindAt}
+use Rattle.layout.specs.Layout.{mostVersions, mostMessages, mostWriteItems, header, scalars, at}
+use Rattle.layout.specs.Layout.{itemsAt, modeAt, awaitedAt, lastKindAt}
 use Rattle.layout.specs.Decode.{sizesIn, clientIn, tablesOf, validBlock}
 use Rattle.encoding.proofs.WellFormed.{tells-valid-block}
 use Rattle.show.specs.Show.{frameIn}
@@ -88,9 +88,10 @@ module _ (b : List ℕ) (d : ℕ) (v : validBlock b ≡ true) where
       ≡ cond busy 4
       (cond (bad s) 5
       (cond (not (eqb (length bytes) (4 * count s))) 6
+      (cond (ltb mostWriteItems (count s)) 17
       (cond (eqb (greatestOn b d (at b header itemsAt)) 4294967295) 7
       (cond (ltb mostMessages (load (tablesOf b) + count s)) 8
-      (cond (ltb mostVersions (occupied (tablesOf b) + count s)) 9 0)))))
+      (cond (ltb mostVersions (occupied (tablesOf b) + count s)) 9 0))))))
   unfolding refusal first
   write-tests s bytes c =
       rw (valid-tables b v, idle-read b d c v, greatest-read b d c v, sizes-read b, c)

@@ -72,8 +72,8 @@ module _ (caps : Capacities) (w : World) (inv : Inv caps w) where
       (mild-test 3 _ _ (omega arith)
       (mild-test 4 _ _ (omega arith)
       (mild-test 5 _ _ (omega arith) (mild-test 6 _ _ (omega arith)
-      (mild-test 7 _ _ (omega arith)
-      (mild-test 8 _ _ (omega arith) (mild-test 9 _ _ (omega arith) mild-none)))))))
+      (mild-test 17 _ _ (omega arith) (mild-test 7 _ _ (omega arith)
+      (mild-test 8 _ _ (omega arith) (mild-test 9 _ _ (omega arith) mild-none))))))))
   mild (deliver i) =
       by-test (leb (length (w .tables .messages)) i)
       (λ e. passes 1 _ _ is-valid (applies 10 _ _ e (omega arith)))

@@ -19,6 +19,10 @@ mostVersions = capacities .versions
 abbrev pub mostMessages : ℕ
 mostMessages = capacities .load
 
+-- the most items that a write has; no word depends on it
+abbrev pub mostWriteItems : ℕ
+mostWriteItems = capacities .widest
+
 -- the words of the header, of a client's scalars, of an entry, a version and a message
 abbrev pub headerWords : ℕ
 headerWords = 16

@@ -21,6 +21,9 @@ pub const MOST_VERSIONS: u64 = 512;
 
 pub const MOST_MESSAGES: u64 = 128;
 
+// The most items that a write has; no word depends on it.
+pub const MOST_WRITE_ITEMS: u64 = 12;
+
 // The words of the header, of a client's scalars, of an entry, a version and a message.
 pub const HEADER_WORDS: u64 = 16;
 

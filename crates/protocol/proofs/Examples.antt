@@ -16,6 +16,7 @@ use Rattle.protocol.proofs.Examples.Begin.{spent, crowded, strayed}
 use Rattle.protocol.proofs.Examples.Faults.{faults}
 use Rattle.protocol.proofs.Examples.Falls.{falls}
 use Rattle.protocol.proofs.Examples.Numbers.{numbers}
+use Rattle.protocol.proofs.Examples.Widest.{widest}
 use Rattle.protocol.proofs.Examples.Pinned.{pinned}
 pub mod Table
 pub mod Begin
@@ -23,6 +24,7 @@ pub mod Faults
 pub mod Pinned
 pub mod Numbers
 pub mod Falls
+pub mod Widest
 
 -- a value's four bytes, for values below 256
 abbrev value : ℕ → List ℕ
@@ -377,7 +379,7 @@ rows =
     ∷ firstOfSeveral
     ∷ strays
     ∷ outOfRange
-    ∷ numbers ++ (falls ++ pinned)
+    ∷ numbers ++ (falls ++ (widest ++ pinned))
 
 pub examples : all right rows ≡ true
 unfolding all right

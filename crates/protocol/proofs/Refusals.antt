@@ -75,6 +75,7 @@ pub record AcceptedStart (caps : Capacities) (t : Tables) (d s : ℕ) : Type 0 w
 pub record AcceptedWrite (caps : Capacities) (t : Tables) (d s : ℕ) (bytes : List ℕ) : Type 0 where
   pub start : AcceptedStart caps t d s
   pub values : length bytes ≡ 4 * count s
+  pub narrow : count s ≤ caps .widest
   pub numberLeft : greatestOf t d ≢ 4294967295
   pub occupied : occupied t + count s ≤ caps .versions
 

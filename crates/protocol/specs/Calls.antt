@@ -71,6 +71,8 @@ isNothing e = eqb (e .kind) 0
 abbrev pub shownFrame : Tables → ℕ → List ℕ
 shownFrame t d = frame d (t .client d .last)
 
+-- 17: 'Twelve becomes the limit for writing; reads may still take 64', 'It refuses such a write
+-- with 17, tested after 6 and before 7' (document 02, P4); twelve is this store's `widest`
 unfoldable pub refusal : Capacities → Tables → Call → ℕ
 refusal caps t (startRead d s) =
     first
@@ -87,6 +89,7 @@ refusal caps t (startWrite d s bytes) =
     ∷ test 4 (not (isIdle (t .client d)))
     ∷ test 5 (badSet t s)
     ∷ test 6 (not (eqb (length bytes) (4 * count s)))
+    ∷ test 17 (ltb (caps .widest) (count s))
     ∷ test 7 (eqb (greatestOf t d) 4294967295)
     ∷ test 8 (ltb (caps .load) (load t + count s))
     ∷ test 9 (ltb (caps .versions) (occupied t + count s))

@@ -133,14 +133,16 @@ load t = length (t .messages) + total (t .sizes .clients) (λ d. arrived (t .cli
 unfoldable pub occupied : Tables → ℕ
 occupied t = length (t .versions) + counted isPrepare (t .messages)
 
--- the greatest load and the most versions that a block takes
+-- the most versions and the greatest load that a block takes, and how many items the widest write
+-- has
 pub record Capacities : Type 0 where
   pub versions : ℕ
   pub load : ℕ
+  pub widest : ℕ
 
 -- those of this store
 abbrev pub capacities : Capacities
-capacities = record { versions = 512; load = 128 }
+capacities = record { versions = 512; load = 128; widest = 12 }
 
 -- not refused by 1, a block's length apart
 unfoldable pub valid : Capacities → Tables → Bool

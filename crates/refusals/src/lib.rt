@@ -21,6 +21,7 @@ use layout::MOST_ITEMS;
 use layout::MOST_MESSAGES;
 use layout::MOST_PARTITIONS;
 use layout::MOST_VERSIONS;
+use layout::MOST_WRITE_ITEMS;
 use layout::NEEDED;
 use range::load;
 use range::occupied;
@@ -116,6 +117,7 @@ fn of_client_write(b: &[u64], d: u64, s: u64, bytes: &[u8]) -> u64
 {
     let items = count(s);
     let values = bytes.len() as u64 == 4 * items;
+    let wide = MOST_WRITE_ITEMS < items;
     let spent = no_number_left(b, d);
     let full = MOST_MESSAGES < load(b) + items;
     let stored = MOST_VERSIONS < occupied(b) + items;
@@ -128,7 +130,11 @@ fn of_client_write(b: &[u64], d: u64, s: u64, bytes: &[u8]) -> u64
             refuse(
                 6,
                 !values,
-                refuse(7, spent, refuse(8, full, refuse(9, stored, 0))),
+                refuse(
+                    17,
+                    wide,
+                    refuse(7, spent, refuse(8, full, refuse(9, stored, 0))),
+                ),
             ),
         ),
     )

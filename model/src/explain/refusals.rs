@@ -1,6 +1,6 @@
-//! The refusals of document 01 in words.
+//! The refusals of documents 01 and 02 in words.
 
-const WORDS: [&str; 16] = [
+const WORDS: [&str; 17] = [
     "the block is too short or damaged, or no fresh start was accepted yet",
     "sizes outside 1 to 8 clients, 1 to 8 partitions and 1 to 64 items",
     "no such client",
@@ -17,6 +17,7 @@ const WORDS: [&str; 16] = [
     "the output is shorter than the frame",
     "malformed",
     "over 32,768 bytes or over 256 line ends",
+    "a write of more than 12 items",
 ];
 
 /// The sentence of a refusal's number, if it is one.

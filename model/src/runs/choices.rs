@@ -3,8 +3,9 @@
 use super::{Order, Runner, Sort};
 use crate::answer::Answer;
 use crate::call::Call;
+use crate::set::size;
 use crate::store::message::Message;
-use crate::store::tables::{IDLE, LOAD_CAPACITY, VERSION_CAPACITY};
+use crate::store::tables::{IDLE, LOAD_CAPACITY, VERSION_CAPACITY, WIDEST_WRITE};
 
 impl Runner<'_, '_> {
     pub(super) fn deliver_next(&mut self) {
@@ -54,11 +55,25 @@ impl Runner<'_, '_> {
         let set = self.some_set();
         let writes = if self.sort == Sort::Crowded { 70 } else { 50 };
         if self.random.percent(writes) {
-            let values = self.random.bytes(4 * set.count_ones() as usize);
-            self.call(Call::Write { client, set, values });
+            let set = self.narrowed(set);
+            let write = self.write(client, set);
+            self.call(write);
         } else {
             self.call(Call::Read { client, set });
         }
+    }
+
+    fn write(&mut self, client: u64, set: u64) -> Call {
+        let values = self.random.bytes(4 * size(set) as usize);
+        Call::Write { client, set, values }
+    }
+
+    /// The set without so many of its items, at random, that a write may have it.
+    fn narrowed(&mut self, mut set: u64) -> u64 {
+        while size(set) > WIDEST_WRITE {
+            set &= !(1 << self.random.below(64));
+        }
+        set
     }
 
     /// A nonempty set of existing items; in a crowded run often one that just fits.
@@ -102,7 +117,7 @@ impl Runner<'_, '_> {
         let nobody = self.random.pick(&[0, beyond, 256 + client, 1 << 63, u64::MAX]);
         let set = self.some_set();
         let past_the_end = self.run.store.tables.messages.len() as u64;
-        let call = match self.random.below(11) {
+        let call = match self.random.below(12) {
             0 => Call::Read { client: nobody, set },
             1 => Call::Show { client: nobody, output: vec![1; 600] },
             2 => Call::Read { client, set },
@@ -112,7 +127,13 @@ impl Runner<'_, '_> {
             6 => Call::Deliver { place: past_the_end },
             7 => Call::Deliver { place: u64::MAX },
             8 => Call::Show { client, output: vec![2; self.random.below(20) as usize] },
-            9 => Call::Fresh { long_enough: true, clients: 1, partitions: (1 << 32) + 1, items: 1 },
+            9 => {
+                let wider = set | self.some_set();
+                self.write(client, wider)
+            }
+            10 => {
+                Call::Fresh { long_enough: true, clients: 1, partitions: (1 << 32) + 1, items: 1 }
+            }
             _ => Call::Fresh { long_enough: false, clients: 1, partitions: 1, items: 1 },
         };
         self.call(call);

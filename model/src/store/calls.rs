@@ -1,14 +1,15 @@
 //! The five calls. Any number may be passed; a refusal changes nothing.
 
-use super::fault::Fault;
+use super::fault::{self, Fault};
 use super::range::GREATEST;
 use super::refusals;
 use super::shown::shown_frame;
-use super::tables::{Sizes, Tables};
+use super::tables::{Sizes, Tables, ITEMS, WIDEST_WRITE};
 use super::Store;
 use crate::answer::Answer;
 use crate::call::{Call, Event};
 use crate::frames::log::Shown;
+use std::borrow::Cow;
 
 impl Store {
     /// Makes the call, with this output for a showing.
@@ -53,11 +54,23 @@ impl Store {
 
     /// Starts a write of the set, with four value bytes for each of its items, ascending.
     pub fn start_write(&mut self, client: u64, set: u64, values: &[u8]) -> Answer {
-        let refusal = match self.fault {
-            Some(Fault::SevenByCount) => {
-                refusals::start_write(&self.with_smaller_views(), client, set, values)
+        let tables = match self.fault {
+            Some(Fault::SevenByCount) => Cow::Owned(self.with_smaller_views()),
+            _ => Cow::Borrowed(&self.tables),
+        };
+        let widest = match self.fault {
+            Some(Fault::AnyWidth) => ITEMS as u64,
+            Some(Fault::WidestWriteRefused) => WIDEST_WRITE - 1,
+            _ => WIDEST_WRITE,
+        };
+        let refusal = match refusals::start_write(&tables, widest, client, set, values) {
+            Some(17)
+                if self.has(Fault::WidthAfterSeven)
+                    && self.tables.greatest_number(client) == GREATEST =>
+            {
+                Some(7)
             }
-            _ => refusals::start_write(&self.tables, client, set, values),
+            refusal => refusal,
         };
         if let Some(refusal) = self.spoilt(refusal, 9) {
             return Answer::Refused(refusal);
@@ -114,7 +127,9 @@ impl Store {
     /// The refusal, unless a fault gives another: `full` is what a full store answers, 0 if it
     /// never does.
     fn spoilt(&self, refusal: Option<u64>, full: u64) -> Option<u64> {
-        if self.has(Fault::TurnsAllAway) {
+        if self.has(Fault::TurnsAllAway)
+            || self.has(Fault::WideSetsRefused) && fault::holds_a_wide_set(&self.tables)
+        {
             return Some(1);
         }
         if self.has(Fault::FullWhileEmpty) && full != 0 {

@@ -1,6 +1,9 @@
 //! Wrong stores. For tests alone: each shows that some test would notice a store that is wrong in
 //! this way.
 
+use super::tables::{Tables, WIDEST_WRITE, WRITE, WRITING};
+use crate::set::size;
+
 /// One way in which a store can be wrong.
 #[derive(Clone, Copy, Debug, PartialEq, Eq)]
 pub enum Fault {
@@ -46,4 +49,29 @@ pub enum Fault {
     OwnEntryByItsSet,
     /// The pass over the view's entries ends with the last item of the read set.
     PassEndsWithTheSet,
+    /// A write may have as many items as a read: there is no 17.
+    AnyWidth,
+    /// 17 is tested after 7.
+    WidthAfterSeven,
+    /// 17 is given for as many items as the widest write has.
+    WidestWriteRefused,
+    /// A block with a wider set than the widest write's is refused by 1.
+    WideSetsRefused,
+}
+
+/// Whether a set that a write left in the tables has more items than a write may have.
+pub(super) fn holds_a_wide_set(tables: &Tables) -> bool {
+    let entries = tables.latest.iter().chain(tables.view.iter().flatten());
+    let versions = tables.versions.iter().map(|version| version.set);
+    let messages = tables.messages.iter().map(|message| message.parts());
+    let in_messages = messages.flat_map(|parts| [parts.set, parts.latest.map(|entry| entry.set)]);
+    let under_way = tables.clients.iter().filter(|client| client.mode == WRITING);
+    let ended = tables.clients.iter().filter(|client| client.last.kind == WRITE);
+    entries
+        .map(|entry| entry.set)
+        .chain(versions)
+        .chain(in_messages.flatten())
+        .chain(under_way.map(|client| client.set))
+        .chain(ended.map(|client| client.last.set))
+        .any(|set| size(set) > WIDEST_WRITE)
 }

@@ -30,13 +30,21 @@ pub(super) fn start_read(tables: &Tables, client: u64, set: u64) -> Option<u64> 
     ])
 }
 
-pub(super) fn start_write(tables: &Tables, client: u64, set: u64, values: &[u8]) -> Option<u64> {
+/// Of a store whose widest write has so many items.
+pub(super) fn start_write(
+    tables: &Tables,
+    widest: u64,
+    client: u64,
+    set: u64,
+    values: &[u8],
+) -> Option<u64> {
     first(&[
         (1, &|| !is_usable(tables)),
         (3, &|| !tables.has_client(client)),
         (4, &|| tables.client(client).mode != IDLE),
         (5, &|| set == 0 || !tables.holds_only_existing(set)),
         (6, &|| values.len() as u64 != 4 * size(set)),
+        (17, &|| size(set) > widest),
         (7, &|| tables.greatest_number(client) == GREATEST),
         (8, &|| tables.load() + size(set) > LOAD_CAPACITY),
         (9, &|| tables.versions_and_prepares() + size(set) > VERSION_CAPACITY),

@@ -17,6 +17,8 @@ pub const ITEMS: usize = 64;
 pub const VERSION_CAPACITY: u64 = 512;
 /// The greatest load.
 pub const LOAD_CAPACITY: u64 = 128;
+/// The most items of a write.
+pub const WIDEST_WRITE: u64 = 12;
 
 /// How many clients (desks, from 1), partitions (cabinets, from 0) and items (lines, from 0) exist.
 #[derive(Clone, Copy, Debug, Default, PartialEq, Eq)]

@@ -10,11 +10,19 @@ const VERSION: Version = Version { item: 3, value: 9, stamp: STAMP, set: 0b1000 
 const GET: Message = Message::Get { client: 2, item: 3, stamp: Stamp::INITIAL };
 
 /// Blocks full of messages, of messages and replies, of versions, and of versions and prepares,
-/// some that the widest start fills, and some whose count or a number in whose view is the
-/// greatest; and the same with 1, 2 and 3 less. The first seven are at the brim.
+/// some that the widest read or write fills, and some whose count or a number in whose view is the
+/// greatest; and the same with 1, 2 and 3 less. The first eight are at the brim.
 pub fn brimming() -> Vec<Busy> {
-    let sorts: [fn(usize) -> Tables; 7] =
-        [messages, room_for_the_widest_start, replies, versions, prepares, count, seen];
+    let sorts: [fn(usize) -> Tables; 8] = [
+        messages,
+        room_for_the_widest_read,
+        room_for_the_widest_write,
+        replies,
+        versions,
+        prepares,
+        count,
+        seen,
+    ];
     let mut brimming = Vec::new();
     for less in 0..4 {
         for (place, sort) in sorts.iter().enumerate() {
@@ -28,16 +36,27 @@ fn small() -> Tables {
     Tables::fresh(Sizes::new(2, 2, 4))
 }
 
+/// With more items than a write may have.
+fn large() -> Tables {
+    Tables::fresh(Sizes::new(8, 8, 64))
+}
+
 fn messages(less: usize) -> Tables {
     let mut tables = small();
     tables.messages = vec![GET; 128 - less];
     tables
 }
 
-fn room_for_the_widest_start(less: usize) -> Tables {
-    let mut tables = Tables::fresh(Sizes::new(8, 8, 64));
+fn room_for_the_widest_read(less: usize) -> Tables {
+    let mut tables = large();
     tables.messages = vec![GET; 66 - less];
-    tables.versions = vec![VERSION; 450 - less];
+    tables
+}
+
+fn room_for_the_widest_write(less: usize) -> Tables {
+    let mut tables = large();
+    tables.messages = vec![GET; 118 - less];
+    tables.versions = vec![VERSION; 502 - less];
     tables
 }
 
@@ -69,14 +88,14 @@ fn prepares(less: usize) -> Tables {
 }
 
 fn count(less: usize) -> Tables {
-    let mut tables = small();
+    let mut tables = large();
     tables.client_mut(1).count = u64::from(u32::MAX) - less as u64;
     tables
 }
 
 /// Client 1 has seen client 2's write of item 3.
 fn seen(less: usize) -> Tables {
-    let mut tables = small();
+    let mut tables = large();
     let stamp = Stamp::new(u64::from(u32::MAX) - less as u64, 2);
     tables.view_mut(1)[3] = Entry::new(stamp, 0b1000);
     tables

@@ -7,6 +7,7 @@ use crate::block::Calls;
 use crate::call::Call;
 use crate::layout::NEEDED;
 use crate::set::size;
+use crate::store::tables::WIDEST_WRITE;
 use crate::store::Store;
 
 /// Numbers that are far out of every range.
@@ -73,7 +74,9 @@ fn sets(busy: &Busy) -> Vec<u64> {
     let items = busy.tables.sizes.items;
     let all = u64::MAX >> (64 - items);
     let past = (1 << (items - 1)) << 1;
-    vec![0, 1, 0b11 & all, 0b111 & all, 1 << (items - 1), all, past, all | past, 1 << 63, u64::MAX]
+    let [widest, wider] = [WIDEST_WRITE, WIDEST_WRITE + 1].map(|items| (1 << items) - 1);
+    let few = [1, 0b11, 0b111, widest, wider, widest << 1].map(|set| set & all);
+    [&few[..], &[0, 1 << (items - 1), all, past, all | past, 1 << 63, u64::MAX]].concat()
 }
 
 fn reads(busy: &Busy) -> Vec<Call> {

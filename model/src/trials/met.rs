@@ -7,7 +7,7 @@ use crate::call::Call;
 pub struct Met {
     pub calls: usize,
     /// By refusal.
-    pub refused: [usize; 17],
+    pub refused: [usize; 18],
     pub fresh: usize,
     pub reads: usize,
     pub writes: usize,

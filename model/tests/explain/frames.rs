@@ -71,6 +71,7 @@ fn every_refusal_is_said() {
         ("0e", "refused by 14: the output is shorter than the frame"),
         ("0f", "refused by 15: malformed"),
         ("10", "refused by 16: over 32,768 bytes or over 256 line ends"),
+        ("11", "refused by 17: a write of more than 12 items"),
     ];
     for (answer, sentence) in refusals {
         let expected = format!("the message at place 2 is delivered: {sentence}");
@@ -89,7 +90,7 @@ fn bytes_that_answer_no_such_frame_are_told() {
         ("040000", "0001000203"),
         ("0502", "00"),
         ("0502", "002102"),
-        ("0502", "11"),
+        ("0502", "12"),
         ("06", "00"),
     ];
     for (frame, answer) in others {

@@ -119,7 +119,7 @@ fn every_length_of_a_block() {
 fn every_field_of_blocks_at_the_brim_of_a_capacity() {
     let mut random = Random::new(1);
     let mut judged = Judged::default();
-    for busy in brimming().iter().take(14) {
+    for busy in brimming().iter().take(16) {
         assert!(valid(&busy.words));
         let held = every_field(&valid, busy, &mut random, &mut judged);
         assert_eq!(held, Ok(()));

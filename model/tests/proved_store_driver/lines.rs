@@ -30,6 +30,19 @@ fn every_truncation_of_a_frame() {
     agreed(&input, 4_096);
 }
 
+/// As many values as items, from 0 to 64 of each and one more; of over 12 items a write is refused,
+/// and its frame is still one.
+#[test]
+fn writes_of_every_width() {
+    let mut input = b"01080840\n".to_vec();
+    for items in 0..=65 {
+        let set = u64::MAX.checked_shr(64 - items.min(64)).unwrap_or(0);
+        let values = "0000002a".repeat(items as usize);
+        input.extend(format!("0301{set:016x}{values}\n0201{set:016x}\n01080840\n").bytes());
+    }
+    agreed(&input, 1_000);
+}
+
 #[test]
 fn every_byte_in_place_of_a_digit() {
     let mut input = Vec::new();

@@ -81,6 +81,17 @@ fn a_write_frame_takes_0_to_64_values_whatever_its_set() {
 }
 
 #[test]
+fn a_write_frame_of_13_to_64_values_is_well_formed_and_answered_11() {
+    for items in 1..=64 {
+        let set = u64::MAX >> (64 - items);
+        let frame = format!("0301{set:016x}{}", "00000009".repeat(items));
+        let answer = if items <= 12 { format!("00{items:04x}") } else { "11".to_owned() };
+        let input = format!("01020240\n{frame}\n");
+        assert_eq!(run(input.as_bytes()), format!("00\n{answer}\n"));
+    }
+}
+
+#[test]
 fn refusals_are_one_byte_of_hexadecimal() {
     let input = b"01010101\n0509\n02010000000000000000\n04ffff\n0501\n";
     assert_eq!(run(input), "00\n03\n05\n0a\n0d\n");

@@ -47,7 +47,7 @@ fn edge_calls(served: &dyn Calls) -> Result<Met, Difference> {
     for seed in 0..4 {
         edges(served, &Busy::new(Sort::Small, seed), &mut met)?;
     }
-    for busy in brimming().iter().take(7) {
+    for busy in brimming().iter().take(8) {
         edges(served, busy, &mut met)?;
     }
     for seed in 95..155 {
@@ -64,7 +64,7 @@ fn range(valid: &Valid) -> Result<Judged, Difference> {
         let small = Busy::new(Sort::Small, seed);
         every_field(valid, &small, &mut random, &mut judged)?;
     }
-    for busy in brimming().iter().take(7) {
+    for busy in brimming().iter().take(8) {
         every_field(valid, busy, &mut random, &mut judged)?;
         random_words(valid, busy, 500, &mut random, &mut judged)?;
     }

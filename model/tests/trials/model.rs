@@ -7,7 +7,7 @@ use koolvent_model::layout::is_valid;
 fn runs_meet_every_call_and_most_refusals() {
     let runs = crate::runs(&Modelled::default()).expect("the model's own answers");
     assert!(runs.met.rarest_accepted() >= 100, "{runs:?}");
-    runs.met.assert_refused(&[1, 2, 3, 4, 5, 6, 8, 9, 10, 13, 14], 1);
+    runs.met.assert_refused(&[1, 2, 3, 4, 5, 6, 8, 9, 10, 13, 14, 17], 1);
     assert!(runs.longest >= 3_000, "{runs:?}");
     assert!(runs.corrections >= 50, "{runs:?}");
     assert!(runs.shown_again >= 200, "{runs:?}");
@@ -17,7 +17,7 @@ fn runs_meet_every_call_and_most_refusals() {
 fn damages_meet_every_call_and_refusal() {
     let damaged = crate::damages(&Modelled::default()).expect("the model's own answers");
     assert!(damaged.met.rarest_accepted() >= 30, "{damaged:?}");
-    damaged.met.assert_refused(&[1, 2, 3, 4, 5, 6, 7, 8, 10, 11, 12, 13, 14], 1);
+    damaged.met.assert_refused(&[1, 2, 3, 4, 5, 6, 7, 8, 10, 11, 12, 13, 14, 17], 1);
     assert!(damaged.valid >= 1_000, "{damaged:?}");
 }
 
@@ -25,7 +25,7 @@ fn damages_meet_every_call_and_refusal() {
 fn edges_meet_starts_deliveries_and_their_refusals() {
     let met = crate::edge_calls(&Modelled::default()).expect("the model's own answers");
     assert!(met.reads.min(met.writes).min(met.shown) >= 10, "{met:?}");
-    met.assert_refused(&[1, 2, 3, 4, 5, 6, 7, 8, 9, 10, 13, 14], 1);
+    met.assert_refused(&[1, 2, 3, 4, 5, 6, 7, 8, 9, 10, 13, 14, 17], 1);
 }
 
 #[test]

@@ -125,6 +125,21 @@ fn damages_and_edges_catch_a_tie_that_takes_the_version_s_set() {
     assert!(edge_calls(&wrong).is_err());
 }
 
+/// Of the widest write: all have writes of more than 12 items, runs and edges of just 12, and edges
+/// 13 items at the greatest number; wider sets lie in tables that no calls leave.
+#[test]
+fn runs_edges_and_damages_catch_wrong_limits_of_a_write() {
+    let of = |fault| Modelled { fault: Some(fault) };
+    assert!(runs(&of(Fault::AnyWidth)).is_err());
+    assert!(damages(&of(Fault::AnyWidth)).is_err());
+    assert!(edge_calls(&of(Fault::AnyWidth)).is_err());
+    assert!(edge_calls(&of(Fault::WidthAfterSeven)).is_err());
+    assert!(runs(&of(Fault::WidestWriteRefused)).is_err());
+    assert!(edge_calls(&of(Fault::WidestWriteRefused)).is_err());
+    assert!(damages(&of(Fault::WideSetsRefused)).is_err());
+    assert!(edge_calls(&of(Fault::WideSetsRefused)).is_err());
+}
+
 /// No run comes near the greatest number; damages and edges have it in views.
 #[test]
 fn damages_and_edges_catch_7_tested_on_the_count_alone() {

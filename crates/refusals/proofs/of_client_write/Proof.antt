@@ -8,7 +8,7 @@ use lib.Dec.{eqb, ltb}
 use lib.ListN.{length}
 use borrow.Author.Needs.{needs}
 use Rattle.itemset.proofs.Counts.{count-le}
-use Rattle.layout.specs.Layout.{mostVersions, mostMessages}
+use Rattle.layout.specs.Layout.{mostVersions, mostMessages, mostWriteItems}
 use Rattle.block_calls.proofs.Given.{chain, has-words, load-few, occupied-few}
 use Rattle.block_calls.proofs.Tested.{write-tests}
 use Rattle.refusals.proofs.of_client_write.Statement.{statement}
@@ -80,10 +80,14 @@ refuse-requires-5 c κs = search needs
 refuse-requires-6 : tie.Need-refuse-requires-6
 refuse-requires-6 c κs = search needs
 
+refuse-requires-7 : tie.Need-refuse-requires-7
+refuse-requires-7 c κs = search needs
+
 returns : tie.Need-returns
 returns c =
     let six = c .before .before in
-    let seven = six .before in
+    let seventeen = six .before in
+    let seven = seventeen .before in
     let eight = seven .before in
     let nine = eight .before in
     let bad = nine .before in
@@ -95,16 +99,18 @@ returns c =
     let start = counted .before .before .before in
     let values = ap (λ (n : ℕ). not (eqb (length (start .args .bytes .now)) (4 * n)))
     (counted .count .ensures) in
+    let wide = ap (λ (n : ℕ). ltb mostWriteItems n) (counted .count .ensures) in
     let full = ap₂ (λ (l n : ℕ). ltb mostMessages (l + n)) (loaded .load .ensures)
     (counted .count .ensures) in
     let stored = ap₂ (λ (l n : ℕ). ltb mostVersions (l + n)) (used .occupied .ensures)
     (counted .count .ensures) in
-    chain _ _ 4 _ _ _ (c .refuse6 .ensures) (busy .busy .ensures)
-    (chain _ _ 5 _ _ _ (c .before .refuse5 .ensures) (bad .bad-set .ensures)
-    (chain _ _ 6 _ _ _ (six .refuse4 .ensures) values
+    chain _ _ 4 _ _ _ (c .refuse7 .ensures) (busy .busy .ensures)
+    (chain _ _ 5 _ _ _ (c .before .refuse6 .ensures) (bad .bad-set .ensures)
+    (chain _ _ 6 _ _ _ (six .refuse5 .ensures) values
+    (chain _ _ 17 _ _ _ (seventeen .refuse4 .ensures) wide
     (chain _ _ 7 _ _ _ (seven .refuse3 .ensures) (spent .no-number-left .ensures)
     (chain _ _ 8 _ _ _ (eight .refuse2 .ensures) full
-    (chain _ _ 9 _ _ _ (nine .refuse .ensures) stored refl)))))
+    (chain _ _ 9 _ _ _ (nine .refuse .ensures) stored refl))))))
     ∙ sym (write-tests (start .args .b .now) (start .args .d) (search needs) (start .args .s)
     (start .args .bytes .now) (search needs))
 
@@ -127,4 +133,5 @@ of-client-write-spec =
     refuse-requires-4
     refuse-requires-5
     refuse-requires-6
+    refuse-requires-7
     returns)

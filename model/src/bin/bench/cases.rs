@@ -2,7 +2,6 @@
 
 use crate::session::{first_items, some_values, Session, COMMIT, GET, GOT, PREPARE, PREPARED};
 use koolvent_model::call::Call;
-use koolvent_model::stamp::Stamp;
 use koolvent_model::store::tables::Sizes;
 
 /// A call on a block that accepts it, or refuses it by 3 after the check of all fields.
@@ -27,7 +26,6 @@ fn fresh(session: &Session) -> Case {
 
 pub const READ_OF_4: &str = "start a read of 4 items";
 pub const READ_OF_64: &str = "start a read of 64 items";
-pub const READ_OF_64_IN_ONE_SLOT: &str = "start a read of 64 items, both writes in one slot";
 
 /// The start of a read.
 pub fn read(name: &'static str, session: &Session, client: u64, set: u64) -> Case {
@@ -110,7 +108,7 @@ pub fn busy() -> Vec<Case> {
 /// The busy block before client 7 starts its read of all 64 items: 500 stored versions and 56
 /// messages, since 120 leave no room for such a read.
 pub fn busy_with_room() -> Vec<Case> {
-    let session = session_with_room(None);
+    let session = session_with_room();
     vec![
         read(READ_OF_4, &session, 7, SHEET),
         read(READ_OF_64, &session, 7, first_items(64)),
@@ -118,48 +116,21 @@ pub fn busy_with_room() -> Vec<Case> {
     ]
 }
 
-/// The same where two writes alternate in client 7's view. A read's start keeps entries that it has
-/// looked at in 8 slots, by number and client added up: the two have two slots, or one.
-pub fn alternating() -> Vec<Case> {
-    let two_slots = session_with_room(Some(8));
-    assert_alternate(&two_slots, [Stamp::new(2, 8), Stamp::new(1, 7)]);
-    let one_slot = session_with_room(Some(7));
-    assert_alternate(&one_slot, [Stamp::new(2, 7), Stamp::new(1, 8)]);
-    vec![
-        read(READ_OF_4, &two_slots, 7, SHEET),
-        read(READ_OF_64, &two_slots, 7, first_items(64)),
-        read(READ_OF_64_IN_ONE_SLOT, &one_slot, 7, first_items(64)),
-        check(CHECK, &two_slots),
-    ]
-}
-
-fn assert_alternate(session: &Session, stamps: [Stamp; 2]) {
-    let view = session.tables().view(7)[..60].iter();
-    assert!(view.map(|entry| entry.stamp).eq(stamps.into_iter().cycle().take(60)));
-}
-
 /// With client 7's read under way too: 32 gets and 32 gots more.
 fn busy_session() -> Session {
-    let mut session = session_with_room(None);
+    let mut session = session_with_room();
     session.start_read(7, first_items(64));
     session.deliver(GET, 7, 32);
     session
 }
 
-/// Every second of the first 60 items.
-const EVERY_SECOND: u64 = 0x0555_5555_5555_5555;
-
-/// Every client has written 60 items, or, if one is named, that one every second of them, twice,
-/// when the others have; and all have read all 64. Then writes by 2 and 3 whose 15 commits lie in
-/// the pile, writes by 4, 5 and 6 under way with 4 and 1 prepared replies and 4 prepares, and reads
-/// by 3 and 8 with 31 gets and a got.
-fn session_with_room(by_halves: Option<u64>) -> Session {
+/// Every client has written 60 items, in five writes of every fifth, and read all 64. Then writes
+/// by 2 and 3 whose 15 commits lie in the pile, writes by 4, 5 and 6 under way with 4 and 1
+/// prepared replies and 4 prepares, and reads by 3 and 8 with 31 gets and a got.
+fn session_with_room() -> Session {
     let mut session = Session::fresh(8, 8, 64);
-    let whole = (1..=8).filter(|client| Some(*client) != by_halves);
-    let halves = by_halves.into_iter().flat_map(|client| [(client, EVERY_SECOND); 2]);
-    for (client, set) in whole.map(|client| (client, first_items(60))).chain(halves) {
-        session.write(client, set);
-        session.deliver_all();
+    for client in 1..=8 {
+        session.write_first(client, 60);
     }
     for client in 1..=8 {
         session.read(client, first_items(64));

@@ -3,7 +3,8 @@
 
 use crate::call::{rows, Row};
 use crate::cases::{read, Case};
-use crate::session::{first_items, Session, COMMIT, PREPARE};
+use crate::session::{first_items, Session, PREPARE};
+use koolvent_model::store::tables::WIDEST_WRITE;
 
 /// A point of a curve: how many there are, and what the call costs.
 pub struct Point {
@@ -23,8 +24,7 @@ pub fn versions() -> Vec<Point> {
     let mut cases = Vec::new();
     for count in (0..=512).step_by(64) {
         if count > 0 {
-            session.write(1, first_items(64));
-            session.deliver(COMMIT, 1, 8);
+            session.write_first(1, 64);
         }
         assert_eq!(session.tables().versions.len() as u64, count);
         cases.push((count, read("versions", &session, 8, 0b1111)));
@@ -32,20 +32,24 @@ pub fn versions() -> Vec<Point> {
     points(cases)
 }
 
-/// 0 to 120 messages, as many prepares, prepared replies and gets, and up to 40 versions of 64
-/// items.
+/// 0 to 120 messages: as many prepares as prepared replies, of three writes each, and gets; up to
+/// 36 versions of 64 items.
 pub fn messages() -> Vec<Point> {
     let mut cases = Vec::new();
-    for third in (0..=40).step_by(5) {
+    for count in (0..=120).step_by(15) {
         let mut session = Session::fresh(8, 8, 64);
-        if third > 0 {
-            session.start_write(1, first_items(third));
-            session.start_write(2, first_items(third));
-            session.deliver(PREPARE, 2, third as u32);
-            session.start_read(3, first_items(third));
+        if count > 0 {
+            let written = (count / 9).min(WIDEST_WRITE);
+            for client in 1..=6 {
+                session.start_write(client, first_items(written));
+            }
+            for client in 4..=6 {
+                session.deliver(PREPARE, client, written as u32);
+            }
+            session.start_read(7, first_items(count - 6 * written));
         }
-        assert_eq!(session.tables().messages.len() as u64, 3 * third);
-        cases.push((3 * third, read("messages", &session, 8, 0b1111)));
+        assert_eq!(session.tables().messages.len() as u64, count);
+        cases.push((count, read("messages", &session, 8, 0b1111)));
     }
     points(cases)
 }
@@ -55,8 +59,7 @@ pub fn items() -> Vec<Point> {
     let mut cases = Vec::new();
     for count in [1, 8, 16, 24, 32, 40, 48, 56, 64] {
         let mut session = Session::fresh(8, 8, count);
-        session.write(1, first_items(count));
-        session.deliver_all();
+        session.write_first(1, count);
         cases.push((count, read("items", &session, 8, first_items(count))));
     }
     points(cases)

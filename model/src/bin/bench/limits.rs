@@ -101,7 +101,7 @@ fn named<'a>(rows: &'a [Row], name: &str) -> &'a Row {
 }
 
 /// How many times a read of 4 items the start of that name is.
-pub fn wide_read(rows: &[Row], name: &str) -> Figure {
+fn wide_read(rows: &[Row], name: &str) -> Figure {
     let [wide, narrow] = [name, READ_OF_4].map(|name| named(rows, name).store);
     Figure { quickest: wide.quickest / narrow.quickest, median: wide.median / narrow.median }
 }

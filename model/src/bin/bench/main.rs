@@ -23,7 +23,6 @@ fn main() {
         small: call::rows(&cases::small()),
         busy: call::rows(&cases::busy()),
         busy_with_room: call::rows(&cases::busy_with_room()),
-        alternating: call::rows(&cases::alternating()),
         sheets: sheet::rows(),
         slowest: judges::slowest(),
         versions: growth::versions(),

@@ -1,9 +1,8 @@
 //! docs/PERFORMANCE.md: the text of page.md, with what was measured in its places.
 
-use crate::cases::{READ_OF_64, READ_OF_64_IN_ONE_SLOT};
 use crate::clock::Figure;
 use crate::growth::Point;
-use crate::limits::{limits, wide_read};
+use crate::limits::limits;
 use crate::{call, judges, machine, sheet};
 use std::fmt::Write as _;
 use std::{fs, io};
@@ -17,8 +16,6 @@ pub struct Measured {
     pub busy: Vec<call::Row>,
     /// On the busy block before its widest read.
     pub busy_with_room: Vec<call::Row>,
-    /// There, where two writes alternate in the view.
-    pub alternating: Vec<call::Row>,
     /// On a fresh sheet, and over the life of one.
     pub sheets: Vec<sheet::Row>,
     pub slowest: judges::Row,
@@ -59,17 +56,11 @@ pub fn page(measured: &Measured) -> String {
             "The busy block before client 7 reads all 64 items: 500 versions, 56 messages",
             &measured.busy_with_room,
         ),
-        calls_table(
-            "The same, with every second item of client 7's view by another write",
-            &measured.alternating,
-        ),
         sheets_table(&measured.sheets),
         judges_table(&measured.slowest),
     ];
     TEXT.replace("{machine}", &machine::class())
         .replace("{limits}", &limits_table(measured))
-        .replace("{alternating}", &alternating(measured, READ_OF_64))
-        .replace("{one slot}", &alternating(measured, READ_OF_64_IN_ONE_SLOT))
         .replace("{cannot}", &cannot(measured))
         .replace("{tables}\n", &tables.join("\n"))
 }
@@ -90,11 +81,6 @@ fn limits_table(measured: &Measured) -> String {
         line(&mut text, &[&limit.limit, &limit.quickest, &limit.median, met]);
     }
     text
-}
-
-/// How many times a read of 4 items a wide one is where stamps alternate.
-fn alternating(measured: &Measured, name: &str) -> String {
-    format!("{:.2}", wide_read(&measured.alternating, name).quickest)
 }
 
 /// What the floor leaves, beside SQLite.

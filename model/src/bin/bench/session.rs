@@ -3,7 +3,7 @@
 use koolvent_model::answer::Answer;
 use koolvent_model::layout::encode;
 use koolvent_model::store::message::Message;
-use koolvent_model::store::tables::{Sizes, Tables};
+use koolvent_model::store::tables::{Sizes, Tables, WIDEST_WRITE};
 use koolvent_model::store::Store;
 
 /// Kinds of messages.
@@ -57,6 +57,18 @@ impl Session {
         self.start_write(client, set);
         self.deliver(PREPARE, client, set.count_ones());
         self.deliver(PREPARED, client, set.count_ones());
+    }
+
+    /// Writes the first items, in as few writes as can be; all messages are delivered. Where there
+    /// are several, neighbours are in different ones, so that no two entries of a view in a row are
+    /// alike.
+    pub fn write_first(&mut self, client: u64, items: u64) {
+        let writes = items.div_ceil(WIDEST_WRITE);
+        for first in 0..writes {
+            let apart = (first..items).step_by(writes as usize);
+            self.write(client, apart.map(|item| 1 << item).sum());
+            self.deliver_all();
+        }
     }
 
     /// Delivers so many messages of the kind and client, each time the first.

@@ -14,11 +14,12 @@ const OUTCOME: u64 = 1 << 32;
 
 #[test]
 fn a_number_that_no_such_call_answers_is_found() {
-    for number in [15, 16, 255, 1 << 24, 8 + (1 << 8), u64::MAX] {
+    for number in [15, 16, 18, 255, 1 << 24, 8 + (1 << 8), u64::MAX] {
         breaks(Clause::Answer, WRITE, |events| {
             events[WRITE].answer = number;
         });
     }
+    breaks(Clause::Answer, READ, |events| events[READ].answer = 17);
     breaks(Clause::Answer, FIRST_PREPARE, |events| {
         events[FIRST_PREPARE].answer |= 1 << 40;
     });

@@ -44,14 +44,11 @@ fn a_start_up_to_a_load_of_128_is_accepted_and_past_it_is_8() {
     let tables = with_replies_come(WRITING, 5);
     let fits = first_items(128 - 63 - 5);
     let over = first_items(128 - 63 - 5 + 1);
-    let values = [0; 256];
     accepted(&tables, start_read(1, fits));
     refused(&tables, 8, start_read(1, over));
-    let write = |set: u64| (set, &values[..4 * set.count_ones() as usize]);
-    let (set, bytes) = write(fits);
-    accepted(&tables, start_write(1, set, bytes));
-    let (set, bytes) = write(over);
-    refused(&tables, 8, start_write(1, set, bytes));
+    let tables = with_replies_come(WRITING, 54);
+    accepted(&tables, start_write(1, first_items(11), &[0; 44]));
+    refused(&tables, 8, start_write(1, first_items(12), &[0; 48]));
 }
 
 #[test]
@@ -97,11 +94,11 @@ fn with_versions(stored: u64, prepares: u64) -> Tables {
 
 #[test]
 fn a_write_up_to_512_versions_and_prepares_is_accepted_and_past_them_is_9() {
-    for (stored, prepares) in [(500, 0), (480, 20), (450, 50)] {
+    for (stored, prepares) in [(501, 0), (481, 20), (451, 50)] {
         let tables = with_versions(stored, prepares);
-        accepted(&tables, start_write(2, first_items(12), &[0; 48]));
-        refused(&tables, 9, start_write(2, first_items(13), &[0; 52]));
-        accepted(&tables, start_read(2, first_items(13)));
+        accepted(&tables, start_write(2, first_items(11), &[0; 44]));
+        refused(&tables, 9, start_write(2, first_items(12), &[0; 48]));
+        accepted(&tables, start_read(2, first_items(12)));
     }
 }
 

@@ -5,6 +5,7 @@ mod capacities;
 mod deliveries;
 mod order;
 mod starts;
+mod width;
 
 use crate::support::made;
 use koolvent_model::answer::Answer;

@@ -6,9 +6,10 @@ use koolvent_model::stamp::{Entry, Stamp};
 use koolvent_model::store::message::Message;
 use koolvent_model::store::tables::{Ended, Sizes, Tables, READ, READING};
 
-/// Tables on which every refusal of a start applies to client 1 and the empty set, and to client 9.
+/// Tables of thirteen items on which every refusal of a start applies to client 1 and the empty
+/// set, and to client 9.
 fn everything_amiss() -> Tables {
-    let mut tables = tables_with_versions(Sizes::new(2, 2, 2), 512);
+    let mut tables = tables_with_versions(Sizes::new(2, 2, 13), 512);
     tables.client_mut(1).count = 4_294_967_295;
     tables.client_mut(1).mode = READING;
     tables.client_mut(1).set = 1;
@@ -25,7 +26,8 @@ fn idle(mut tables: Tables) -> Tables {
 }
 
 #[test]
-fn a_write_is_tested_1_3_4_5_6_7_8_9() {
+fn a_write_is_tested_1_3_4_5_6_17_7_8_9() {
+    let (thirteen, fourteen) = ((1 << 13) - 1, (1 << 14) - 1);
     let mut damaged = everything_amiss();
     damaged.messages.push(damaged.messages[0]);
     refused(&damaged, 1, start_write(9, 0, &[0]));
@@ -34,13 +36,16 @@ fn a_write_is_tested_1_3_4_5_6_7_8_9() {
     refused(&tables, 4, start_write(1, 0, &[0]));
     tables = idle(tables);
     refused(&tables, 5, start_write(1, 0, &[0]));
-    refused(&tables, 5, start_write(1, 4, &[0]));
-    refused(&tables, 6, start_write(1, 1, &[0]));
+    refused(&tables, 5, start_write(1, fourteen, &[0; 56]));
+    refused(&tables, 6, start_write(1, thirteen, &[0; 48]));
+    refused(&tables, 17, start_write(1, thirteen, &[0; 52]));
     refused(&tables, 7, start_write(1, 1, &[0; 4]));
     tables.client_mut(1).count = 5;
     tables.view_mut(1)[1] = entry(4_294_967_295, 2, &[1]);
+    refused(&tables, 17, start_write(1, thirteen, &[0; 52]));
     refused(&tables, 7, start_write(1, 1, &[0; 4]));
     tables.view_mut(1)[1] = Entry::INITIAL;
+    refused(&tables, 17, start_write(1, thirteen, &[0; 52]));
     refused(&tables, 8, start_write(1, 1, &[0; 4]));
     tables.messages.pop();
     refused(&tables, 9, start_write(1, 1, &[0; 4]));
