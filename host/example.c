@@ -9,7 +9,8 @@
  * corrects tape speed and equaliser curve, which must never be seen apart, while the afternoon client reads on. When
  * all has arrived both read again, and have the same sheet. At last the afternoon client, which has written nothing so
  * far, corrects the curve that it has read: its one write is later than both of the morning client's, and is what it
- * reads from then on, and the morning client once it has learnt of it.
+ * reads from then on, and the morning client once it has learnt of it. By then nobody knows of the first correction any
+ * more: it is cleared away, and both read the sheet as it was.
  */
 #include <inttypes.h>
 #include <stdio.h>
@@ -222,6 +223,18 @@ static void deliver(struct shift *shift, size_t place)
             show_ended(shift, client);
 }
 
+/* Clears away the versions that nothing names any more, as a host does when KOOLVENT_REFUSED_VERSIONS meets a write, or
+ * sooner. */
+static void clear(struct shift *shift, unsigned expected)
+{
+    uint64_t answer = accepted(koolvent_clear(shift->block, KOOLVENT_WORDS), "a clearing");
+
+    if (koolvent_cleared_versions(answer) != expected)
+        fail("other versions than the first correction's are cleared away");
+    if (shift->aloud)
+        printf("%u versions are cleared away\n", koolvent_cleared_versions(answer));
+}
+
 static unsigned can_start(const struct client *client)
 {
     return !client->busy && client->plans_left > 0;
@@ -304,6 +317,12 @@ static void play(struct shift *shift, uint64_t seed, int aloud)
     run(shift);
     part(shift, "its next read shows the correction, and so does the morning client's, once it has learnt of it");
     plan(shift, MORNING, reads, 2);
+    plan(shift, AFTERNOON, reads, 1);
+    run(shift);
+    compare_sheets(shift, AFTERNOON);
+    part(shift, "nobody knows of the first correction any more: it is cleared away, and both read as before");
+    clear(shift, 2);
+    plan(shift, MORNING, reads, 1);
     plan(shift, AFTERNOON, reads, 1);
     run(shift);
     compare_sheets(shift, AFTERNOON);

@@ -41,7 +41,7 @@
  *   - between calls the host leaves the block's words as they are. It may copy them: a copy of all KOOLVENT_WORDS words,
  *     wherever it lies, is a store like the first and goes on from there by itself.
  *
- * Link with libstore.a (the five calls on a block) and libjudge.a (the judge); installed, with -lkoolvent_store and
+ * Link with libstore.a (the calls on a block) and libjudge.a (the judge); installed, with -lkoolvent_store and
  * -lkoolvent_judge, or by pkg-config: koolvent. For Linux on x86-64.
  */
 #ifndef KOOLVENT_H
@@ -69,7 +69,8 @@ extern "C" {
 #define KOOLVENT_MOST_WRITE_ITEMS 12
 
 /* The greatest load: messages in flight (the pile), and for each write under way the items whose prepared reply has
- * come. And the most stored versions, prepares in flight counted with them: no version is ever taken away. */
+ * come. And the most stored versions, prepares in flight counted with them: koolvent_clear takes away those that
+ * nothing names any more, and nothing else takes one away. */
 #define KOOLVENT_MOST_LOAD 128
 #define KOOLVENT_MOST_VERSIONS 512
 
@@ -119,9 +120,11 @@ enum koolvent_refusal {
     KOOLVENT_REFUSED_COUNT = 7,
     /* A start: the load would exceed KOOLVENT_MOST_LOAD. Deliver, and try again. */
     KOOLVENT_REFUSED_LOAD = 8,
-    /* koolvent_start_write: versions would exceed KOOLVENT_MOST_VERSIONS. Reads go on; for writes, copy the sheet
-     * to a fresh block, in several writes if it has more than KOOLVENT_MOST_WRITE_ITEMS items: reads between them show
-     * it in part. */
+    /* koolvent_start_write: versions would exceed KOOLVENT_MOST_VERSIONS. Clear old ones away with koolvent_clear, and
+     * try again. If that frees too few, the others are in use: deliver what is in flight and let every client read, so
+     * that they know of later writes, and clear again. What they know stays, and if that is too much, copy the sheet to
+     * a fresh block, in several writes if it has more than KOOLVENT_MOST_WRITE_ITEMS items: reads between them show it
+     * in part. Reads go on meanwhile. */
     KOOLVENT_REFUSED_VERSIONS = 9,
     /* koolvent_deliver: no message lies at that place. */
     KOOLVENT_REFUSED_PLACE = 10,
@@ -150,7 +153,7 @@ static inline unsigned koolvent_refusal(uint64_t answer)
     return (unsigned)(answer & 0xff);
 }
 
-/* ---- The five calls on a block ----
+/* ---- The calls on a block ----
  *
  * A set holds item k as the bit worth 2 to the power k. Of several refusals that apply to a call the lowest is given,
  * but for koolvent_fresh, where 2 goes before 1, and koolvent_start_write, where 17 goes between 6 and 7. */
@@ -176,6 +179,13 @@ uint64_t koolvent_deliver(uint64_t *block, size_t words, uint64_t place);
 /* Writes the log frame of the client's last ended transaction to the front of the output; bytes past the frame stay as
  * they are. Refused by 1, 3, 4, 13 and 14. */
 uint64_t koolvent_show(const uint64_t *block, size_t words, uint64_t client, uint8_t *output, size_t room);
+
+/* Takes away exactly those stored versions whose write, by number and client, is not the newest that a client knows of
+ * any item, not the latest of any item, in no message in flight and not under way. The others stay, in their order, and
+ * the places freed serve the next writes. It may be called at any time: every read still ends after its own replies,
+ * unfractured, no delivery is refused for it, and what a client ended last can still be shown. Refused by 1 alone. It
+ * takes some 40,000 bytes of stack. */
+uint64_t koolvent_clear(uint64_t *block, size_t words);
 
 /* ---- What an accepted call answers ---- */
 
@@ -231,6 +241,12 @@ static inline size_t koolvent_shown_bytes(uint64_t answer)
     return (size_t)(answer >> 8 & 0xffff);
 }
 
+/* After a clearing: how many versions went. */
+static inline unsigned koolvent_cleared_versions(uint64_t answer)
+{
+    return (unsigned)(answer >> 8 & 0xffff);
+}
+
 /* ---- The judge ---- */
 
 /* What is wrong with a read of the log. */
@@ -245,8 +261,8 @@ enum koolvent_finding {
 };
 
 /* Judges a log, whoever wrote it: the first read at fault, and there the lowest of the findings above. Refused by 15
- * and 16, the latter tested first. It takes some 21,000 bytes of stack; the calls on a block take less than 1,100, of
- * which 512 are a stamp for each item when a read starts. */
+ * and 16, the latter tested first. It takes some 21,000 bytes of stack; the calls on a block, but for koolvent_clear,
+ * take less than 1,100, of which 512 are a stamp for each item when a read starts. */
 uint64_t koolvent_judge(const uint8_t *log, size_t length);
 
 /* After an accepted judging: an enum koolvent_finding. */

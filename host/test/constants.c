@@ -156,6 +156,12 @@ static void starts(void)
     }
     SAME(write_items(1, 1, 4), KOOLVENT_REFUSED_VERSIONS);
     SAME(versions, KOOLVENT_MOST_VERSIONS);
+    answer = koolvent_clear(block, WORDS);
+    SAME(koolvent_refusal(answer), KOOLVENT_ACCEPTED);
+    SAME(koolvent_cleared_versions(answer), versions - 8);
+    SAME(koolvent_cleared_versions(koolvent_clear(block, WORDS)), 0);
+    SAME(koolvent_refusal(write_items(1, first(8), 32)), KOOLVENT_ACCEPTED);
+    SAME(koolvent_clear(block, KOOLVENT_WORDS - 1), KOOLVENT_REFUSED_BLOCK);
 }
 
 /* Refusals that no block gives which only the calls have written. The words are those of docs/LAYOUT.md. */

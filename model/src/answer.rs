@@ -24,6 +24,10 @@ pub enum Answer {
     Shown {
         length: u64,
     },
+    /// How many stored versions went.
+    Cleared {
+        gone: u64,
+    },
 }
 
 impl Answer {
@@ -38,6 +42,7 @@ impl Answer {
                 kind << 8 | messages << 16 | outcome << 32
             }
             Answer::Shown { length } => length << 8,
+            Answer::Cleared { gone } => gone << 8,
         }
     }
 
@@ -55,25 +60,28 @@ impl Answer {
                 outcome: number >> 32 & 0xff,
             },
             Call::Show { .. } => Answer::Shown { length: number >> 8 & 0xffff },
+            Call::Clear => Answer::Cleared { gone: number >> 8 & 0xffff },
         };
-        let is_given = match answer.refusal() {
-            17 => matches!(call, Call::Write { .. }),
-            refusal => refusal <= 14,
+        let is_given = match (call, answer.refusal()) {
+            (Call::Clear, refusal) => refusal <= 1,
+            (call, 17) => matches!(call, Call::Write { .. }),
+            (_, refusal) => refusal <= 14,
         };
         (answer.number() == number && is_given).then_some(answer)
     }
 
     /// The bytes that a driver prints, of a call with this output.
     pub fn bytes(self, output: &[u8]) -> Vec<u8> {
-        let length = |messages: u64| [(messages >> 8) as u8, messages as u8];
+        let two_bytes = |number: u64| [(number >> 8) as u8, number as u8];
         match self {
             Answer::Refused(refusal) => vec![refusal as u8],
             Answer::Fresh => vec![0],
-            Answer::Started { messages } => [&[0], &length(messages)[..]].concat(),
+            Answer::Started { messages } => [&[0], &two_bytes(messages)[..]].concat(),
             Answer::Delivered { kind, messages, outcome } => {
-                [&[0, kind as u8], &length(messages)[..], &[outcome as u8]].concat()
+                [&[0, kind as u8], &two_bytes(messages)[..], &[outcome as u8]].concat()
             }
             Answer::Shown { length } => [&[0], &output[..length as usize]].concat(),
+            Answer::Cleared { gone } => [&[0], &two_bytes(gone)[..]].concat(),
         }
     }
 

@@ -1,4 +1,4 @@
-//! The five calls on a lent block of words, whoever serves them.
+//! The calls on a lent block of words, whoever serves them.
 
 use crate::answer::Answer;
 use crate::call::{Call, Event};
@@ -7,13 +7,14 @@ use crate::store::fault::Fault;
 use crate::store::tables::Sizes;
 use crate::store::Store;
 
-/// Whoever serves the five calls. Each answers the number of its answer.
+/// Whoever serves the calls. Each answers the number of its answer.
 pub trait Calls {
     fn fresh(&self, block: &mut [u64], clients: u64, partitions: u64, items: u64) -> u64;
     fn start_read(&self, block: &mut [u64], client: u64, set: u64) -> u64;
     fn start_write(&self, block: &mut [u64], client: u64, set: u64, values: &[u8]) -> u64;
     fn deliver(&self, block: &mut [u64], place: u64) -> u64;
     fn show(&self, block: &[u64], client: u64, output: &mut [u8]) -> u64;
+    fn clear(&self, block: &mut [u64]) -> u64;
 
     /// Makes the call, with this output for a showing.
     #[inline]
@@ -26,6 +27,7 @@ pub trait Calls {
             Call::Write { client, set, values } => self.start_write(block, *client, *set, values),
             Call::Deliver { place } => self.deliver(block, *place),
             Call::Show { client, .. } => self.show(block, *client, output),
+            Call::Clear => self.clear(block),
         }
     }
 }
@@ -58,7 +60,7 @@ impl Modelled {
         })
     }
 
-    /// A start, or the delivery of the message at a place.
+    /// A start, a clearing, or the delivery of the message at a place.
     fn step(
         &self,
         block: &mut [u64],
@@ -104,5 +106,9 @@ impl Calls for Modelled {
             Ok(store) => store.show(client, output).number(),
             Err(refusal) => refusal.number(),
         }
+    }
+
+    fn clear(&self, block: &mut [u64]) -> u64 {
+        self.step(block, None, Store::clear)
     }
 }

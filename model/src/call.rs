@@ -28,6 +28,8 @@ pub enum Call {
         client: u64,
         output: Vec<u8>,
     },
+    /// Drops the stored versions that nothing names any more.
+    Clear,
 }
 
 impl Call {

@@ -60,6 +60,11 @@ pub enum Clause {
     /// No entry is older than what a read of the client that ended before this one's start showed
     /// for that item.
     WentBack { item: u64 },
+    /// A clearing is accepted, and no more versions go than are stored.
+    Clearing,
+    /// A write isn't refused by 9 that has no more items than a clearing freed places, less those
+    /// of writes started since.
+    FreedPlaces,
 }
 
 /// The first event that breaks a clause, counted from 0, and the clause.
@@ -81,6 +86,10 @@ pub struct Summary {
     pub corrections: usize,
     /// Entries shown of items that an earlier read of the client had shown written.
     pub shown_again: usize,
+    /// Versions that clearings took away.
+    pub gone: u64,
+    /// Writes accepted that 9 would have refused if no version had gone.
+    pub served: usize,
 }
 
 /// Whether the events keep every clause of condition 3. The first is an accepted fresh; another

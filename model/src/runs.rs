@@ -57,6 +57,10 @@ struct Runner<'a, 'b> {
     sort: Sort,
     sizes: Sizes,
     order: Order,
+    /// Before so many calls in a hundred there is a clearing.
+    clearings: u64,
+    /// A write that 9 refuses is followed by a clearing and tried again.
+    clears_when_full: bool,
     log_lines: usize,
     run: Run,
     watch: &'a mut Watch<'b>,
@@ -123,11 +127,15 @@ impl<'a, 'b> Runner<'a, 'b> {
             4 => Order::ClientLast(random.between(1, sizes.clients)),
             _ => Order::Any,
         };
+        let clearings = random.pick(&[0, 0, 2, 15]);
+        let clears_when_full = random.percent(50);
         Runner {
             random,
             sort,
             sizes,
             order,
+            clearings,
+            clears_when_full,
             log_lines: 0,
             run: Run {
                 events: Vec::new(),
@@ -141,6 +149,9 @@ impl<'a, 'b> Runner<'a, 'b> {
     }
 
     fn call_something(&mut self) {
+        if self.random.percent(self.clearings) {
+            self.call(Call::Clear);
+        }
         match self.random.below(100) {
             0..60 => self.deliver_next(),
             60..90 => self.start(),
@@ -156,6 +167,7 @@ impl<'a, 'b> Runner<'a, 'b> {
         self.call(fresh(true, 9));
         self.call(fresh(false, clients));
         self.call(Call::Read { client: 1, set: 1 });
+        self.call(Call::Clear);
         self.run.events.clear();
         self.call(fresh(true, clients));
     }

@@ -1,6 +1,7 @@
-//! The store on plain tables: five calls, each a check against the refusal table and then a step.
+//! The store on plain tables: calls, each a check against the refusal table and then a step.
 
 mod calls;
+mod clear;
 pub mod fault;
 pub mod message;
 pub mod range;

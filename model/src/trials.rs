@@ -1,15 +1,17 @@
-//! Trials of whoever serves the five calls on a block, or tells valid blocks from others: held
+//! Trials of whoever serves the calls on a block, or tells valid blocks from others: held
 //! against the model, call by call and word by word.
 
 mod agreement;
 mod brimming;
 mod busy;
+pub mod clearings;
 pub mod damage;
 pub mod edges;
 mod leftovers;
 mod met;
 pub mod range;
 pub mod runs;
+mod sparing;
 
 pub use brimming::brimming;
 pub use busy::Busy;

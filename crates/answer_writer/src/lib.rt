@@ -70,6 +70,7 @@ fn put_into(out: &mut [u8], a: Answer, shown: &[u8]) -> usize
             kind % 256 * 16777216 + length % 65536 * 256 + outcome % 256,
         ),
         Answer::Shown { length } => put_shown(out, front(shown, length)),
+        Answer::Cleared { gone } => put_line(out, 3, gone % 65536),
     }
 }
 

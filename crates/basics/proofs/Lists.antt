@@ -1,7 +1,8 @@
--- Lists with a test: membership, all, how many, the list without a place; numbers below a bound
--- with a test. Each definition is followed by its laws.
+-- Lists with a test: membership, all, how many, the list without a place, the list without those
+-- that pass; numbers below a bound with a test. Each definition is followed by its laws.
 use mathlib.Core.Bool.{Bool, true, false, cond}
-use mathlib.Core.List.{List, [], _∷_, _++_, map}
+use mathlib.Core.List.{List, [], _∷_, _++_, map, Sublistᴰ, Sublistᴰ·slnil, Sublistᴰ·cons}
+use mathlib.Core.List.{Sublistᴰ·cons-cons}
 use mathlib.Core.Logic.{_⊎_, inl, inr, ⊎-elim}
 use mathlib.Core.Path.{_≡_, refl, sym, ap, _∙_, subst}
 use Prim.Native.Nat.{ℕ, zero, suc, _+_, _≤_, _<_, zero-le}
@@ -12,7 +13,7 @@ use lib.Seq.{getD-at}
 use lib.Dec.{eqb}
 use borrow.Author.Tests.{eqb-true, eqb-false}
 use Rattle.basics.proofs.Cases.{by-test, and-left, and-right, and-both}
-use Rattle.basics.specs.Lists.{In, all, counted, without, table, every}
+use Rattle.basics.specs.Lists.{In, all, counted, without, dropped, table, every}
 
 module _ {A : Type 0} where
   -- ---- In: x is an element of a list
@@ -129,6 +130,52 @@ module _ {A : Type 0} where
       → all p (without i xs) ≡ true
   all-without p i xs e = in-all p (without i xs) (λ x h. all-in p xs e x (in-without x i xs h))
 
+  -- ---- a list with elements taken out, the others in their order
+
+  pub sublist-in : {xs ys : List A} → Sublistᴰ xs ys → (x : A) → In x xs → In x ys
+  sublist-in Sublistᴰ·slnil x i = i
+  sublist-in (Sublistᴰ·cons s) x i = inr (sublist-in s x i)
+  sublist-in (Sublistᴰ·cons-cons e s) x (inl f) = inl (f ∙ e)
+  sublist-in (Sublistᴰ·cons-cons e s) x (inr i) = inr (sublist-in s x i)
+
+  pub length-sublist : {xs ys : List A} → Sublistᴰ xs ys → length xs ≤ length ys
+  length-sublist Sublistᴰ·slnil = zero-le
+  length-sublist (Sublistᴰ·cons s) = omega (arith, length-sublist s)
+  length-sublist (Sublistᴰ·cons-cons e s) = omega (arith, length-sublist s)
+
+  -- ---- dropped: the elements that don't pass the test, in their order
+
+  pub dropped-sublist : (p : A → Bool) (xs : List A) → Sublistᴰ (dropped p xs) xs
+  unfolding dropped
+  dropped-sublist p [] = Sublistᴰ·slnil
+  dropped-sublist p (x ∷ xs) =
+      by-test (p x) (λ e. rw e (Sublistᴰ·cons (dropped-sublist p xs)))
+      (λ e. rw e (Sublistᴰ·cons-cons refl (dropped-sublist p xs)))
+
+  -- what doesn't pass stays, and what passes is gone
+  pub in-dropped : (p : A → Bool) (xs : List A) (x : A) → In x xs → p x ≡ false
+      → In x (dropped p xs)
+  unfolding dropped
+  in-dropped p [] x i e = i
+  in-dropped p (y ∷ ys) x (inl i) e = rw (subst (λ (z : A). p z ≡ false) i e) (inl i)
+  in-dropped p (y ∷ ys) x (inr i) e =
+      by-test (p y) (λ t. rw t (in-dropped p ys x i e)) (λ t. rw t (inr (in-dropped p ys x i e)))
+
+  pub dropped-in : (p : A → Bool) (xs : List A) (x : A) → In x (dropped p xs) → p x ≡ false
+  unfolding dropped
+  dropped-in p [] x i = absurd i
+  dropped-in p (y ∷ ys) x i =
+      by-test (p y) (λ t. dropped-in p ys x (rw t at i))
+      (λ t. ⊎-elim (λ e. subst (λ (z : A). p z ≡ false) (sym e) t) (dropped-in p ys x) (rw t at i))
+
+  pub length-dropped : (p : A → Bool) (xs : List A)
+      → length (dropped p xs) + counted p xs ≡ length xs
+  unfolding dropped counted
+  length-dropped p [] = refl
+  length-dropped p (x ∷ xs) =
+      by-test (p x) (λ e. rw e (omega (arith, length-dropped p xs)))
+      (λ e. rw e (omega (arith, length-dropped p xs)))
+
 -- ---- map
 
 pub in-map : {A B : Type 0} (f : A → B) (y : B) (xs : List A) → In y (map f xs) → (x : A) × In x xs
@@ -182,6 +229,11 @@ table-at (suc n) f i d h =
     (λ e. let below : i < n = omega (arith, eqb-false i n e) in
     List·getD-append (table n f) (f n ∷ []) d i
     (subst (λ (m : ℕ). i < m) (sym (length-table n f)) below) ∙ table-at n f i d below)
+
+pub in-table : {A : Type 0} (n : ℕ) (f : ℕ → A) (i : ℕ) → i < n → In (f i) (table n f)
+in-table {A} n f i l =
+    subst (λ (x : A). In x (table n f)) (table-at n f i (f i) l)
+    (in-getD (table n f) i (f i) (omega (arith, length-table n f)))
 
 pub table-ext : {A : Type 0} (n : ℕ) (f g : ℕ → A) → ((i : ℕ) → i < n → f i ≡ g i)
     → table n f ≡ table n g

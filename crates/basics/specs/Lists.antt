@@ -1,5 +1,5 @@
--- Lists with a test: membership, all, how many, the list without a place; numbers below a bound
--- with a test.
+-- Lists with a test: membership, all, how many, the list without a place, the list without those
+-- that pass; numbers below a bound with a test.
 use mathlib.Core.Bool.{Bool, true, cond, _&&_}
 use mathlib.Core.List.{List, [], _∷_, _++_}
 use mathlib.Core.Logic.{_⊎_}
@@ -31,6 +31,12 @@ module _ {A : Type 0} where
   without i [] = []
   without zero (x ∷ xs) = xs
   without (suc i) (x ∷ xs) = x ∷ without i xs
+
+  -- ---- dropped: the elements that don't pass the test, in their order
+
+  unfoldable pub dropped : (A → Bool) → List A → List A
+  dropped p [] = []
+  dropped p (x ∷ xs) = let rest = dropped p xs in cond (p x) rest (x ∷ rest)
 
 -- ---- table: f of each number below n, ascending
 

@@ -78,7 +78,7 @@ module _ (b : List ℕ) (c : Call) (e : refusalOn b c ≡ 0) where
   -- the messages that the changed block counts
   pub count-accepted : at (changed b c) header messagesAt ≡ length (effect (tablesOf b) c .messages)
   count-accepted =
-      encodes-changed b (tablesOf b) c (accepted-holds .encodes) accepted-tables .messageCount
+      encodes-changed b (tablesOf b) c refl (accepted-holds .encodes) accepted-tables .messageCount
 
 -- ---- refused
 

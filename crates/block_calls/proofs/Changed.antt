@@ -4,20 +4,27 @@ use mathlib.Core.Path.{_≡_}
 use Prim.Native.Nat.{ℕ}
 use Rattle.protocol.specs.Tables.{Tables}
 use Rattle.protocol.specs.Range.{capacities}
-use Rattle.protocol.specs.Calls.{Call, startRead, startWrite, deliver, show, refusal, effect}
+use Rattle.protocol.specs.Calls.{Call, startRead, startWrite, deliver, show, clear, refusal}
+use Rattle.protocol.specs.Calls.{effect}
 use Rattle.protocol.proofs.Refusals.{accepted-read, accepted-write, accepted-deliver}
+use Rattle.protocol.proofs.Refusals.{accepted-clear}
+use Rattle.layout.specs.Decode.{tablesOf}
 use Rattle.layout.specs.Encodes.{Encodes}
 use Rattle.start.proofs.EncodesRead.{encodes-read}
 use Rattle.start.proofs.EncodesWrite.{encodes-write}
 use Rattle.deliver.proofs.Delivered.{encodes-deliver}
+use Rattle.clear.proofs.Cleared.{encodes-clear}
 use Rattle.block_calls.specs.Calls.{changed}
 
-pub encodes-changed : (b : List ℕ) (t : Tables) (c : Call) → Encodes b t
+-- a clearing is defined by the tables that are read, so these must be the ones held
+pub encodes-changed : (b : List ℕ) (t : Tables) (c : Call) → tablesOf b ≡ t → Encodes b t
     → refusal capacities t c ≡ 0 → Encodes (changed b c) (effect t c)
 unfolding changed effect
-encodes-changed b t (startRead d s) h e =
+encodes-changed b t (startRead d s) same h e =
     encodes-read b t d s h (accepted-read capacities t d s .0 e)
-encodes-changed b t (startWrite d s bytes) h e =
+encodes-changed b t (startWrite d s bytes) same h e =
     encodes-write b t d s bytes h (accepted-write capacities t d s bytes .0 e)
-encodes-changed b t (deliver i) h e = encodes-deliver i h (accepted-deliver capacities t i .0 e)
-encodes-changed b t (show d output) h e = h
+encodes-changed b t (deliver i) same h e =
+    encodes-deliver i h (accepted-deliver capacities t i .0 e)
+encodes-changed b t (show d output) same h e = h
+encodes-changed b t clear same h e = encodes-clear b t same h (accepted-clear capacities t .0 e)

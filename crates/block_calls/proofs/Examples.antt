@@ -6,6 +6,7 @@ use Prim.Native.Nat.{ℕ, _-_}
 use lib.ListN.{length, replicate}
 use Rattle.protocol.specs.declared.Answer.{Answer}
 use Rattle.protocol.specs.declared.Answer.the-variants.{Refused, Made, Started, Delivered, Shown}
+use Rattle.protocol.specs.declared.Answer.the-variants.{Cleared}
 use Rattle.protocol.specs.Range.{sizesInRange}
 use Rattle.protocol.specs.Calls.{first, numberOfAnswer}
 use Rattle.gather.specs.Sized.{sizes}
@@ -25,13 +26,13 @@ pub fresh-rows : made ≡ Refused 2 ∷ Refused 1 ∷ Refused 1 ∷ Made ∷ Ref
 unfolding freshAnswerOn freshRefusalOn first sizesInRange
 fresh-rows = refl
 
--- bits 8..23 of a start and of a showing; 8..15, 16..31 and 32..39 of a delivery
+-- bits 8..23 of a start, of a showing and of a clearing; 8..15, 16..31 and 32..39 of a delivery
 abbrev numbers : List ℕ
 numbers =
     numberOfAnswer (Refused 14) ∷ numberOfAnswer Made ∷ numberOfAnswer (Started 258)
     ∷ numberOfAnswer (Delivered 4 3 1)
-    ∷ numberOfAnswer (Shown 586) ∷ []
+    ∷ numberOfAnswer (Shown 586) ∷ numberOfAnswer (Cleared 512) ∷ []
 
-pub number-rows : numbers ≡ 14 ∷ 0 ∷ 0x10200 ∷ 0x100030400 ∷ 0x24a00 ∷ []
+pub number-rows : numbers ≡ 14 ∷ 0 ∷ 0x10200 ∷ 0x100030400 ∷ 0x24a00 ∷ 0x20000 ∷ []
 unfolding numberOfAnswer
 number-rows = refl

@@ -7,17 +7,20 @@ use native.Mathlib.Omega.{arith}
 use Rattle.basics.proofs.Cases.{by-test}
 use Rattle.protocol.specs.declared.Answer.{Answer}
 use Rattle.protocol.specs.declared.Answer.the-variants.{Refused, Made, Started, Delivered, Shown}
+use Rattle.protocol.specs.declared.Answer.the-variants.{Cleared}
 use Rattle.protocol.specs.Tables.{Tables, Sizes}
 use Rattle.protocol.specs.Steps.{messageAt}
-use Rattle.protocol.specs.Calls.{Call, startRead, startWrite, deliver, show, Test, test, first}
-use Rattle.protocol.specs.Calls.{refusal, effect, reply, step, pick}
+use Rattle.protocol.specs.Calls.{Call, startRead, startWrite, deliver, show, clear, Test, test}
+use Rattle.protocol.specs.Calls.{first, refusal, effect, reply, step, pick}
 use Rattle.protocol.specs.Calls.{numberOfAnswer}
 use Rattle.protocol.proofs.MessageKinds.{kind-within}
 use Rattle.protocol.proofs.Delivered.{outcome-most}
+use Rattle.protocol.proofs.Refusals.{accepted-clear}
+use Rattle.protocol.proofs.Cleared.{length-cleared}
 use Rattle.protocol.proofs.Valid.{valid-kept}
 use Rattle.protocol.specs.Range.{capacities}
 use Rattle.layout.specs.Decode.{tablesOf, validBlock}
-use Rattle.encoding.proofs.Decoded.{few-messages}
+use Rattle.encoding.proofs.Decoded.{few-versions, few-messages}
 use Rattle.show.proofs.LogFrames.{length-frame-le}
 use Rattle.block_calls.specs.Calls.{freshRefusalOn, freshAnswerOn, refusalOn, answerOn, Fits}
 use Rattle.block_calls.proofs.Accepted.{answer-accepted, answer-refused}
@@ -52,6 +55,7 @@ refusal-le t (deliver i) = more 1 _ _ (omega arith)
 refusal-le t (show d output) =
     more 1 _ _ (omega arith) (more 3 _ _ (omega arith)
     (more 4 _ _ (omega arith) (more 13 _ _ (omega arith) (more 14 _ _ (omega arith) none))))
+refusal-le t clear = more 1 _ _ (omega arith) none
 
 fresh-refusal-le : (b : List ℕ) (z : Sizes) → freshRefusalOn b z ≤ 17
 unfolding freshRefusalOn
@@ -66,6 +70,7 @@ refusalOf Made = 0
 refusalOf (Started n) = 0
 refusalOf (Delivered kind n outcome) = 0
 refusalOf (Shown n) = 0
+refusalOf (Cleared n) = 0
 
 reply-fits : (t : Tables) (c : Call) → refusal capacities t c ≡ 0 → Fits (reply t c)
 unfolding reply effect
@@ -84,6 +89,8 @@ reply-fits t (deliver i) e = (
   omega (arith, outcome-most t (messageAt t i)),
 )
 reply-fits t (show d output) e = omega (arith, length-frame-le d (t .client d .last))
+reply-fits t clear e =
+    omega (arith, length-cleared t, few-versions t (accepted-clear capacities t .0 e))
 
 step-fits : (t : Tables) (c : Call) → Fits (step capacities t c .answer)
 unfolding step
@@ -115,6 +122,7 @@ low-byte Made f = refl
 low-byte (Started n) f = omega arith
 low-byte (Delivered kind n outcome) f = omega arith
 low-byte (Shown n) f = omega arith
+low-byte (Cleared n) f = omega arith
 
 reply-accepts : (t : Tables) (c : Call) → refusalOf (reply t c) ≡ 0
 unfolding refusalOf reply
@@ -122,6 +130,7 @@ reply-accepts t (startRead d s) = refl
 reply-accepts t (startWrite d s bytes) = refl
 reply-accepts t (deliver i) = refl
 reply-accepts t (show d output) = refl
+reply-accepts t clear = refl
 
 tells-refusal : (b : List ℕ) (c : Call) (r : ℕ) → refusalOn b c ≡ r → refusalOf (answerOn b c) ≡ r
 unfolding refusalOf
@@ -142,3 +151,6 @@ fits-delivered a kind n outcome e f = subst Fits e f
 
 pub fits-shown : (a : Answer) (n : ℕ) → a ≡ Shown n → Fits a → n < 2 ^ 16
 fits-shown a n e f = subst Fits e f
+
+pub fits-cleared : (a : Answer) (n : ℕ) → a ≡ Cleared n → Fits a → n < 2 ^ 16
+fits-cleared a n e f = subst Fits e f

@@ -9,11 +9,12 @@ use native.Mathlib.Omega.{arith}
 use lib.ListN.{length, drop}
 use Rattle.basics.proofs.Cases.{between}
 use Rattle.itemset.specs.Set.{count}
-use Rattle.protocol.specs.declared.Answer.the-variants.{Refused, Started, Shown}
+use Rattle.protocol.specs.declared.Answer.the-variants.{Refused, Started, Shown, Cleared}
 use Rattle.protocol.specs.Tables.{Sizes}
 use Rattle.protocol.specs.Range.{capacities, isClient, load, occupied}
-use Rattle.protocol.specs.Calls.{Call, startRead, startWrite, show, effect, reply, written, lent}
-use Rattle.protocol.specs.Calls.{pick, shownFrame}
+use Rattle.protocol.specs.Clear.{gone}
+use Rattle.protocol.specs.Calls.{Call, startRead, startWrite, show, clear, effect, reply, written}
+use Rattle.protocol.specs.Calls.{lent, pick, shownFrame, refusal, first}
 use Rattle.protocol.proofs.Ranges.Tables.{Valid, valid-facts}
 use Rattle.protocol.proofs.Refusals.{accepted-read, accepted-write, accepted-show}
 use Rattle.layout.specs.Layout.{mostVersions, mostMessages, header, at, itemsAt, messagesAt}
@@ -23,6 +24,7 @@ use Rattle.start.specs.Start.{readStarted, greatestOn, writeStarted}
 use Rattle.start.proofs.Ready.{ready-start, ready-write}
 use Rattle.show.specs.Show.{frameIn}
 use Rattle.show.proofs.LogFrames.{shownFrame-tablesOf}
+use Rattle.clear.specs.Clear.{clearedBlock}
 use Rattle.encoding.proofs.WellFormed.{client-test, tells-valid-block}
 use Rattle.block_calls.specs.Calls.{refusalOn, answerOn, outputOn, tablesAfter, changed}
 use Rattle.block_calls.specs.Calls.{blockAfter}
@@ -30,6 +32,7 @@ use Rattle.block_calls.proofs.Accepted.{valid-tables, accepted-holds, a
 use Rattle.block_calls.proofs.Accepted.{answer-accepted, output-accepted, block-accepted}
 use Rattle.block_calls.proofs.Accepted.{count-accepted, answer-refused, output-refused}
 use Rattle.block_calls.proofs.Accepted.{block-refused, tables-after, accepted-valid}
+use Rattle.block_calls.proofs.Accepted.{refusal-valid}
 use Rattle.block_calls.proofs.Tested.{sizes-read}
 
 -- ---- tests, one behind the other
@@ -212,3 +215,19 @@ module _ (b : List ℕ) (d : ℕ) (out : List ℕ) (e : refusalOn b (show d out)
     written-frame after a
         ∙ sym (output-accepted b (show d out) e),
   )
+
+-- ---- clearings
+
+-- a valid block is cleared
+pub clear-accepted : (b : List ℕ) → validBlock b ≡ true → refusalOn b clear ≡ 0
+unfolding refusal first
+clear-accepted b v = refusal-valid b clear v ∙ rw (valid-tables b v) refl
+
+pub clear-given : (b after : List ℕ) (n : ℕ) → refusalOn b clear ≡ 0 → n ≡ gone (tablesOf b)
+    → after ≡ clearedBlock b
+    → (Cleared n ≡ answerOn b clear) × (after ≡ blockAfter b clear)
+unfolding reply changed
+clear-given b after n e m a = (
+  ap Cleared m ∙ sym (answer-accepted b clear e),
+  block-given b clear e after a,
+)

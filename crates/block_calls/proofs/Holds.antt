@@ -52,7 +52,7 @@ module _ (b : List ℕ) (t : Tables) (h : Holds b t) where
   accepted-holds : (c : Call) → refusal capacities t c ≡ 0 → Holds (changed b c) (effect t c)
   accepted-holds c e =
       record {
-        encodes = encodes-changed b t c (h .encodes) e;
+        encodes = encodes-changed b t c tables-are (h .encodes) e;
         masked = masked-step capacities t c e (h .masked);
         isValid = valid-step capacities t c e;
       }

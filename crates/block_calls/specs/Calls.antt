@@ -8,15 +8,17 @@ use lib.Dec.{ltb}
 use lib.ListN.{length}
 use Rattle.protocol.specs.declared.Answer.{Answer}
 use Rattle.protocol.specs.declared.Answer.the-variants.{Refused, Made, Started, Delivered, Shown}
+use Rattle.protocol.specs.declared.Answer.the-variants.{Cleared}
 use Rattle.protocol.specs.Tables.{Sizes, Tables, fresh}
 use Rattle.protocol.specs.Range.{capacities, sizesInRange}
-use Rattle.protocol.specs.Calls.{Call, startRead, startWrite, deliver, show, test, first, pick}
-use Rattle.protocol.specs.Calls.{refusal, step, lent}
+use Rattle.protocol.specs.Calls.{Call, startRead, startWrite, deliver, show, clear, test, first}
+use Rattle.protocol.specs.Calls.{pick, refusal, step, lent}
 use Rattle.layout.specs.Layout.{needed}
 use Rattle.layout.specs.Decode.{tablesOf, validBlock}
 use Rattle.layout.specs.Store.{freshBlock}
 use Rattle.start.specs.Start.{readStarted, writeStarted}
 use Rattle.deliver.specs.Deliver.{deliveredBlock}
+use Rattle.clear.specs.Clear.{clearedBlock}
 
 -- ---- fresh: 2 for sizes out of range, whatever the block's length; else 1 for one too short
 
@@ -54,6 +56,7 @@ changed b (startRead d s) = readStarted b d s
 changed b (startWrite d s bytes) = writeStarted b d s bytes
 changed b (deliver i) = deliveredBlock b i
 changed b (show d output) = b
+changed b clear = clearedBlock b
 
 unfoldable pub blockAfter : List ℕ → Call → List ℕ
 blockAfter b c = pick (refusalOn b c) (changed b c) b
@@ -66,3 +69,4 @@ Fits Made = Unit
 Fits (Started n) = n < 2 ^ 16
 Fits (Delivered kind n outcome) = (kind < 2 ^ 8) × (n < 2 ^ 16) × (outcome < 2 ^ 8)
 Fits (Shown n) = n < 2 ^ 16
+Fits (Cleared n) = n < 2 ^ 16

@@ -30,6 +30,7 @@ use Rattle.condition3.proofs.Runs.ReadCounts.{inv-at, asked, left, is-r
 use Rattle.condition3.proofs.Runs.ReadCounts.{counts-exact}
 use Rattle.condition3.proofs.Runs.ReadShows.{shows, silent, wins}
 use Rattle.condition3.proofs.Runs.Falls.{never-falls}
+use Rattle.condition3.proofs.Runs.Freed.{clears, serves}
 use Rattle.condition3.proofs.Runs.WriteShows.{own-shown, own-head, own-number}
 use Rattle.condition3.proofs.Runs.WriteShows.{wins-own}
 
@@ -108,6 +109,8 @@ condition-3-from caps w inv calls =
           room′ split e u quietly enough u′ quietly′ enough′.
           never-falls caps w inv d s before during end until room u quietly enough
           s′ between before′ during′ end′ until′ room′ split u′ quietly′ enough′;
+      clears = λ before rest e. clears caps w inv before;
+      serves = λ before between rest n d s bytes e. serves caps w inv before between n d s bytes;
       deliverable =
           λ before rest e. deliverable caps (after caps w before) (after-inv caps w inv before);
     }

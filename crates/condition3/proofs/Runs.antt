@@ -15,3 +15,4 @@ pub mod ReadCounts
 pub mod Shows
 pub mod ReadShows
 pub mod Falls
+pub mod Freed

@@ -1,6 +1,7 @@
 -- What holds of the tables alone after every call: document 02's rules for a kept block. There is a
 -- ledger, of each stamp its set and values, with which every copy agrees, so that each rule is
 -- about one place of the tables.
+pub mod Apart
 pub mod Carry
 pub mod Delivery
 pub mod Distinct

@@ -12,12 +12,13 @@ use lib.ListN.{length, take}
 use Rattle.basics.specs.Lists.{In, counted}
 use Rattle.hex.specs.Number.{numberAt, bigEndian}
 use Rattle.itemset.specs.Set.{has, count, rank}
-use Rattle.protocol.specs.declared.Answer.the-variants.{Shown}
+use Rattle.protocol.specs.declared.Answer.the-variants.{Shown, Cleared}
 use Rattle.protocol.specs.Tables.{numberOf, writerOf}
-use Rattle.protocol.specs.Message.{ownerOf}
+use Rattle.protocol.specs.Message.{isPrepare, ownerOf}
 use Rattle.protocol.specs.Range.{Capacities}
 use Rattle.protocol.specs.Steps.{nextStamp}
-use Rattle.protocol.specs.Calls.{Call, startRead, startWrite, deliver, show, refusal, step}
+use Rattle.protocol.specs.Calls.{Call, startRead, startWrite, deliver, show, clear, refusal}
+use Rattle.protocol.specs.Calls.{step}
 use Rattle.condition3.specs.World.{World, Labelled, Write, Store, begun, storing, after}
 use Rattle.condition3.specs.World.{joiningOver, leavingOver, isRequest, isReply, isReplyFor}
 use Rattle.condition3.specs.World.{isReadMessage, outcomeIn, endsFor, stays, rests}
@@ -272,7 +273,23 @@ module _ (caps : Capacities) (w : World) where
         → (k : ℕ) → has s k ≡ true → has s′ k ≡ true
         → Falls s (outputOfRead d s before during end until room) s′
         (outputOfRead d s′ before′ during′ end′ until′ room′) k → ⊥
+    -- a clearing 'returns how many went' (document 02, P5): it is accepted, and so many versions
+    -- fewer are stored after it
+    pub clears : (before rest : List Call) → calls ≡ before ++ clear ∷ rest
+        → (n : ℕ) × (step caps (after caps w before .tables) clear .answer ≡ Cleared n)
+        × (length (after caps w (before ++ clear ∷ []) .tables .versions) + n
+        ≡ length (after caps w before .tables .versions))
+    -- 'The freed places serve the next writes': a write isn't refused by 9 as long as its items and
+    -- the prepares that have joined since are no more than the versions that went
+    pub serves : (before between rest : List Call) (n d s : ℕ) (bytes : List ℕ)
+        → calls ≡ before ++ clear ∷ between ++ startWrite d s bytes ∷ rest
+        → step caps (after caps w before .tables) clear .answer ≡ Cleared n
+        → counted (λ l. isPrepare (l .message)) (joiningOver caps
+        (after caps w (before ++ clear ∷ [])) between) + count s ≤ n
+        → refusal caps (after caps w (before ++ clear ∷ between) .tables)
+        (startWrite d s bytes) ≡ 9 → ⊥
     -- 'a delivery at any place within the pile is accepted'
+    -- and so, 'with clearings among the calls', a read 'meets no 12' (document 02, P5)
     pub deliverable : (before rest : List Call) → calls ≡ before ++ rest
         → (i : ℕ) → i < length (after caps w before .tables .messages)
         → refusal caps (after caps w before .tables) (deliver i) ≡ 0

@@ -8,8 +8,8 @@ use lib.ListN.{length, getD}
 use lib.Seq.{ext-getD}
 use Rattle.basics.proofs.Cases.{test-ext}
 use Rattle.basics.specs.Lists.{all, counted, every, table}
-use Rattle.basics.proofs.Lists.{in-getD, all-in, in-all, counted-append, every-at, at-every}
-use Rattle.basics.proofs.Lists.{length-table, table-at}
+use Rattle.basics.proofs.Lists.{all-in, in-all, counted-append, every-at, at-every, length-table}
+use Rattle.basics.proofs.Lists.{table-at, in-table}
 use Rattle.protocol.specs.Range.{total}
 use Rattle.protocol.proofs.Each.{Each, each-none, each-one, each-append}
 
@@ -35,9 +35,7 @@ pub all-table : {A : Type 0} (p : A → Bool) (n : ℕ) (f : ℕ → A)
     → all p (table n f) ≡ every n (λ i. p (f i))
 all-table p n f =
     test-ext _ _
-    (λ e. at-every n _ (λ i l.
-    let here = in-getD (table n f) i (f i) (omega (arith, length-table n f)) in
-    rw (table-at n f i (f i) l) at (all-in p (table n f) e (getD (table n f) i (f i)) here)))
+    (λ e. at-every n _ (λ i l. all-in p (table n f) e (f i) (in-table n f i l)))
     (λ e. in-all p (table n f) (each-table (λ x. p x ≡ true) n f (λ i l. every-at n _ e i l)))
 
 pub counted-table : {A : Type 0} (p : A → Bool) (n : ℕ) (f : ℕ → A)

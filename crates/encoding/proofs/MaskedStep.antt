@@ -24,7 +24,8 @@ use Rattle.protocol.specs.Range.{Capacities, isClient, isItem, isWriting}
 use Rattle.protocol.specs.Steps.{reader, gets, writer, prepares, stored, found, struck, answered}
 use Rattle.protocol.specs.Steps.{endedRead, endedWrite, ended, isLast, prepared, got, offered, seen}
 use Rattle.protocol.specs.Steps.{committed, delivered, joined, messageAt}
-use Rattle.protocol.specs.Calls.{Call, startRead, startWrite, deliver, show, refusal, effect}
+use Rattle.protocol.specs.Clear.{cleared}
+use Rattle.protocol.specs.Calls.{Call, startRead, startWrite, deliver, show, clear, refusal, effect}
 use Rattle.protocol.proofs.Put.{by-cond, put-all, put-other}
 use Rattle.protocol.proofs.Stored.{found-held}
 use Rattle.protocol.proofs.Ranges.Values.{IsClient, MessageInRange}
@@ -259,6 +260,7 @@ masked-step caps t (startWrite d s bytes) e m =
     (masked-writer t m d s bytes (a .start .some))
 masked-step caps t (deliver i) e m = masked-deliver caps t m i (accepted-deliver caps t i .0 e)
 masked-step caps t (show d output) e m = m
+masked-step caps t clear e m = masked-versions t m (cleared t .versions)
 
 pub masked-fresh : (z : Sizes) → Masked (fresh z)
 masked-fresh z =

@@ -95,6 +95,10 @@ fn parse(f: &[u8]) -> Parsed
         let frame = StoreFrame::Show { client };
         return Parsed::Frame { frame, length };
     }
+    if is_frame(f, 0x40, 1) {
+        let frame = StoreFrame::Clear;
+        return Parsed::Frame { frame, length };
+    }
     Parsed::Malformed
 }
 

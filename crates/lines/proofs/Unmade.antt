@@ -22,6 +22,7 @@ use Rattle.gather.specs.Sized.{sizes}
 use Rattle.block_calls.specs.Calls.{freshRefusalOn, freshAnswerOn, freshAfter, refusalOn, answerOn}
 use Rattle.block_calls.specs.Calls.{blockAfter}
 use Rattle.store_frames.specs.declared.StoreFrame.the-variants.{Fresh, Read, Write, Deliver, Show}
+use Rattle.store_frames.specs.declared.StoreFrame.the-variants.{Clear}
 use Rattle.store_frames.specs.declared.Parsed.{Parsed}
 use Rattle.store_frames.specs.declared.Parsed.the-variants.{Frame, Malformed}
 use Rattle.store_frames.specs.Answers.{answerLine}
@@ -42,6 +43,7 @@ isOther (Frame (Read client s) n) = true
 isOther (Frame (Write client s) n) = true
 isOther (Frame (Deliver place) n) = true
 isOther (Frame (Show client) n) = true
+isOther (Frame Clear n) = true
 
 module _ (b : List ℕ) (zeros : Zeros b) where
   invalid : validBlock b ≡ false
@@ -64,6 +66,7 @@ module _ (b : List ℕ) (zeros : Zeros b) where
   other-answer f o (Frame (Write client s) n) e = refused _
   other-answer f o (Frame (Deliver place) n) e = refused _
   other-answer f o (Frame (Show client) n) e = refused _
+  other-answer f o (Frame Clear n) e = refused _
 
   other-block : (f o : List ℕ) (p : Parsed) → isOther p ≡ true → parsedBlock b f o p ≡ b
   unfolding isOther parsedBlock callBlock
@@ -73,6 +76,7 @@ module _ (b : List ℕ) (zeros : Zeros b) where
   other-block f o (Frame (Write client s) n) e = kept _
   other-block f o (Frame (Deliver place) n) e = kept _
   other-block f o (Frame (Show client) n) e = kept _
+  other-block f o (Frame Clear n) e = kept _
 
   -- an `01` that isn't accepted changes nothing either
   made-or-kept : (r : ℕ) (x : List ℕ) → (pick r Made (Refused r) ≡ Made → ⊥) → pick r x b ≡ b
@@ -90,6 +94,7 @@ module _ (b : List ℕ) (zeros : Zeros b) where
   unmade-parsed f o (Frame (Write client s) n) h = kept _
   unmade-parsed f o (Frame (Deliver place) n) h = kept _
   unmade-parsed f o (Frame (Show client) n) h = kept _
+  unmade-parsed f o (Frame Clear n) h = kept _
 
   unmade-line : (line : List ℕ) → (lineAnswer b line ≡ Made → ⊥) → lineBlock b line ≡ b
   unmade-line line h = unmade-parsed (frameBytes line) blank (storeFrameOf line) h

@@ -7,11 +7,12 @@ use lib.ListN.{replicate}
 use Rattle.protocol.specs.declared.Answer.{Answer}
 use Rattle.protocol.specs.declared.Answer.the-variants.{Refused}
 use Rattle.protocol.specs.LogFrame.{mostLogFrame}
-use Rattle.protocol.specs.Calls.{startRead, startWrite, deliver, show}
+use Rattle.protocol.specs.Calls.{startRead, startWrite, deliver, show, clear}
 use Rattle.gather.specs.Sized.{sizes}
 use Rattle.block_calls.specs.Calls.{freshAnswerOn, freshAfter, answerOn, outputOn, blockAfter}
 use Rattle.store_frames.specs.declared.StoreFrame.{StoreFrame}
 use Rattle.store_frames.specs.declared.StoreFrame.the-variants.{Fresh, Read, Write, Deliver, Show}
+use Rattle.store_frames.specs.declared.StoreFrame.the-variants.{Clear}
 use Rattle.store_frames.specs.declared.Parsed.{Parsed}
 use Rattle.store_frames.specs.declared.Parsed.the-variants.{Frame, Malformed}
 use Rattle.store_frames.specs.Answers.{answerLine}
@@ -26,6 +27,7 @@ callAnswer b f output (Read client s) = answerOn b (startRead client s)
 callAnswer b f output (Write client s) = answerOn b (startWrite client s (valueBytes f))
 callAnswer b f output (Deliver place) = answerOn b (deliver place)
 callAnswer b f output (Show client) = answerOn b (show client output)
+callAnswer b f output Clear = answerOn b clear
 
 unfoldable pub callBlock : List ℕ → List ℕ → List ℕ → StoreFrame → List ℕ
 callBlock b f output (Fresh clients partitions items) =
@@ -34,6 +36,7 @@ callBlock b f output (Read client s) = blockAfter b (startRead client s)
 callBlock b f output (Write client s) = blockAfter b (startWrite client s (valueBytes f))
 callBlock b f output (Deliver place) = blockAfter b (deliver place)
 callBlock b f output (Show client) = blockAfter b (show client output)
+callBlock b f output Clear = blockAfter b clear
 
 unfoldable pub callOutput : List ℕ → List ℕ → List ℕ → StoreFrame → List ℕ
 callOutput b f output (Fresh clients partitions items) = output
@@ -41,6 +44,7 @@ callOutput b f output (Read client s) = output
 callOutput b f output (Write client s) = output
 callOutput b f output (Deliver place) = output
 callOutput b f output (Show client) = outputOn b (show client output)
+callOutput b f output Clear = output
 
 -- ---- the call of a line, 15 where it is malformed
 

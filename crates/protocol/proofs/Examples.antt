@@ -8,11 +8,12 @@ use Prim.Native.Nat.{ℕ}
 use lib.Dec.{eqb}
 use lib.ListN.{length, drop, replicate}
 use Rattle.basics.specs.Lists.{all}
-use Rattle.protocol.specs.Calls.{startRead, startWrite, deliver, show}
+use Rattle.protocol.specs.Calls.{startRead, startWrite, deliver, show, clear}
 use Rattle.protocol.proofs.Examples.Table.{Row, freshly, on, onEach, _⇒_, _keeping_}
 use Rattle.protocol.proofs.Examples.Table.{anything, right, messagesAre, entryIs}
 use Rattle.protocol.proofs.Examples.Begin.{sizes, entry, loaded, holding, seeing, ahead}
 use Rattle.protocol.proofs.Examples.Begin.{spent, crowded, strayed}
+use Rattle.protocol.proofs.Examples.Cleared.{clearings}
 use Rattle.protocol.proofs.Examples.Faults.{faults}
 use Rattle.protocol.proofs.Examples.Falls.{falls}
 use Rattle.protocol.proofs.Examples.Numbers.{numbers}
@@ -25,6 +26,7 @@ pub mod Pinned
 pub mod Numbers
 pub mod Falls
 pub mod Widest
+pub mod Cleared
 
 -- a value's four bytes, for values below 256
 abbrev value : ℕ → List ℕ
@@ -352,7 +354,7 @@ outOfRange =
     record {
       start = onEach faults;
       lines = startRead 1 1 ⇒ "01" ∷ startWrite 9 0 [] ⇒ "01" ∷ deliver 0 ⇒ "01"
-          ∷ show 1 (room 1) ⇒ "01" keeping "ee" ∷ [];
+          ∷ show 1 (room 1) ⇒ "01" keeping "ee" ∷ clear ⇒ "01" ∷ [];
       after = anything;
     }
 
@@ -379,7 +381,7 @@ rows =
     ∷ firstOfSeveral
     ∷ strays
     ∷ outOfRange
-    ∷ numbers ++ (falls ++ (widest ++ pinned))
+    ∷ numbers ++ (falls ++ (widest ++ (clearings ++ pinned)))
 
 pub examples : all right rows ≡ true
 unfolding all right

@@ -1,14 +1,18 @@
 -- What an accepted call keeps, whatever its sort: the tables stay valid, sizes stay, counts rise,
--- views grow, and the client of a start was idle.
+-- views grow, no version's place is taken but by a prepare that joins, and the client of a start
+-- was idle.
 use mathlib.Core.Bool.{true}
 use mathlib.Core.Path.{_≡_, refl, sym, subst}
-use Prim.Native.Nat.{ℕ, _≤_}
-use native.Mathlib.Nat.{le-refl}
+use Prim.Native.Nat.{ℕ, _+_, _≤_}
+use native.Mathlib.Nat.{le-refl, le-trans}
 use native.Mathlib.Omega.{arith}
 use lib.Dec.{eqb}
 use borrow.Author.Tests.{eqb-true}
 use Rattle.basics.proofs.Cases.{not-both}
+use Rattle.basics.specs.Lists.{counted}
+use Rattle.basics.proofs.Lists.{sublist-in, length-sublist}
 use Rattle.protocol.specs.Tables.{Tables}
+use Rattle.protocol.specs.Message.{isPrepare}
 use Rattle.protocol.specs.Range.{Capacities, load, occupied}
 use Rattle.protocol.specs.Steps.{messageAt, reader, writer}
 use Rattle.protocol.specs.Calls.{Call, refusal, Effects, effects, effect}
@@ -18,10 +22,11 @@ use Rattle.protocol.proofs.Ranges.Values.{IsClient, EntryInRange}
 use Rattle.protocol.proofs.Ranges.Tables.{Valid}
 use Rattle.protocol.proofs.Refusals.{Idle}
 use Rattle.protocol.proofs.Load.{load-read, load-write, load-deliver}
-use Rattle.protocol.proofs.Occupied.{occupied-read, occupied-write, occupied-deliver}
+use Rattle.protocol.proofs.Occupied.{counted-prepares, occupied-read, occupied-write}
+use Rattle.protocol.proofs.Occupied.{occupied-deliver}
 use Rattle.protocol.proofs.Kept.Starts.{range-read, range-write}
 use Rattle.protocol.proofs.Kept.Deliveries.{range-deliver}
-use Rattle.protocol.proofs.Sorts.{withViews, ViewGrows, Apart, Sort, reads, writes, delivers}
+use Rattle.protocol.proofs.Sorts.{aside, ViewGrows, Apart, Sort, reads, writes, delivers}
 use Rattle.protocol.proofs.Sorts.{apart, sort}
 
 -- ---- one lemma a sort
@@ -31,13 +36,20 @@ pub record Keeps (caps : Capacities) (t : Tables) (e : Effects) : Type 0 where
   pub sizes : e .tables .sizes ≡ t .sizes
   pub rises : (d : ℕ) → t .client d .count ≤ e .tables .client d .count
   pub view : ViewGrows t (e .tables)
+  pub occupies : occupied (e .tables) ≤ occupied t + counted isPrepare (e .joins)
   pub starter : (d : ℕ) → isStart d (e .origin) ≡ true → IsClient (t .sizes) d × Idle (t .client d)
 
--- views given from client to client are in range
-pub valid-views : (caps : Capacities) (t : Tables) (c : Call) → Valid caps t → (a : Apart t c)
-    → Valid caps (withViews t (a .view))
-unfolding load occupied
-valid-views caps t c v a =
+-- fewer versions occupy no more
+occupied-apart : (t : Tables) (c : Call) (a : Apart t c)
+    → occupied (aside t (a .view) (a .versions)) ≤ occupied t
+unfolding occupied
+occupied-apart t c a = omega (arith, length-sublist (a .fewer))
+
+-- views given from client to client are in range, and so are fewer versions
+pub valid-apart : (caps : Capacities) (t : Tables) (c : Call) → Valid caps t → (a : Apart t c)
+    → Valid caps (aside t (a .view) (a .versions))
+unfolding load
+valid-apart caps t c v a =
     record {
       inRange = record {
         sizes = v .inRange .sizes;
@@ -47,11 +59,11 @@ valid-views caps t c v a =
             subst (EntryInRange (t .sizes)) (sym (from .2))
             (v .inRange .view (from .0) (from .1) k l);
         client = v .inRange .client;
-        versions = v .inRange .versions;
+        versions = λ u i. v .inRange .versions u (sublist-in (a .fewer) u i);
         messages = v .inRange .messages;
       };
       load = v .load;
-      occupied = v .occupied;
+      occupied = le-trans (occupied-apart t c a) (v .occupied);
     }
 
 module _ (caps : Capacities) (t : Tables) where
@@ -73,6 +85,7 @@ module _ (caps : Capacities) (t : Tables) where
         sizes = refl;
         rises = put-rises (t .client) d (reader t d s) (le-refl (t .client d .count));
         view = λ e k. le-refl (t .view e k .stamp);
+        occupies = omega (arith, occupied-read caps t d s a);
         starter = λ e same. started-idle d e same (a .client) (a .idle);
       }
   sort-keeps (writes d s bytes a) =
@@ -85,6 +98,11 @@ module _ (caps : Capacities) (t : Tables) where
         sizes = refl;
         rises = put-rises (t .client) d (writer t d s bytes) (omega arith);
         view = λ e k. le-refl (t .view e k .stamp);
+        occupies = omega (
+          arith,
+          occupied-write caps t d s (a .start) bytes,
+          counted-prepares t d s bytes (a .start .set),
+        );
         starter = λ e same. started-idle d e same (a .start .client) (a .start .idle);
       }
   sort-keeps (delivers i a) =
@@ -97,15 +115,17 @@ module _ (caps : Capacities) (t : Tables) where
         sizes = delivered-work t (messageAt t i) .sizes;
         rises = delivered-work t (messageAt t i) .rises;
         view = delivered-work t (messageAt t i) .view;
+        occupies = omega (arith, occupied-deliver caps t i a);
         starter = λ e same. not-both same refl;
       }
   sort-keeps (apart c v a) =
       subst (Keeps caps t) (sym (a .does))
       (record {
-        valid = valid-views caps t c v a;
+        valid = valid-apart caps t c v a;
         sizes = refl;
         rises = λ d. le-refl (t .client d .count);
         view = a .grows;
+        occupies = le-trans (occupied-apart t c a) (omega arith);
         starter = λ e same. not-both same refl;
       })
 

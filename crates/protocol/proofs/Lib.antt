@@ -9,6 +9,7 @@ pub mod Stored
 pub mod Behaviour
 pub mod Shown
 pub mod Ranges
+pub mod Cleared
 pub mod Refusals
 pub mod Delivered
 pub mod MessageKinds

@@ -2,8 +2,8 @@
 -- delivered prepare leaves and its version stays.
 use mathlib.Core.Bool.{Bool, true, false, cond}
 use mathlib.Core.List.{List, [], _∷_, map}
-use mathlib.Core.Path.{_≡_, refl}
-use Prim.Native.Nat.{ℕ, _+_}
+use mathlib.Core.Path.{_≡_, refl, _∙_}
+use Prim.Native.Nat.{ℕ, _+_, _^_, _<_}
 use native.Mathlib.Omega.{arith}
 use lib.ListN.{length}
 use Rattle.basics.specs.Lists.{counted, without}
@@ -32,6 +32,14 @@ counted-each f false [] h = refl
 counted-each f true (x ∷ xs) h = rw (h x) (omega (arith, counted-each f true xs h))
 counted-each f false (x ∷ xs) h = rw (h x) (omega (arith, counted-each f false xs h))
 
+-- one prepare for each item of a write
+pub counted-prepares : (t : Tables) (d s : ℕ) (bytes : List ℕ) → s < 2 ^ t .sizes .items
+    → counted isPrepare (prepares t d s bytes) ≡ count s
+counted-prepares t d s bytes h =
+    counted-each (λ k. Prepare (version k (valueOf s bytes k) (nextStamp t d) s)) true
+    (members (t .sizes .items) s) (λ k. refl)
+    ∙ length-members s (t .sizes .items) h
+
 -- ---- Starts
 
 module _ (caps : Capacities) (t : Tables) (d s : ℕ) (a : AcceptedStart caps t d s) where
@@ -51,9 +59,7 @@ module _ (caps : Capacities) (t : Tables) (d s : ℕ) (a : AcceptedStart caps t 
       omega (
         arith,
         counted-append isPrepare (t .messages) (prepares t d s bytes),
-        counted-each (λ k. Prepare (version k (valueOf s bytes k) (nextStamp t d) s)) true
-            (members (t .sizes .items) s) (λ k. refl),
-        length-members s (t .sizes .items) (a .set),
+        counted-prepares t d s bytes (a .set),
       )
 
 -- ---- Deliveries

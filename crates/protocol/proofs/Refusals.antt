@@ -2,11 +2,11 @@
 use mathlib.Core.Bool.{Bool, true, false}
 use mathlib.Core.List.{List, [], _∷_}
 use mathlib.Core.Logic.{_↔_, _≢_, inl, inr}
-use mathlib.Core.Path.{_≡_, refl, ap}
+use mathlib.Core.Path.{_≡_, refl, sym, ap}
 use Prim.Native.Nat.{ℕ, _+_, _*_, _^_, _≤_, _<_}
 use lib.Dec.{eqb}
 use lib.ListN.{length}
-use borrow.Author.Tests.{eqb-false}
+use borrow.Author.Tests.{eqb-false, ltb-true}
 use Rattle.basics.proofs.Cases.{not-both}
 use Rattle.basics.proofs.Lists.{in-getD}
 use Rattle.itemset.specs.Set.{has, count}
@@ -19,9 +19,9 @@ use Rattle.protocol.specs.Tables.{Sizes, Tables, Client, writerOf, Ended
 use Rattle.protocol.specs.Tables.{ofRead, ofWrite, awaitedOf}
 use Rattle.protocol.specs.Range.{Capacities, load, occupied}
 use Rattle.protocol.specs.Steps.{messageAt, greatestOf}
-use Rattle.protocol.specs.Calls.{startRead, startWrite, deliver, show, Test, test, first}
-use Rattle.protocol.specs.Calls.{unexpected, missing, isNothing, refusal, freshRefusal}
-use Rattle.protocol.specs.Calls.{shownFrame}
+use Rattle.protocol.specs.Calls.{startRead, startWrite, deliver, show, clear, Test}
+use Rattle.protocol.specs.Calls.{test, first, unexpected, missing, isNothing, refusal}
+use Rattle.protocol.specs.Calls.{freshRefusal, shownFrame}
 use Rattle.protocol.proofs.Tells.{tells}
 use Rattle.protocol.proofs.Each.{Each}
 use Rattle.protocol.proofs.Ranges.Values.{SizesInRange, tells-sizes, IsClient}
@@ -40,6 +40,18 @@ pub first-none : (xs : List Test) → Each (λ x. x .applies ≡ false) xs → f
 unfolding first
 first-none [] h = refl
 first-none (x ∷ xs) h = rw (h x (inl refl)) (first-none xs (λ y i. h y (inr i)))
+
+-- a number that is given, of the tests behind one of another number
+first-later : (m n : ℕ) (b : Bool) (xs : List Test) → eqb n m ≡ false
+    → first (test n b ∷ xs) ≡ m → first xs ≡ m
+unfolding first
+first-later m n true xs z e = absurd (eqb-false n m z e)
+first-later m n false xs z e = e
+
+first-last : (m : ℕ) (b : Bool) → eqb m 0 ≡ false → first (test m b ∷ []) ≡ m → b ≡ true
+unfolding first
+first-last m true z e = refl
+first-last m false z e = absurd (eqb-false m 0 z (sym e))
 
 first-empty : first [] ≡ 0
 unfolding first
@@ -99,6 +111,17 @@ accepted-write caps t d s bytes = (
   λ a. simp tests (search first-empty),
 )
 
+-- a write is refused by 9 for want of versions alone
+pub refused-full : (caps : Capacities) (t : Tables) (d s : ℕ) (bytes : List ℕ)
+    → refusal caps t (startWrite d s bytes) ≡ 9 → caps .versions < occupied t + count s
+unfolding refusal
+refused-full caps t d s bytes e =
+    ltb-true (caps .versions) (occupied t + count s)
+    (first-last 9 _ refl
+    (first-later 9 8 _ _ refl (first-later 9 7 _ _ refl (first-later 9 17 _ _ refl
+    (first-later 9 6 _ _ refl (first-later 9 5 _ _ refl (first-later 9 4 _ _ refl
+    (first-later 9 3 _ _ refl (first-later 9 1 _ _ refl e)))))))))
+
 -- ---- Deliveries
 
 -- of a prepared reply: its client's write part awaits it
@@ -153,7 +176,7 @@ pub accepted-message : (caps : Capacities) (t : Tables) (i : ℕ) → AcceptedDe
 accepted-message caps t i a = a .valid .inRange .messages (messageAt t i)
     (in-getD (t .messages) i (Commit 0 0) (a .place))
 
--- ---- Fresh starts and showings
+-- ---- Fresh starts, showings and clearings
 
 pub accepted-fresh : (z : Sizes) → (freshRefusal z ≡ 0) ↔ SizesInRange z
 accepted-fresh z = (
@@ -177,3 +200,7 @@ accepted-show caps t d output = (
       search,
   λ a. simp tests (search first-empty),
 )
+
+pub accepted-clear : (caps : Capacities) (t : Tables) → (refusal caps t clear ≡ 0) ↔ Valid caps t
+unfolding refusal
+accepted-clear caps t = (λ e. simp tests at e .0, λ v. simp tests (v, first-empty))

@@ -1,31 +1,37 @@
 -- The sorts of accepted calls, with what their tests tell: a read's start, a write's start, a
--- delivery, and a call apart, which leaves messages and versions alone. All laws of accepted calls
--- go by them.
-use mathlib.Core.List.{List}
+-- delivery, and a call apart, which leaves messages alone and stores nothing. All laws of accepted
+-- calls go by them.
+use mathlib.Core.Bool.{true, false}
+use mathlib.Core.List.{List, [], Sublistᴰ, Sublistᴰ·refl}
 use mathlib.Core.Path.{_≡_, refl}
 use Prim.Native.Nat.{ℕ, _≤_, _<_}
 use native.Mathlib.Nat.{le-refl}
 use Rattle.protocol.specs.declared.Answer.{Answer}
+use Rattle.protocol.specs.declared.Answer.the-variants.{Cleared}
 use Rattle.protocol.specs.declared.Entry.{Entry}
-use Rattle.protocol.specs.Tables.{Tables}
+use Rattle.protocol.specs.declared.Version.{Version}
+use Rattle.protocol.specs.Tables.{Tables, withVersions}
 use Rattle.protocol.specs.Range.{Capacities}
-use Rattle.protocol.specs.Calls.{Call, startRead, startWrite, deliver, show, refusal, quiet}
-use Rattle.protocol.specs.Calls.{effects}
+use Rattle.protocol.specs.Steps.{stored}
+use Rattle.protocol.specs.Clear.{unused, cleared, gone}
+use Rattle.protocol.specs.Calls.{Call, startRead, startWrite, deliver, show, clear, refusal}
+use Rattle.protocol.specs.Calls.{quiet, effects}
+use Rattle.protocol.proofs.Cleared.{cleared-sublist, stored-cleared}
 use Rattle.protocol.proofs.Ranges.Values.{IsClient}
 use Rattle.protocol.proofs.Ranges.Tables.{Valid}
 use Rattle.protocol.proofs.Refusals.{AcceptedStart, AcceptedWrite, AcceptedDeliver}
 use Rattle.protocol.proofs.Refusals.{accepted-read, accepted-write, accepted-deliver}
-use Rattle.protocol.proofs.Refusals.{accepted-show}
+use Rattle.protocol.proofs.Refusals.{accepted-show, accepted-clear}
 
--- the tables with other views
-abbrev pub withViews : Tables → (ℕ → ℕ → Entry) → Tables
-withViews t view =
+-- the tables with other views and stored versions
+abbrev pub aside : Tables → (ℕ → ℕ → Entry) → List Version → Tables
+aside t view versions =
     record {
       sizes = t .sizes;
       latest = t .latest;
       view = view;
       client = t .client;
-      versions = t .versions;
+      versions = versions;
       messages = t .messages;
     }
 
@@ -33,28 +39,44 @@ withViews t view =
 abbrev pub ViewGrows : Tables → Tables → Type 0
 ViewGrows t u = (d k : ℕ) → t .view d k .stamp ≤ u .view d k .stamp
 
--- a call that answers, and at most gives view entries from client to client
+-- a call that answers, and at most gives view entries from client to client and takes out versions
+-- of unused stamps
 pub record Apart (t : Tables) (c : Call) : Type 0 where
   pub view : ℕ → ℕ → Entry
+  pub versions : List Version
   pub output : List ℕ
   pub answer : Answer
-  pub does : effects t c ≡ quiet (withViews t view) output answer
+  pub does : effects t c ≡ quiet (aside t view versions) output answer
   pub taken : (d k : ℕ) → IsClient (t .sizes) d → k < t .sizes .items
       → (e : ℕ) × IsClient (t .sizes) e × (view d k ≡ t .view e k)
-  pub grows : ViewGrows t (withViews t view)
+  pub grows : ViewGrows t (aside t view versions)
+  pub fewer : Sublistᴰ versions (t .versions)
+  pub spares : (s : ℕ) → unused t s ≡ false → (k : ℕ) → stored (t .versions) k s ≡ true
+      → stored versions k s ≡ true
 
--- a call that does nothing but answer
-pub still : (t : Tables) (c : Call) (output : List ℕ) (answer : Answer)
-    → effects t c ≡ quiet t output answer → Apart t c
-still t c output answer e =
+-- a call that leaves the views alone, and one that does nothing but answer
+pub unseen : (t : Tables) (c : Call) (versions : List Version) (output : List ℕ) (answer : Answer)
+    → effects t c ≡ quiet (withVersions t versions) output answer
+    → Sublistᴰ versions (t .versions)
+    → ((s : ℕ) → unused t s ≡ false → (k : ℕ) → stored (t .versions) k s ≡ true
+    → stored versions k s ≡ true) → Apart t c
+unseen t c versions output answer e fewer spares =
     record {
       view = t .view;
+      versions = versions;
       output = output;
       answer = answer;
       does = e;
       taken = λ d k i l. (d, i, refl);
       grows = λ d k. le-refl (t .view d k .stamp);
+      fewer = fewer;
+      spares = spares;
     }
+
+pub still : (t : Tables) (c : Call) (output : List ℕ) (answer : Answer)
+    → effects t c ≡ quiet t output answer → Apart t c
+still t c output answer e =
+    unseen t c (t .versions) output answer e (Sublistᴰ·refl (t .versions)) (λ s used k h. h)
 
 module _ (caps : Capacities) (t : Tables) where
   pub data Sort : Call → Type 0 where
@@ -71,3 +93,7 @@ module _ (caps : Capacities) (t : Tables) where
   sort (show d output) e =
       apart (show d output) (accepted-show caps t d output .0 e .valid)
       (still t (show d output) _ _ refl)
+  sort clear e =
+      apart clear (accepted-clear caps t .0 e)
+      (unseen t clear (cleared t .versions) [] (Cleared (gone t)) refl (cleared-sublist t)
+      (stored-cleared t))

@@ -1,6 +1,6 @@
 -- Laws of stored versions and of the choice of stamps.
 use mathlib.Core.Bool.{true, false, _&&_, _||_, cond}
-use mathlib.Core.List.{List, [], _∷_, _++_}
+use mathlib.Core.List.{List, [], _∷_, _++_, Sublistᴰ}
 use mathlib.Core.Logic.{_⊎_, inl, inr, ⊎-elim}
 use mathlib.Core.Path.{_≡_, refl, sym, _∙_, subst}
 use Prim.Native.Nat.{ℕ, zero, suc, _≤_, _<_, max}
@@ -11,6 +11,7 @@ use borrow.Author.Tests.{eqb-true, eqb-false, leb-true, leb-false}
 use Rattle.basics.proofs.Cases.{by-test, not-both, and-left, and-right, or-cases, or-left, or-right}
 use Rattle.basics.proofs.Cases.{eqb-same}
 use Rattle.basics.specs.Lists.{In}
+use Rattle.basics.proofs.Lists.{sublist-in}
 use Rattle.itemset.specs.Set.{has}
 use Rattle.protocol.specs.declared.Version.{Version}
 use Rattle.protocol.specs.declared.Entry.{Entry}
@@ -54,6 +55,26 @@ found-held (u ∷ us) k s e =
     (λ a. rw a (held-here u us k s a))
     (λ a. rw a (held-later u us k s (found us k s) (found-held us k s
     (⊎-elim (λ x. not-both x a) (λ x. x) (or-cases (alike k s u) (stored us k s) e)))))
+
+-- and is stored, there and in every list that has it
+pub held-stored : (vs : List Version) (k s : ℕ) (v : Version) → Held vs k s v
+    → stored vs k s ≡ true
+held-stored vs k s v h = rw (h .item, h .stamp) at (in-stored v vs (h .isIn))
+
+pub stored-sublist : (us vs : List Version) → Sublistᴰ us vs → (k s : ℕ) → stored us k s ≡ true
+    → stored vs k s ≡ true
+stored-sublist us vs fewer k s e =
+    let h = found-held us k s e in
+    held-stored vs k s (found us k s) (record {
+      isIn = sublist-in fewer (found us k s) (h .isIn);
+      item = h .item;
+      stamp = h .stamp;
+    })
+
+pub unstored-sublist : (us vs : List Version) → Sublistᴰ us vs → (k s : ℕ)
+    → stored vs k s ≡ false → stored us k s ≡ false
+unstored-sublist us vs fewer k s e =
+    by-test (stored us k s) (λ f. not-both (stored-sublist us vs fewer k s f) e) (λ f. f)
 
 pub stored-append : (vs us : List Version) (k stamp : ℕ)
     → stored (vs ++ us) k stamp ≡ (stored vs k stamp || stored us k stamp)

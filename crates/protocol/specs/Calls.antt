@@ -11,13 +11,14 @@ use Rattle.protocol.specs.declared.Message.{Message}
 use Rattle.protocol.specs.declared.Message.the-variants.{Prepare, Prepared, Commit, Get, Got}
 use Rattle.protocol.specs.declared.Answer.{Answer}
 use Rattle.protocol.specs.declared.Answer.the-variants.{Refused, Made, Started, Delivered}
-use Rattle.protocol.specs.declared.Answer.the-variants.{Shown}
+use Rattle.protocol.specs.declared.Answer.the-variants.{Shown, Cleared}
 use Rattle.protocol.specs.Tables.{Sizes, Tables, WritePart, Ended, writerOf}
 use Rattle.protocol.specs.Message.{partsOf, kindOf, isPrepare, isGet, itemOf}
 use Rattle.protocol.specs.Range.{Capacities, valid, sizesInRange, isClient, isIdle, load}
 use Rattle.protocol.specs.Range.{occupied}
 use Rattle.protocol.specs.Steps.{startedRead, startedWrite, deliveredAt, messageAt, stored}
 use Rattle.protocol.specs.Steps.{deliveryOf, gets, prepares, writer, joined, greatestOf}
+use Rattle.protocol.specs.Clear.{cleared, gone}
 use Rattle.protocol.specs.LogFrame.{frame}
 
 -- The calls that follow a fresh start. A write brings its value bytes, a showing the lent output.
@@ -26,6 +27,7 @@ pub data Call : Type 0 where
   startWrite : (client set : ℕ) (values : List ℕ) → Call
   deliver : (place : ℕ) → Call
   show : (client : ℕ) (output : List ℕ) → Call
+  clear : Call
 
 -- ---- Refusal table: each call's tests in their order
 
@@ -109,6 +111,7 @@ refusal caps t (show d output) =
     ∷ test 13 (isNothing (t .client d .last))
     ∷ test 14 (ltb (length output) (length (shownFrame t d)))
     ∷ [])
+refusal caps t clear = first (test 1 (not (valid caps t)) ∷ [])
 
 -- of a fresh start, a block's length apart; accepted, its tables are `fresh z`
 abbrev pub freshRefusal : Sizes → ℕ
@@ -162,7 +165,7 @@ started d after joins begins =
       answer = Started (length (after .messages));
     }
 
--- of a call that leaves messages and versions alone
+-- of a call that makes no message leave or join
 abbrev pub quiet : Tables → List ℕ → Answer → Effects
 quiet after output answer =
     record {
@@ -195,6 +198,7 @@ effects t (deliver i) =
     }
 effects t (show d output) = quiet t (shownFrame t d ++ drop (length (shownFrame t d)) output)
     (Shown (length (shownFrame t d)))
+effects t clear = quiet (cleared t) [] (Cleared (gone t))
 
 unfoldable pub effect : Tables → Call → Tables
 effect t c = effects t c .tables
@@ -211,6 +215,7 @@ lent (startRead d s) = []
 lent (startWrite d s bytes) = []
 lent (deliver i) = []
 lent (show d output) = output
+lent clear = []
 
 -- What a call gives: its answer, the tables after it, the output after it. A refusal changes
 -- nothing.
@@ -235,7 +240,7 @@ step caps t c =
       output = pick r (written t c) (lent c);
     }
 
--- ---- document 01's numbers and bytes for each answer
+-- ---- numbers and bytes for each answer: document 01's, and of a clearing our own
 
 -- what the exported calls return
 unfoldable pub numberOfAnswer : Answer → ℕ
@@ -244,6 +249,7 @@ numberOfAnswer Made = 0
 numberOfAnswer (Started n) = n * 2 ^ 8
 numberOfAnswer (Delivered kind n outcome) = kind * 2 ^ 8 + n * 2 ^ 16 + outcome * 2 ^ 32
 numberOfAnswer (Shown n) = n * 2 ^ 8
+numberOfAnswer (Cleared n) = n * 2 ^ 8
 
 -- what the driver prints as digits; after a show, the frame's bytes follow
 unfoldable pub bytesOfAnswer : Answer → List ℕ → List ℕ
@@ -253,3 +259,4 @@ bytesOfAnswer (Started n) output = 0 ∷ bigEndian 2 n
 bytesOfAnswer (Delivered kind n outcome) output =
     0 ∷ bigEndian 1 kind ++ bigEndian 2 n ++ bigEndian 1 outcome
 bytesOfAnswer (Shown n) output = 0 ∷ take n output
+bytesOfAnswer (Cleared n) output = 0 ∷ bigEndian 2 n

@@ -85,4 +85,7 @@ pub enum Answer {
     Shown {
         length: u64,
     },
+    Cleared {
+        gone: u64,
+    },
 }

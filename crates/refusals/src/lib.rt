@@ -6,7 +6,7 @@ ghost use lib.Dec.{eqb};
 ghost use lib.ListN.{length};
 ghost use Rattle.itemset.specs.Set.{allBelow};
 ghost use Rattle.protocol.specs.Range.{capacities, isClient};
-ghost use Rattle.protocol.specs.Calls.{startRead, startWrite, show, refusal};
+ghost use Rattle.protocol.specs.Calls.{startRead, startWrite, show, clear, refusal};
 ghost use Rattle.layout.specs.Layout.{header, scalars, at, itemsAt, modeAt};
 ghost use Rattle.layout.specs.Decode.{sizesIn, tablesOf, validBlock};
 ghost use Rattle.gather.specs.Sized.{sizes};
@@ -193,4 +193,11 @@ pub fn of_show(b: &[u64], d: u64, out: &[u8]) -> u64
     } else {
         1
     }
+}
+
+// Nothing but 1: a valid block is cleared.
+pub fn of_clear(b: &[u64]) -> u64
+    ensures { λ r. ⌜ r ≡ refusalOn (now (b .entry)) clear ⌝ }
+{
+    if valid_block(b) { 0 } else { 1 }
 }

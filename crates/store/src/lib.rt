@@ -1,8 +1,9 @@
-// The store: five calls on one lent block of words (document 01: fresh, start a read, start a
-// write, deliver, show), for C. Each returns a number: refused, the refusal; accepted, 0 in the
-// lowest byte and the answer above it (`numberOfAnswer`).
+// The store: six calls on one lent block of words (document 01: fresh, start a read, start a write,
+// deliver, show; document 02: clear), for C. Each returns a number: refused, the refusal; accepted,
+// 0 in the lowest byte and the answer above it (`numberOfAnswer`).
 ghost use mathlib.Core.Path.{_≡_};
-ghost use Rattle.protocol.specs.Calls.{startRead, startWrite, deliver, show, numberOfAnswer};
+ghost use Rattle.protocol.specs.Calls.{startRead, startWrite, deliver, show, clear};
+ghost use Rattle.protocol.specs.Calls.{numberOfAnswer};
 ghost use Rattle.layout.specs.Decode.{tablesOf};
 ghost use Rattle.gather.specs.Sized.{sizes};
 ghost use Rattle.block_calls.specs.Calls.{freshAnswerOn, freshAfter, freshTables, answerOn};
@@ -24,6 +25,7 @@ fn number_of(a: Answer) -> u64
             outcome,
         } => kind * 256 + length * 65536 + outcome * 4294967296,
         Answer::Shown { length } => length * 256,
+        Answer::Cleared { gone } => gone * 256,
     }
 }
 
@@ -84,4 +86,13 @@ pub extern "C" fn koolvent_show(b: &[u64], client: u64, output: &mut [u8]) -> u6
         ≡ outputOn (now (b .entry)) (show client (now (output .entry))) ⌝ }
 {
     number_of(store_calls::show(b, client, output))
+}
+
+#[no_mangle]
+pub extern "C" fn koolvent_clear(b: &mut [u64]) -> u64
+    ensures answer { λ r. ⌜ r ≡ numberOfAnswer (answerOn (now (b .entry)) clear) ⌝ }
+    ensures block { λ _. ⌜ now (b .exit) ≡ blockAfter (now (b .entry)) clear ⌝ }
+    ensures tables { λ _. ⌜ tablesOf (now (b .exit)) ≡ tablesAfter (now (b .entry)) clear ⌝ }
+{
+    number_of(store_calls::clear(b))
 }

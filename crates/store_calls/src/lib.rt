@@ -1,6 +1,6 @@
 // The calls but a delivery, each with its answer. A refused one changes nothing.
 ghost use mathlib.Core.Path.{_≡_};
-ghost use Rattle.protocol.specs.Calls.{startRead, startWrite, show};
+ghost use Rattle.protocol.specs.Calls.{startRead, startWrite, show, clear};
 ghost use Rattle.layout.specs.Decode.{tablesOf};
 ghost use Rattle.gather.specs.Sized.{sizes};
 ghost use Rattle.block_calls.specs.Calls.{freshAnswerOn, freshAfter, freshTables, refusalOn};
@@ -105,6 +105,29 @@ pub fn show(b: &[u64], d: u64, out: &mut [u8]) -> Answer
     let refusal = refusals::of_show(b, d, out);
     if refusal == 0 {
         show_on(b, d, out)
+    } else {
+        Answer::Refused(refusal)
+    }
+}
+
+// A clearing that is accepted.
+fn clear_on(b: &mut [u64]) -> Answer
+    requires { ⌜ refusalOn (now b) clear ≡ 0 ⌝ }
+    ensures answer { λ r. ⌜ r ≡ answerOn (now (b .entry)) clear ⌝ }
+    ensures block { λ _. ⌜ now (b .exit) ≡ blockAfter (now (b .entry)) clear ⌝ }
+{
+    let gone = clear::clear(b);
+    Answer::Cleared { gone }
+}
+
+pub fn clear(b: &mut [u64]) -> Answer
+    ensures answer { λ r. ⌜ r ≡ answerOn (now (b .entry)) clear ⌝ }
+    ensures block { λ _. ⌜ now (b .exit) ≡ blockAfter (now (b .entry)) clear ⌝ }
+    ensures tables { λ _. ⌜ tablesOf (now (b .exit)) ≡ tablesAfter (now (b .entry)) clear ⌝ }
+{
+    let refusal = refusals::of_clear(b);
+    if refusal == 0 {
+        clear_on(b)
     } else {
         Answer::Refused(refusal)
     }

@@ -11,9 +11,10 @@ use Rattle.hex.specs.Number.{numberAt, bigEndian}
 use Rattle.hex.specs.Text.{isHex, bytesOf, hexText}
 use Rattle.protocol.specs.declared.Answer.{Answer}
 use Rattle.protocol.specs.declared.Answer.the-variants.{Refused, Made, Started, Delivered, Shown}
+use Rattle.protocol.specs.declared.Answer.the-variants.{Cleared}
 use Rattle.protocol.specs.Calls.{bytesOfAnswer}
 use Rattle.store_frames.specs.declared.StoreFrame.the-variants.{Fresh, Read, Write}
-use Rattle.store_frames.specs.declared.StoreFrame.the-variants.{Deliver, Show}
+use Rattle.store_frames.specs.declared.StoreFrame.the-variants.{Deliver, Show, Clear}
 use Rattle.store_frames.specs.declared.Parsed.{Parsed}
 use Rattle.store_frames.specs.declared.Parsed.the-variants.{Frame, Malformed}
 use Rattle.store_frames.specs.Answers.{answerLine}
@@ -52,6 +53,7 @@ handedOn (Frame (Read client s) n) f = []
 handedOn (Frame (Write client s) n) f = valueBytes f
 handedOn (Frame (Deliver place) n) f = []
 handedOn (Frame (Show client) n) f = []
+handedOn (Frame Clear n) f = []
 
 -- what the definitions give for its line
 reading : Row → Row
@@ -95,7 +97,11 @@ rows =
     ∷ "05ff\n" ⇒ Frame (Show 255) 2
     ∷ "05\n" ⇒ Malformed
     ∷ "050201\n" ⇒ Malformed
+    -- clear
+    ∷ "40\n" ⇒ Frame Clear 1
+    ∷ "4000\n" ⇒ Malformed
     -- kinds that there aren't, and no byte at all
+    ∷ "7f\n" ⇒ Malformed
     ∷ "0002\n" ⇒ Malformed
     ∷ "0602\n" ⇒ Malformed
     ∷ "2102\n" ⇒ Malformed
@@ -144,6 +150,7 @@ answers =
     ∷ Delivered 2 2 2 answered "0002000202\n"
     -- of the output, the frame's bytes
     ∷ Shown 2 answered "002102\n"
+    ∷ Cleared 258 answered "000102\n"
     ∷ []
 
 -- ---- Each line and each answer is as its row says

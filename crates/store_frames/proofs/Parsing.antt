@@ -11,7 +11,7 @@ use Rattle.basics.proofs.Cases.{by-test, and-left, and-right}
 use Rattle.store_frames.specs.Limits.{mostFrame}
 use Rattle.store_frames.specs.declared.StoreFrame.{StoreFrame}
 use Rattle.store_frames.specs.declared.StoreFrame.the-variants.{Fresh, Read, Write, Deliver}
-use Rattle.store_frames.specs.declared.StoreFrame.the-variants.{Show}
+use Rattle.store_frames.specs.declared.StoreFrame.the-variants.{Show, Clear}
 use Rattle.store_frames.specs.declared.Parsed.{Parsed}
 use Rattle.store_frames.specs.declared.Parsed.the-variants.{Frame, Malformed}
 use Rattle.store_frames.specs.StoreFrames.{kindOf, isStoreFrame, valuesIn, isWrite, parsed}
@@ -68,6 +68,7 @@ parsed-long f h =
       isStoreFrame-other 0x04 3 f
           (λ e. omega arith),
       isStoreFrame-other 0x05 2 f (λ e. omega arith),
+      isStoreFrame-other 0x40 1 f (λ e. omega arith),
     )
 
 -- ---- a frame: its length is that of the bytes, and a write has ten bytes before its values
@@ -78,6 +79,7 @@ Headed f (Read client s) = Unit
 Headed f (Write client s) = 10 ≤ length f
 Headed f (Deliver place) = Unit
 Headed f (Show client) = Unit
+Headed f Clear = Unit
 
 abbrev Sized : List ℕ → Parsed → Type 0
 Sized f Malformed = Unit
@@ -91,7 +93,8 @@ parsed-sized f =
     (λ b. by-test (isWrite f) (λ c. rw (a, b, c) (refl, isWrite-length f c .0))
     (λ c. by-test (isStoreFrame 0x04 3 f) (λ d. rw (a, b, c, d) (refl, tt))
     (λ d. by-test (isStoreFrame 0x05 2 f) (λ e. rw (a, b, c, d, e) (refl, tt))
-    (λ e. rw (a, b, c, d, e) tt)))))
+    (λ e. by-test (isStoreFrame 0x40 1 f) (λ g. rw (a, b, c, d, e, g) (refl, tt))
+    (λ g. rw (a, b, c, d, e, g) tt))))))
 
 pub parsed-length : (f : List ℕ) (g : StoreFrame) (n : ℕ) → Frame g n ≡ parsed f → n ≡ length f
 parsed-length f g n e = subst (Sized f) (sym e) (parsed-sized f) .0

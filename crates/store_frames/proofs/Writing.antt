@@ -12,6 +12,7 @@ use Rattle.hex.proofs.Stores.{sets-join}
 use Rattle.hex.specs.Text.{hexText}
 use Rattle.hex.proofs.Text.{length-hexText}
 use Rattle.protocol.specs.declared.Answer.the-variants.{Refused, Made, Started, Delivered, Shown}
+use Rattle.protocol.specs.declared.Answer.the-variants.{Cleared}
 use Rattle.protocol.specs.Calls.{bytesOfAnswer}
 use Rattle.store_frames.specs.Answers.{lineOf, answerLine}
 
@@ -87,6 +88,11 @@ pub answer-shown : (n : ℕ) (output : List ℕ)
     → lineOf (0 ∷ take n output) ≡ answerLine (Shown n) output
 unfolding answerLine bytesOfAnswer
 answer-shown n output = refl
+
+pub answer-cleared : (n : ℕ) (output : List ℕ)
+    → lineOf (bigEndian 3 (n % 65536)) ≡ answerLine (Cleared n) output
+unfolding answerLine bytesOfAnswer
+answer-cleared n output = ap lineOf (started-bytes n)
 
 -- what one line is written as, another that is the same is
 pub written : {r : ℕ} (out : List ℕ) {after l m : List ℕ} → l ≡ m → (r ≡ length l)

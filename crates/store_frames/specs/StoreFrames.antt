@@ -13,7 +13,7 @@ use Rattle.hex.specs.Number.{numberAt}
 use Rattle.hex.specs.Text.{isHex, bytesOf}
 use Rattle.store_frames.specs.Limits.{mostLine}
 use Rattle.store_frames.specs.declared.StoreFrame.the-variants.{Fresh, Read, Write, Deliver}
-use Rattle.store_frames.specs.declared.StoreFrame.the-variants.{Show}
+use Rattle.store_frames.specs.declared.StoreFrame.the-variants.{Show, Clear}
 use Rattle.store_frames.specs.declared.Parsed.{Parsed}
 use Rattle.store_frames.specs.declared.Parsed.the-variants.{Frame, Malformed}
 
@@ -50,7 +50,8 @@ abbrev pub isWrite : List ℕ → Bool
 isWrite f = isStoreFrame 0x03 (10 + 4 * valuesIn (length f)) f && leb (valuesIn (length f)) 64
 
 -- `01` desks, cabinets, lines (a byte each): fresh. `02` desk, set (8 bytes): read. `03` desk, set,
--- values: write. `04` place (2 bytes): deliver. `05` desk: show. Any other is malformed
+-- values: write. `04` place (2 bytes): deliver. `05` desk: show. `40`: clear. Any other is
+-- malformed
 unfoldable pub parsed : List ℕ → Parsed
 parsed f =
     let n = length f in
@@ -60,7 +61,8 @@ parsed f =
     (cond (isWrite f) (Frame (Write (numberAt 1 f 1) (numberAt 8 f 2)) n)
     (cond (isStoreFrame 0x04 3 f) (Frame (Deliver (numberAt 2 f 1)) n)
     (cond (isStoreFrame 0x05 2 f) (Frame (Show (numberAt 1 f 1)) n)
-    Malformed))))
+    (cond (isStoreFrame 0x40 1 f) (Frame Clear n)
+    Malformed)))))
 
 -- the value bytes of a write
 abbrev pub valueBytes : List ℕ → List ℕ

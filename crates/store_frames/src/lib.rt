@@ -32,6 +32,7 @@ pub enum StoreFrame {
     Show {
         client: u64,
     },
+    Clear,
 }
 
 // What a line parses to.

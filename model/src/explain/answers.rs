@@ -31,6 +31,10 @@ fn accepted(frame: &Call, bytes: &[u8]) -> Option<String> {
             let (kind, ended) = (kind_name(*kind)?, ended(*outcome)?);
             Some(format!("a {kind}, {}{ended}", in_flight(*high, *low)))
         }
+        (Call::Clear, [0, high, low]) => {
+            let gone = u16::from_be_bytes([*high, *low]);
+            Some(format!("{} went", count(gone.into(), "version")))
+        }
         (Call::Show { .. }, [0, frame @ ..]) => {
             LogFrame::parse(frame).ok().map(|frame| log::sentence(&frame))
         }

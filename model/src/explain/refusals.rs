@@ -9,7 +9,7 @@ const WORDS: [&str; 17] = [
     "not as many values as items",
     "the client's count or a number in its view is the greatest, 4,294,967,295",
     "the load would be over 128",
-    "stored versions and prepares in flight would be over 512",
+    "stored versions and prepares in flight would be over 512; a clearing may free places",
     "no message lies at that place",
     "the version is already stored, or the reply isn't awaited",
     "the version asked for isn't stored",

@@ -21,6 +21,7 @@ pub fn sentence(call: &Call) -> String {
         }
         Call::Deliver { place } => format!("the message at place {place} is delivered"),
         Call::Show { client, .. } => format!("client {client} is asked what it ended last"),
+        Call::Clear => "old versions are cleared away".to_owned(),
     }
 }
 

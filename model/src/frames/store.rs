@@ -37,11 +37,13 @@ pub fn parse(line: &[u8]) -> Result<Call, String> {
             let output = vec![0; ROOM];
             return Ok(Call::Show { client, output });
         }
+        [0x40] => return Ok(Call::Clear),
         [1, ..] => "a fresh start has 4 bytes",
         [2, ..] => "a read has 10 bytes",
         [3, ..] => "a write has 10 bytes and 4 for each of at most 64 values",
         [4, ..] => "a delivery has 3 bytes",
         [5, ..] => "a showing has 2 bytes",
+        [0x40, ..] => "a clearing has 1 byte",
         _ => return Err(format!("unknown kind {:02x}", bytes[0])),
     };
     Err(format!("wrong length: {right}, this {}", bytes.len()))

@@ -5,7 +5,9 @@ use super::{clauses, showings, Clause, Summary};
 use crate::answer::Answer;
 use crate::call::{Call, Event};
 use crate::frames::log::LogFrame;
+use crate::set::size;
 use crate::stamp::Stamp;
+use crate::store::tables::VERSION_CAPACITY;
 
 /// The history and summary of the events so far.
 #[derive(Default)]
@@ -31,11 +33,21 @@ impl Checker {
             }
             (Call::Write { client, set, values }, Answer::Started { .. }) => {
                 clauses::write_is_later_than_all_shown_before(&self.history, *client)?;
+                let taken = self.history.places_taken() + size(*set);
+                self.summary.served += usize::from(taken > VERSION_CAPACITY);
                 self.history.start_write(place, *client, *set, values);
+            }
+            (Call::Write { set, .. }, _) => {
+                clauses::freed_places_serve(&self.history, *set, answer)?;
             }
             (Call::Deliver { place: at }, _) => self.deliver(place, *at, answer)?,
             (Call::Show { client, .. }, _) => self.show(*client, event, answer)?,
-            _ => (),
+            (Call::Clear, _) => {
+                let gone = clauses::clearing_takes_stored_versions(&self.history, answer)?;
+                self.history.clear(gone);
+                self.summary.gone += gone;
+            }
+            (Call::Fresh { .. } | Call::Read { .. }, _) => (),
         }
         clauses::length_is_that_of_the_list(&self.history, answer)?;
         clauses::one_message_for_each_awaited_item(&self.history)?;

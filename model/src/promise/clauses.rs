@@ -102,8 +102,31 @@ pub(super) fn length_is_that_of_the_list(history: &History, answer: Answer) -> R
         Answer::Started { messages } | Answer::Delivered { messages, .. } => {
             holds(messages == history.messages.len() as u64, Clause::Length)
         }
-        Answer::Refused(_) | Answer::Fresh | Answer::Shown { .. } => Ok(()),
+        Answer::Refused(_) | Answer::Fresh | Answer::Shown { .. } | Answer::Cleared { .. } => {
+            Ok(())
+        }
     }
+}
+
+/// A clearing is accepted, and takes away no more versions than are stored.
+pub(super) fn clearing_takes_stored_versions(
+    history: &History,
+    answer: Answer,
+) -> Result<u64, Clause> {
+    match answer {
+        Answer::Cleared { gone } if history.gone + gone <= history.stored => Ok(gone),
+        _ => Err(Clause::Clearing),
+    }
+}
+
+/// A write isn't refused by 9 that has no more items than places which a clearing freed and writes
+/// since have left.
+pub(super) fn freed_places_serve(
+    history: &History,
+    set: u64,
+    answer: Answer,
+) -> Result<(), Clause> {
+    holds(answer.refusal() != 9 || size(set) > history.freed, Clause::FreedPlaces)
 }
 
 /// Every running read has exactly one get or got of its client in the list for each item without a

@@ -109,6 +109,11 @@ pub(super) struct History {
     shown: BTreeMap<u64, Stamp>,
     /// By client and item: the latest stamp that a read of that client showed.
     read: BTreeMap<u64, BTreeMap<u64, Stamp>>,
+    /// Prepares delivered, and versions that clearings took away.
+    pub(super) stored: u64,
+    pub(super) gone: u64,
+    /// Places that a clearing freed, less the items of writes started since: the most of any.
+    pub(super) freed: u64,
 }
 
 impl History {
@@ -140,6 +145,7 @@ impl History {
             stored: None,
         };
         self.learn(client, write.stamp.number);
+        self.freed = self.freed.saturating_sub(size(set));
         self.start(event, client, set, Part::Write(write), Kind::Prepare);
     }
 
@@ -172,6 +178,7 @@ impl History {
         let label = self.messages.remove(place);
         match label.kind {
             Kind::Prepare => {
+                self.stored += 1;
                 if let Part::Write(write) = &mut self.transactions[label.transaction].part {
                     write.unstored.retain(|item| *item != label.item);
                     if write.unstored.is_empty() {
@@ -225,6 +232,18 @@ impl History {
 
     fn join(&mut self, sender: Label, kind: Kind, item: u64) {
         self.messages.push(Label { kind, item, ..sender });
+    }
+
+    /// An accepted clearing took away so many versions.
+    pub(super) fn clear(&mut self, gone: u64) {
+        self.gone += gone;
+        self.freed = self.freed.max(gone);
+    }
+
+    /// Places that prepares delivered and in flight would take if no version had gone.
+    pub(super) fn places_taken(&self) -> u64 {
+        let prepares = self.messages.iter().filter(|label| label.kind == Kind::Prepare);
+        self.stored + prepares.count() as u64
     }
 
     /// A delivery of the client's message reported an end.

@@ -1,4 +1,4 @@
-//! The five calls.
+//! The calls on a block.
 
 use crate::block::Calls;
 
@@ -29,6 +29,7 @@ mod library {
             output: *mut u8,
             room: usize,
         ) -> u64;
+        pub fn koolvent_clear(block: *mut u64, length: usize) -> u64;
     }
 }
 
@@ -64,5 +65,10 @@ impl Calls for Proved {
         let (words, length) = (block.as_ptr(), block.len());
         let (bytes, room) = (output.as_mut_ptr(), output.len());
         unsafe { library::koolvent_show(words, length, client, bytes, room) }
+    }
+
+    #[inline]
+    fn clear(&self, block: &mut [u64]) -> u64 {
+        unsafe { library::koolvent_clear(block.as_mut_ptr(), block.len()) }
     }
 }

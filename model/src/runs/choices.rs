@@ -57,7 +57,11 @@ impl Runner<'_, '_> {
         if self.random.percent(writes) {
             let set = self.narrowed(set);
             let write = self.write(client, set);
-            self.call(write);
+            let answer = self.call(write.clone());
+            if answer == Answer::Refused(9) && self.clears_when_full {
+                self.call(Call::Clear);
+                self.call(write);
+            }
         } else {
             self.call(Call::Read { client, set });
         }

@@ -1,4 +1,4 @@
-//! The five calls. Any number may be passed; a refusal changes nothing.
+//! The calls. Any number may be passed; a refusal changes nothing.
 
 use super::fault::{self, Fault};
 use super::range::GREATEST;
@@ -22,6 +22,7 @@ impl Store {
             Call::Write { client, set, values } => self.start_write(*client, *set, values),
             Call::Deliver { place } => self.deliver(*place),
             Call::Show { client, .. } => self.show(*client, output),
+            Call::Clear => self.clear(),
         }
     }
 
@@ -103,6 +104,22 @@ impl Store {
         let bytes = frame.bytes();
         output[..bytes.len()].copy_from_slice(&bytes);
         Answer::Shown { length: bytes.len() as u64 }
+    }
+
+    /// Drops the stored versions whose stamp nothing names any more, and answers how many went.
+    pub fn clear(&mut self) -> Answer {
+        let refusal = match refusals::clear(&self.tables) {
+            None if self.has(Fault::ClearingWaits) && !fault::all_idle(&self.tables) => Some(4),
+            refusal => refusal,
+        };
+        if let Some(refusal) = self.spoilt(refusal, 0) {
+            return Answer::Refused(refusal);
+        }
+        let before = self.tables.versions.len() as u64;
+        self.step_clear();
+        let kept = self.tables.versions.len() as u64;
+        let gone = if self.has(Fault::AnswersWhatStays) { kept } else { before - kept };
+        Answer::Cleared { gone }
     }
 
     fn started(&self) -> Answer {

@@ -1,7 +1,7 @@
 //! Wrong stores. For tests alone: each shows that some test would notice a store that is wrong in
 //! this way.
 
-use super::tables::{Tables, WIDEST_WRITE, WRITE, WRITING};
+use super::tables::{Tables, IDLE, WIDEST_WRITE, WRITE, WRITING};
 use crate::set::size;
 
 /// One way in which a store can be wrong.
@@ -57,6 +57,31 @@ pub enum Fault {
     WidestWriteRefused,
     /// A block with a wider set than the widest write's is refused by 1.
     WideSetsRefused,
+    /// A clearing spares a version by its item and stamp, not by its stamp alone.
+    SparedByItem,
+    /// A clearing spares by a stamp's number alone.
+    SparedByNumber,
+    /// A clearing forgets a write under way once all its prepares are delivered.
+    WriteUnderWayForgotten,
+    /// A clearing looks at no message but gets.
+    GetsAloneSpare,
+    /// A clearing looks at the version of a got and not at its latest.
+    GotsLatestForgotten,
+    /// A clearing spares what a client's last ended transaction names.
+    LastEndedSpares,
+    /// A clearing spares the stamps that a read asked for.
+    AskedSpares,
+    /// A clearing moves the last version into the place of one that goes.
+    LastIntoTheHole,
+    /// A clearing is refused by 4 while a client isn't idle.
+    ClearingWaits,
+    /// A clearing answers how many versions stay.
+    AnswersWhatStays,
+}
+
+/// Whether no client has a transaction under way.
+pub(super) fn all_idle(tables: &Tables) -> bool {
+    tables.existing_clients().all(|client| client.mode == IDLE)
 }
 
 /// Whether a set that a write left in the tables has more items than a write may have.

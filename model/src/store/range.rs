@@ -2,11 +2,10 @@
 
 use super::message::{Message, Parts};
 use super::tables::{
-    Client, Tables, Version, IDLE, LOAD_CAPACITY, NONE, READ, READING, VERSION_CAPACITY, WRITE,
-    WRITING,
+    Tables, Version, IDLE, LOAD_CAPACITY, NONE, READ, READING, VERSION_CAPACITY, WRITE, WRITING,
 };
 use crate::set::{has, items, lies_in};
-use crate::stamp::{Entry, Stamp};
+use crate::stamp::Stamp;
 
 /// The greatest count, stamp number and value.
 pub const GREATEST: u64 = u32::MAX as u64;
@@ -73,7 +72,7 @@ fn counts_and_values_fit(tables: &Tables) -> bool {
 /// Sets hold only existing items.
 fn sets_hold_existing_items(tables: &Tables) -> bool {
     let exist = |set: u64| tables.holds_only_existing(set);
-    entries(tables).all(|entry| exist(entry.set))
+    tables.entries().all(|(_, entry)| exist(entry.set))
         && tables.existing_clients().all(|client| {
             exist(client.set)
                 && exist(client.awaited)
@@ -91,9 +90,9 @@ fn stamps_are_initial_or_in_range(tables: &Tables) -> bool {
         stamp == Stamp::INITIAL
             || (1..=GREATEST).contains(&stamp.number) && tables.has_client(stamp.client)
     };
-    entries(tables).all(|entry| known(entry.stamp))
+    tables.entries().all(|(_, entry)| known(entry.stamp))
         && tables.existing_clients().all(|client| {
-            running_stamps(client).all(known) && last_stamps(client).into_iter().all(known)
+            client.running_stamps().all(known) && client.last_stamps().into_iter().all(known)
         })
         && tables.versions.iter().all(|version| known(version.stamp))
         && parts(tables).all(|parts| {
@@ -123,8 +122,8 @@ fn prepared_and_commits_are_of_writes(tables: &Tables) -> bool {
 /// A writing client has one stamp for all its items.
 fn writers_have_one_stamp(tables: &Tables) -> bool {
     tables.existing_clients().filter(|client| client.mode == WRITING).all(|client| {
-        let first = running_stamps(client).next();
-        running_stamps(client).all(|stamp| Some(stamp) == first)
+        let first = client.running_stamps().next();
+        client.running_stamps().all(|stamp| Some(stamp) == first)
     })
 }
 
@@ -141,26 +140,4 @@ fn idle_exactly_when_none_awaited(tables: &Tables) -> bool {
 /// The parts of the messages in flight.
 fn parts(tables: &Tables) -> impl Iterator<Item = Parts> + '_ {
     tables.messages.iter().map(Message::parts)
-}
-
-/// Latest and view entries of the items and clients that exist.
-fn entries(tables: &Tables) -> impl Iterator<Item = &Entry> {
-    let existing_items = tables.sizes.items as usize;
-    let views = tables.view.iter().take(tables.sizes.clients as usize);
-    let latest = tables.latest.iter().take(existing_items);
-    latest.chain(views.flat_map(move |view| view.iter().take(existing_items)))
-}
-
-/// The stamps of the items of a client's set.
-fn running_stamps(client: &Client) -> impl Iterator<Item = Stamp> + '_ {
-    items(client.set).map(|item| client.stamps[item as usize])
-}
-
-/// The stamps of a client's last ended transaction.
-fn last_stamps(client: &Client) -> Vec<Stamp> {
-    match client.last.kind {
-        READ => items(client.last.set).map(|item| client.last.stamps[item as usize]).collect(),
-        WRITE => vec![client.last.stamp],
-        _ => Vec::new(),
-    }
 }

@@ -71,6 +71,11 @@ pub(super) fn show(tables: &Tables, client: u64, room: usize) -> Option<u64> {
     ])
 }
 
+/// A clearing is refused by 1 alone.
+pub(super) fn clear(tables: &Tables) -> Option<u64> {
+    first(&[(1, &|| !is_usable(tables))])
+}
+
 /// A prepare of an item and stamp already stored; a prepared whose client isn't writing, a got
 /// whose client isn't reading, or either not awaited with that item and stamp.
 fn is_unwanted(tables: &Tables, message: &Message) -> bool {

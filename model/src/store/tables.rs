@@ -4,7 +4,7 @@
 //! What lies outside the sizes, or outside a client's set, is no field and stays initial.
 
 use super::message::Message;
-use crate::set::{self, size};
+use crate::set::{self, items, size};
 use crate::stamp::{Entry, Stamp};
 
 /// The most clients a store has.
@@ -121,6 +121,20 @@ impl Client {
             last,
         }
     }
+
+    /// The stamps of the items of its set.
+    pub fn running_stamps(&self) -> impl Iterator<Item = Stamp> + '_ {
+        items(self.set).map(|item| self.stamps[item as usize])
+    }
+
+    /// The stamps of its last ended transaction.
+    pub fn last_stamps(&self) -> Vec<Stamp> {
+        match self.last.kind {
+            READ => items(self.last.set).map(|item| self.last.stamps[item as usize]).collect(),
+            WRITE => vec![self.last.stamp],
+            _ => Vec::new(),
+        }
+    }
 }
 
 /// All state of the store.
@@ -208,6 +222,13 @@ impl Tables {
         let prepares =
             self.messages.iter().filter(|message| matches!(message, Message::Prepare(_))).count();
         (self.versions.len() + prepares) as u64
+    }
+
+    /// Latest and view entries of the items and clients that exist, each with its item.
+    pub fn entries(&self) -> impl Iterator<Item = (u64, &Entry)> {
+        let views = self.view.iter().take(self.sizes.clients as usize);
+        let rows = std::iter::once(&self.latest).chain(views);
+        rows.flat_map(|row| (0..self.sizes.items).zip(row))
     }
 
     /// The records of the clients that exist.

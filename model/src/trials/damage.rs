@@ -5,6 +5,7 @@ mod choices;
 use super::agreement::{agree, refused};
 use super::{Busy, Difference, Met};
 use crate::block::Calls;
+use crate::call::Call;
 use crate::layout::{decode, Sort};
 use crate::random::Random;
 use crate::store::range::is_usable;
@@ -38,7 +39,8 @@ pub fn damaged_blocks(
         damaged.valid += usize::from(tables.is_some());
         let mut chooser =
             Chooser { random, tables: tables.as_ref().unwrap_or(&busy.tables), damaged: place };
-        for call in [chooser.read(), chooser.write(), chooser.deliver(), chooser.show()] {
+        let [read, write] = [chooser.read(), chooser.write()];
+        for call in [read, write, chooser.deliver(), chooser.show(), Call::Clear] {
             let answer = match &tables {
                 Some(_) => agree(served, &words, &call),
                 None => refused(served, &words, &call, 1),

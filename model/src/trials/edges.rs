@@ -17,7 +17,7 @@ const FAR: [u64; 6] = [1 << 32, (1 << 32) + 1, 1 << 61, 1 << 63, (1 << 63) + 1, 
 pub fn edges(served: &dyn Calls, busy: &Busy, met: &mut Met) -> Result<(), Difference> {
     lengths(served, busy, met)?;
     let calls = [sizes(), reads(busy), writes(busy), deliveries(busy), showings(busy)];
-    for call in calls.concat() {
+    for call in calls.concat().into_iter().chain([Call::Clear]) {
         met.count(&call, agree(served, &busy.words, &call)?);
     }
     Ok(())
@@ -33,6 +33,7 @@ fn lengths(served: &dyn Calls, busy: &Busy, met: &mut Met) -> Result<(), Differe
         Call::Write { client: 1, set: 1, values: vec![1; 4] },
         Call::Deliver { place: 0 },
         Call::Show { client: 1, output: vec![1; 600] },
+        Call::Clear,
     ];
     let mut words = busy.words.clone();
     words.resize(NEEDED + 70, 5);

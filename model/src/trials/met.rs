@@ -16,6 +16,9 @@ pub struct Met {
     pub reads_ended: usize,
     pub writes_ended: usize,
     pub shown: usize,
+    pub cleared: usize,
+    /// Versions that went.
+    pub gone: u64,
 }
 
 impl Met {
@@ -39,6 +42,10 @@ impl Met {
                 }
             }
             Call::Show { .. } => self.shown += 1,
+            Call::Clear => {
+                self.cleared += 1;
+                self.gone += answer >> 8;
+            }
         }
     }
 
@@ -51,7 +58,7 @@ impl Met {
 
     /// The least of the counts of accepted calls, by call, kind of message and end.
     pub fn rarest_accepted(&self) -> usize {
-        let calls = [self.fresh, self.reads, self.writes, self.shown];
+        let calls = [self.fresh, self.reads, self.writes, self.shown, self.cleared];
         let ends = [self.reads_ended, self.writes_ended];
         let all = calls.iter().chain(&ends).chain(&self.delivered[1..]);
         *all.min().expect("there are some")

@@ -20,6 +20,7 @@ pub struct Runs {
     pub written_entries_shown: usize,
     pub corrections: usize,
     pub shown_again: usize,
+    pub served: usize,
     pub greatest_load: u64,
     pub most_versions: usize,
 }
@@ -63,6 +64,7 @@ fn random_run(
     runs.written_entries_shown += summary.written_entries_shown;
     runs.corrections += summary.corrections;
     runs.shown_again += summary.shown_again;
+    runs.served += summary.served;
     runs.greatest_load = runs.greatest_load.max(run.greatest_load);
     runs.most_versions = runs.most_versions.max(run.most_versions);
     Ok(())

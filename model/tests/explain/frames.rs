@@ -63,7 +63,11 @@ fn every_refusal_is_said() {
             "refused by 7: the client's count or a number in its view is the greatest, 4,294,967,295",
         ),
         ("08", "refused by 8: the load would be over 128"),
-        ("09", "refused by 9: stored versions and prepares in flight would be over 512"),
+        (
+            "09",
+            "refused by 9: stored versions and prepares in flight would be over 512; a clearing \
+             may free places",
+        ),
         ("0a", "refused by 10: no message lies at that place"),
         ("0b", "refused by 11: the version is already stored, or the reply isn't awaited"),
         ("0c", "refused by 12: the version asked for isn't stored"),
@@ -92,11 +96,24 @@ fn bytes_that_answer_no_such_frame_are_told() {
         ("0502", "002102"),
         ("0502", "12"),
         ("06", "00"),
+        ("40", "00"),
+        ("40", "00000000"),
     ];
     for (frame, answer) in others {
         let said = said(frame, answer);
         assert!(said.ends_with(": this is no answer to such a frame"), "{said}");
     }
+}
+
+#[test]
+fn a_clearing_is_said_with_how_many_went() {
+    let asked = "old versions are cleared away";
+    assert_eq!(said("40", "000000"), format!("{asked}: 0 versions went"));
+    assert_eq!(said("40", "000001"), format!("{asked}: 1 version went"));
+    assert_eq!(said("40", "0001fe"), format!("{asked}: 510 versions went"));
+    let refused =
+        "refused by 1: the block is too short or damaged, or no fresh start was accepted yet";
+    assert_eq!(said("40", "01"), format!("{asked}: {refused}"));
 }
 
 #[test]

@@ -52,6 +52,8 @@ fn the_kind_and_length_of_a_store_frame() {
         ("020200000000000003", "wrong length: a read has 10 bytes, this 9"),
         ("0400", "wrong length: a delivery has 3 bytes, this 2"),
         ("05", "wrong length: a showing has 2 bytes, this 1"),
+        ("4000", "wrong length: a clearing has 1 byte, this 2"),
+        ("41", "unknown kind 41"),
         (
             "0301000000000000000100000007ff",
             "wrong length: a write has 10 bytes and 4 for each of at most 64 values, this 15",

@@ -1,4 +1,5 @@
 //! The tables as words of a block.
 
+mod clearing;
 mod laws;
 mod session;

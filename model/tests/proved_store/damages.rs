@@ -32,7 +32,7 @@ fn small_blocks() {
 #[test]
 fn blocks_of_any_size() {
     let block = |seed| Busy::new(Sort::AnySize, seed);
-    let damaged = damages(block, 210_000..210_250, 200);
+    let damaged = damages(block, 210_000..211_000, 50);
     assert_eq!(damaged.blocks, 50_000);
     assert!(damaged.valid >= 15_000, "{damaged:?}");
     assert!(damaged.met.rarest_accepted() >= 200, "{damaged:?}");
@@ -42,7 +42,7 @@ fn blocks_of_any_size() {
 #[test]
 fn crowded_blocks() {
     let block = |seed| Busy::new(Sort::Crowded, seed);
-    let damaged = damages(block, 220_000..220_025, 1_000);
+    let damaged = damages(block, 220_000..220_100, 250);
     assert_eq!(damaged.blocks, 25_000);
     assert!(damaged.valid >= 5_000, "{damaged:?}");
     assert!(damaged.met.rarest_accepted() >= 50, "{damaged:?}");

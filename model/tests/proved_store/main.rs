@@ -1,6 +1,7 @@
-//! The proved store held against the model: random runs, damaged blocks, and numbers, lengths and
-//! rooms at their edges.
+//! The proved store held against the model: random runs, damaged blocks, clearings, and numbers,
+//! lengths and rooms at their edges.
 
+mod clearings;
 mod damages;
 mod edges;
 mod range;

@@ -19,6 +19,7 @@ fn small_stores() {
     assert!(runs.written_entries_shown >= 40_000, "{runs:?}");
     assert!(runs.corrections >= 1_000, "{runs:?}");
     assert!(runs.shown_again >= 20_000, "{runs:?}");
+    assert!(runs.met.gone >= 10_000, "{runs:?}");
 }
 
 #[test]
@@ -27,6 +28,7 @@ fn stores_of_any_size() {
     assert!(runs.met.rarest_accepted() >= 400, "{runs:?}");
     runs.met.assert_refused(&[1, 2, 3, 4, 5, 6, 8, 10, 13, 14, 17], 20);
     assert!(runs.written_entries_shown >= 2_000, "{runs:?}");
+    assert!(runs.met.gone >= 100, "{runs:?}");
 }
 
 #[test]
@@ -39,4 +41,5 @@ fn crowded_stores_of_some_thousand_calls() {
     assert!(runs.written_entries_shown >= 2_000, "{runs:?}");
     assert!(runs.corrections >= 30, "{runs:?}");
     assert!(runs.shown_again >= 2_000, "{runs:?}");
+    assert!(runs.met.gone >= 1_000 && runs.served >= 100, "{runs:?}");
 }

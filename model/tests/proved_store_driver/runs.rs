@@ -25,6 +25,7 @@ fn line(call: &Call) -> Option<String> {
             [&[4], &place.to_be_bytes()[..]].concat()
         }
         Call::Show { client, .. } => vec![5, byte(*client)?],
+        Call::Clear => vec![0x40],
     };
     Some(to_hex(&frame))
 }

@@ -67,9 +67,10 @@ impl Drop for Talk {
     }
 }
 
-/// A write and a read of two items, a showing, and lines that are refused.
-const LINES: [&str; 17] = [
+/// A write and a read of two items, a showing, clearings, and lines that are refused.
+const LINES: [&str; 20] = [
     "0501",
+    "40",
     "01020202",
     "030100000000000000030000000700000008",
     "040000",
@@ -84,8 +85,10 @@ const LINES: [&str; 17] = [
     "040002",
     "040002",
     "040002",
+    "40",
     "0501",
     "0G",
+    "400",
 ];
 
 #[test]

@@ -41,6 +41,19 @@ fn a_showing_gives_the_frame_and_its_length() {
 }
 
 #[test]
+fn a_clearing_gives_how_many_went() {
+    let answer = Answer::Cleared { gone: 0x01fe };
+    assert_eq!(answer.bytes(&[]), [0, 1, 0xfe]);
+    assert_eq!(answer.number(), 0x01_fe00);
+    assert_eq!(Answer::of(&Call::Clear, 0x01_fe00), Some(answer));
+    assert_eq!(Answer::of(&Call::Clear, 0), Some(Answer::Cleared { gone: 0 }));
+    assert_eq!(Answer::of(&Call::Clear, 1), Some(Answer::Refused(1)));
+    for number in [2, 4, 9, 12, 1 << 24] {
+        assert_eq!(Answer::of(&Call::Clear, number), None);
+    }
+}
+
+#[test]
 fn a_number_is_an_answer_only_to_a_call_that_can_give_it() {
     let delivery = Call::Deliver { place: 0 };
     let delivered = Answer::Delivered { kind: 5, messages: 0x0102, outcome: READ_ENDED };

@@ -16,7 +16,7 @@ fn a_last_line_without_its_end_is_15() {
 
 #[test]
 fn other_lines_are_15_and_the_next_line_goes_on() {
-    let others: [&[u8]; 16] = [
+    let others: [&[u8]; 20] = [
         b"",
         b"\r",
         b"01020202\r",
@@ -33,6 +33,10 @@ fn other_lines_are_15_and_the_next_line_goes_on() {
         b"0x020202",
         b"05",
         b"0400",
+        b"4000",
+        b"400",
+        b"3f",
+        b"41",
     ];
     for line in others {
         let input = [b"01020202\n", line, b"\n0501\n"].concat();
@@ -54,6 +58,7 @@ fn well_formed_frames_before_an_accepted_fresh_are_1() {
         "040000",
         "0501",
         "0500",
+        "40",
     ];
     for frame in frames {
         let input = format!("{frame}\n01090101\n{frame}\n01010101\n");
@@ -153,6 +158,26 @@ fn an_entry_once_shown_does_not_go_back() {
         read_of_0,
         read_of_1,
         shown,
+    ];
+    let (input, output): (Vec<&str>, Vec<&str>) = steps.into_iter().unzip();
+    assert_eq!(run(input.concat().as_bytes()), output.concat());
+}
+
+/// Client 1 writes item 0 three times. Once a write is committed, the version before it goes; while
+/// the last one is under way none does.
+#[test]
+fn a_clearing_answers_how_many_versions_went() {
+    let write = "0301000000000000000100000005\n040000\n040000\n040000\n";
+    let written = "000001\n0001000100\n0002000102\n0003000000\n";
+    let steps = [
+        ("01020101\n40\n", "00\n000000\n"),
+        (write, written),
+        ("40\n", "000000\n"),
+        (write, written),
+        ("40\n40\n", "000001\n000000\n"),
+        ("0301000000000000000100000006\n040000\n", "000001\n0001000100\n"),
+        ("40\n040000\n040000\n", "000000\n0002000102\n0003000000\n"),
+        ("40\n", "000001\n"),
     ];
     let (input, output): (Vec<&str>, Vec<&str>) = steps.into_iter().unzip();
     assert_eq!(run(input.concat().as_bytes()), output.concat());

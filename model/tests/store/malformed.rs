@@ -4,7 +4,7 @@ use koolvent_model::call::Call;
 use koolvent_model::frames::store::{parse, run};
 use koolvent_model::random::Random;
 
-const GOOD: [&str; 7] = [
+const GOOD: [&str; 8] = [
     "01020202",
     "02020000000000000003",
     "030100000000000000030000000700000008",
@@ -12,6 +12,7 @@ const GOOD: [&str; 7] = [
     "040001",
     "0502",
     "02ffffffffffffffffff",
+    "40",
 ];
 
 /// The call of a line without its 0a.
@@ -28,6 +29,7 @@ fn has_a_length_of_its_kind(bytes: &[u8]) -> bool {
         Some(3) => (10..=266).contains(&length) && length % 4 == 2,
         Some(4) => length == 3,
         Some(5) => length == 2,
+        Some(0x40) => length == 1,
         _ => false,
     }
 }
@@ -71,7 +73,7 @@ fn random_bytes_are_parsed_exactly_when_they_have_a_length_of_their_kind() {
         let length = random.below(24) as usize;
         let mut bytes = random.bytes(length);
         if let Some(first) = bytes.first_mut() {
-            *first %= 8;
+            *first = random.pick(&[0, 1, 2, 3, 4, 5, 6, 7, 0x40]);
         }
         let line: String = bytes.iter().map(|byte| format!("{byte:02x}")).collect();
         let frame = parsed(line.as_bytes());

@@ -9,6 +9,7 @@ mod wrong_store;
 use koolvent_model::block::Calls;
 use koolvent_model::random::Random;
 use koolvent_model::runs::Sort;
+use koolvent_model::trials::clearings::clearings;
 use koolvent_model::trials::damage::{damaged_blocks, Damaged};
 use koolvent_model::trials::edges::edges;
 use koolvent_model::trials::range::{every_field, random_words, Judged, Valid};
@@ -20,7 +21,7 @@ fn runs(served: &dyn Calls) -> Result<Runs, Difference> {
     let mut runs = Runs::default();
     random_runs(served, Sort::Small, 0..150, &mut runs)?;
     random_runs(served, Sort::AnySize, 0..20, &mut runs)?;
-    random_runs(served, Sort::Crowded, 0..2, &mut runs)?;
+    random_runs(served, Sort::Crowded, 0..4, &mut runs)?;
     Ok(runs)
 }
 
@@ -53,6 +54,13 @@ fn edge_calls(served: &dyn Calls) -> Result<Met, Difference> {
     for seed in 95..155 {
         edges(served, &Busy::unlike_any(seed), &mut met)?;
     }
+    Ok(met)
+}
+
+/// Clearings of blocks whose versions are each named in one place, or in none.
+fn cleared(served: &dyn Calls) -> Result<Met, Difference> {
+    let mut met = Met::default();
+    clearings(served, 0..300, &mut met)?;
     Ok(met)
 }
 

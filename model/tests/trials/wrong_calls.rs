@@ -1,7 +1,7 @@
 //! Wrong stores on blocks, each caught by a trial.
 
 use crate::wrong_store::Wrong;
-use crate::{damages, edge_calls, runs};
+use crate::{cleared, damages, edge_calls, runs};
 use koolvent_model::block::Modelled;
 use koolvent_model::store::fault::Fault;
 
@@ -138,6 +138,42 @@ fn runs_edges_and_damages_catch_wrong_limits_of_a_write() {
     assert!(edge_calls(&of(Fault::WidestWriteRefused)).is_err());
     assert!(damages(&of(Fault::WideSetsRefused)).is_err());
     assert!(edge_calls(&of(Fault::WideSetsRefused)).is_err());
+}
+
+/// Those that clear otherwise than document 02, P5.
+#[test]
+fn runs_and_clearings_catch_every_wrong_clearing() {
+    for fault in [
+        Fault::SparedByItem,
+        Fault::SparedByNumber,
+        Fault::GetsAloneSpare,
+        Fault::GotsLatestForgotten,
+        Fault::LastEndedSpares,
+        Fault::AskedSpares,
+        Fault::LastIntoTheHole,
+        Fault::ClearingWaits,
+        Fault::AnswersWhatStays,
+    ] {
+        let wrong = Modelled { fault: Some(fault) };
+        assert!(runs(&wrong).is_err(), "{fault:?}");
+        assert!(cleared(&wrong).is_err(), "{fault:?}");
+    }
+}
+
+/// In runs a write under way has a prepare or a prepared reply in flight, which spares its versions
+/// too; other blocks have none.
+#[test]
+fn clearings_catch_a_write_under_way_forgotten_once_its_prepares_are_delivered() {
+    let wrong = Modelled { fault: Some(Fault::WriteUnderWayForgotten) };
+    assert!(runs(&wrong).is_ok());
+    assert!(cleared(&wrong).is_err());
+}
+
+#[test]
+fn clearings_catch_wrong_words() {
+    for wrong in [Wrong::ClearsFreedPlaces, Wrong::AbsentEntriesSpare, Wrong::MarksARefusal] {
+        assert!(cleared(&wrong).is_err(), "{wrong:?}");
+    }
 }
 
 /// No run comes near the greatest number; damages and edges have it in views.

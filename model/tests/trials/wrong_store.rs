@@ -43,6 +43,11 @@ pub enum Wrong {
     ShowsPastTheFrame,
     /// A showing without room writes what fits.
     ShowsWhatFits,
+    /// A clearing clears the words of the places that it frees.
+    ClearsFreedPlaces,
+    /// A clearing spares what is named in the view or latest of a client or item that doesn't
+    /// exist.
+    AbsentEntriesSpare,
 }
 
 impl Wrong {
@@ -106,6 +111,31 @@ impl Wrong {
         }
     }
 
+    /// A clearing moves the versions down whose stamp the block has among the model's or in the
+    /// entry of an absent client or item.
+    fn spoil_clearing(self, before: &[u64], after: &mut [u64]) {
+        let [was, is] = [before, &*after].map(|words| words[places::VERSIONS] as usize);
+        match self {
+            Wrong::ClearsFreedPlaces => {
+                after[places::version(is)..places::version(was)].fill(0);
+            }
+            Wrong::AbsentEntriesSpare => {
+                let stamp = |words: &[u64], place| words[places::version(place) + 2];
+                let absent = absent_entries(before);
+                let mut stamps: Vec<u64> = (0..is).map(|place| stamp(after, place)).collect();
+                stamps.extend(absent.iter().map(|place| before[*place]));
+                let mut kept = 0;
+                for place in (0..was).filter(|place| stamps.contains(&stamp(before, *place))) {
+                    let version = &before[places::version(place)..][..4];
+                    after[places::version(kept)..][..4].copy_from_slice(version);
+                    kept += 1;
+                }
+                after[places::VERSIONS] = kept as u64;
+            }
+            _ => (),
+        }
+    }
+
     fn client(self, client: u64) -> u64 {
         match self {
             Wrong::NarrowClients => client % 256,
@@ -122,6 +152,15 @@ fn unused(block: &[u64], words: Range<usize>) -> Vec<usize> {
         is_field[field.place] = true;
     }
     words.filter(|place| !is_field[*place]).collect()
+}
+
+/// Where views and latest of clients and items lie that the block doesn't have.
+fn absent_entries(block: &[u64]) -> Vec<usize> {
+    let [clients, items] = [places::CLIENTS, places::ITEMS].map(|place| block[place] as usize);
+    let latest = (items..64).map(places::latest);
+    let views = (1..=8).flat_map(|client| (0..64).map(move |item| (client, item)));
+    let views = views.filter(|(client, item)| *client > clients || *item >= items);
+    latest.chain(views.map(|(client, item)| places::view(client, item))).collect()
 }
 
 impl Calls for Wrong {
@@ -179,6 +218,15 @@ impl Calls for Wrong {
                 output.copy_from_slice(&whole[..room]);
             }
             _ => (),
+        }
+        answer
+    }
+
+    fn clear(&self, block: &mut [u64]) -> u64 {
+        let before = block.to_vec();
+        let answer = self.made(block, |block| MODEL.clear(block));
+        if answer & 0xff == 0 {
+            self.spoil_clearing(&before, block);
         }
         answer
     }

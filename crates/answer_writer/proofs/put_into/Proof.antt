@@ -9,7 +9,7 @@ use Rattle.protocol.specs.declared.Answer.{Answer}
 use Rattle.store_frames.specs.Answers.{lineOf, answerLine}
 use Rattle.store_frames.proofs.Writing.{length-take-most, answer-refused, answer-made}
 use Rattle.store_frames.proofs.Writing.{answer-started, answer-delivered, answer-shown}
-use Rattle.store_frames.proofs.Writing.{written}
+use Rattle.store_frames.proofs.Writing.{answer-cleared, written}
 use Rattle.answer_writer.proofs.put_into.Statement.{statement}
 use Rattle.answer_writer.proofs.put_into.Tie as tie
 
@@ -63,6 +63,12 @@ put-shown-requires c κs = omega (
       (c .before .before .before .a4 .given .0 .0)
       (c .before .before .before .before .before .before .before .args .shown .now),
 )
+
+enum-known-a-5 : tie.Need-enum-known-a-5
+enum-known-a-5 c = search needs
+
+put-line-requires-5 : tie.Need-put-line-requires-5
+put-line-requires-5 c κs = search needs
 
 same-length : tie.Need-same-length
 same-length c = search needs
@@ -126,6 +132,18 @@ returns-5 c =
     ∙ sym (ap answer (told .a4 .given .1)))
     (c .before .before .put-shown .ensures)
 
+same-length-6 : tie.Need-same-length-6
+same-length-6 c = search needs
+
+returns-6 : tie.Need-returns-6
+returns-6 c =
+    let a = c .before .before .before .before .before .before .before .before .before .args in
+    let answer : Answer → List ℕ = λ x. answerLine x (a .shown .now) in
+    written (a .out .now)
+    (answer-cleared _ (a .shown .now)
+    ∙ sym (ap answer (c .before .before .before .before .before .a5 .given .1)))
+    (c .before .before .put-line5 .ensures)
+
 pub put-into-spec : {M : Type 1} → statement M
 put-into-spec =
     tie.close
@@ -145,6 +163,8 @@ put-into-spec =
     enum-known-a-4
     front-requires
     put-shown-requires
+    enum-known-a-5
+    put-line-requires-5
     same-length
     returns
     same-length-2
@@ -154,4 +174,6 @@ put-into-spec =
     same-length-4
     returns-4
     same-length-5
-    returns-5)
+    returns-5
+    same-length-6
+    returns-6)

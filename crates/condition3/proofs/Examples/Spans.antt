@@ -11,20 +11,23 @@ use native.Mathlib.Omega.{arith}
 use lib.Count.{ones, onesIn}
 use lib.Dec.{eqb}
 use lib.ListN.{replicate}
-use Rattle.basics.specs.Lists.{every, all, counted, without}
+use Rattle.basics.specs.Lists.{every, all, counted, without, dropped}
 use Rattle.hex.specs.Number.{bigEndian, numberAt}
 use Rattle.itemset.specs.Set.{has, upto, remove}
 use Rattle.protocol.specs.Tables.{isKind, stampOf}
-use Rattle.protocol.specs.Range.{capacities, valid, inRange, stampInRange, sizesInRange}
+use Rattle.protocol.specs.Message.{isPrepare}
+use Rattle.protocol.specs.Range.{Capacities, capacities, valid, inRange, stampInRange}
+use Rattle.protocol.specs.Range.{sizesInRange}
 use Rattle.protocol.specs.Range.{entryInRange, versionInRange, messageInRange, endedInRange}
 use Rattle.protocol.specs.Range.{clientInRange, readPartInRange, writePartInRange, arrived}
 use Rattle.protocol.specs.Range.{total, load, occupied}
 use Rattle.protocol.specs.Steps.{nextStamp, greatestIn, choice, stored, found, delivered}
 use Rattle.protocol.specs.Steps.{joined, touches}
+use Rattle.protocol.specs.Clear.{mentions, unused}
 use Rattle.protocol.specs.LogFrame.{listed, readBytes, writeBytes, frame}
-use Rattle.protocol.specs.Calls.{Call, startRead, startWrite, deliver, show, first, refusal}
-use Rattle.protocol.specs.Calls.{unexpected, missing, isNothing, outcomeOf, effect, reply}
-use Rattle.protocol.specs.Calls.{written, lent, step}
+use Rattle.protocol.specs.Calls.{Call, startRead, startWrite, deliver, show, clear, first}
+use Rattle.protocol.specs.Calls.{refusal, unexpected, missing, isNothing, outcomeOf, effect}
+use Rattle.protocol.specs.Calls.{reply, written, lent, step, numberOfAnswer}
 use Rattle.condition3.specs.World.{World, Labelled, begin, accepts, next, after, joining}
 use Rattle.condition3.specs.World.{leaving, staying, begun, withoutAll, storing, joiningOver}
 use Rattle.condition3.specs.World.{leavingOver, isRequest, isReply, isReplyFor, isReadMessage}
@@ -57,6 +60,10 @@ between = written-first ++ startRead 2 3 ∷ during ++ deliver 1 ∷ show 2 room
 -- the same with two refused calls
 abbrev refusedAmong : List Call
 refusedAmong = deliver 1 ∷ startRead 2 1 ∷ deliver 9 ∷ deliver 1 ∷ deliver 1 ∷ []
+
+-- and with two clearings
+abbrev clearedAmong : List Call
+clearedAmong = deliver 1 ∷ clear ∷ deliver 1 ∷ clear ∷ deliver 1 ∷ []
 
 module _ (before meanwhile : List Call) where
   -- what joins, what is delivered, and the world after the read's end
@@ -110,7 +117,7 @@ showing =
 
 -- Calls count from 0. The write starts with call 0, and its prepares are delivered by 1 and 2. The
 -- second read starts with call 12; its gets are delivered by 13 and 14, which are the times of the
--- answers. A refused call takes its time.
+-- answers. A refused call takes its time, and so does a clearing.
 abbrev times : Bool
 times =
     let v = after capacities w between in
@@ -125,6 +132,7 @@ times =
     && same (map (λ l. l .label .start) (leaves between during)) (12 ∷ 12 ∷ 12 ∷ 12 ∷ [])
     && same (map answeredAt (leaves between during)) (12 ∷ 12 ∷ 13 ∷ 14 ∷ [])
     && same (map answeredAt (leaves between refusedAmong)) (12 ∷ 12 ∷ 13 ∷ 16 ∷ [])
+    && same (map answeredAt (leaves between clearedAmong)) (12 ∷ 12 ∷ 13 ∷ 15 ∷ [])
 
 -- After its showing client 2, which has written nothing, starts a write of item 0: since it was
 -- shown number 1, its number is 2, and so its own showing says; a third write's is 3.
@@ -212,6 +220,34 @@ writesAndStores =
     && same (map (λ σ. σ .start) (v .stores)) (0 ∷ 3 ∷ [])
     && same (map (λ σ. σ .time) (v .stores)) (1 ∷ 4 ∷ [])
 
+-- ---- Places freed, of three
+
+abbrev small : Capacities
+small = record { versions = 3; load = 128; widest = 12 }
+
+-- client 1 writes item 0 three times: three versions, of which its view and latest spare the last
+abbrev writing : List Call
+writing = startWrite 1 1 (0 ∷ 0 ∷ 0 ∷ 7 ∷ []) ∷ deliver 0 ∷ deliver 0 ∷ deliver 0 ∷ []
+
+abbrev filled : List Call
+filled = writing ++ writing ++ writing
+
+abbrev newWrite : ℕ → Call
+newWrite d = startWrite d 1 (0 ∷ 0 ∷ 0 ∷ 8 ∷ [])
+
+-- two places are freed, which serve two prepares, and no third
+abbrev serving : Bool
+serving =
+    let v = after small u filled in
+    let cleared = after small u (filled ++ clear ∷ []) in
+    eqb (refusal small (v .tables) (newWrite 1)) 9
+    && eqb (numberOfAnswer (step small (v .tables) clear .answer)) 0x200
+    && eqb (counted (λ l. isPrepare (l .message))
+    (joiningOver small cleared (newWrite 1 ∷ deliver 0 ∷ deliver 9 ∷ deliver 0 ∷ []))) 1
+    && accepts small (after small cleared (newWrite 1 ∷ deliver 0 ∷ [])) (newWrite 2)
+    && eqb (refusal small (after small cleared
+    (newWrite 1 ∷ newWrite 2 ∷ deliver 0 ∷ deliver 1 ∷ []) .tables) (newWrite 1)) 9
+
 -- ---- The rows
 
 abbrev rows : List Bool
@@ -219,6 +255,7 @@ rows =
     whole written-first during
     ∷ whole between during
     ∷ whole between refusedAmong
+    ∷ whole between clearedAmong
     ∷ resting written-first during
     ∷ resting between refusedAmong
     ∷ oneEach
@@ -229,6 +266,7 @@ rows =
     ∷ readsBoth untilFirst
     ∷ readsBoth untilSecond
     ∷ writesAndStores
+    ∷ serving
     ∷ []
 
 pub spans : all (λ b. b) rows ≡ true
@@ -236,8 +274,9 @@ unfolding next after joining leaving staying begun withoutAll storing joiningOve
     outcomeIn delivers stays startsFor rests step refusal first unexpected missing isNothing effect
     reply written lent outcomeOf valid inRange sizesInRange stampInRange entryInRange versionInRange
     messageInRange isKind endedInRange clientInRange readPartInRange writePartInRange load arrived
-    total occupied greatestIn choice stored found delivered joined touches listed readBytes
-    writeBytes frame every all counted without has upto remove ones onesIn bigEndian numberAt
+    total occupied greatestIn choice stored found delivered joined touches mentions unused listed
+    readBytes writeBytes frame numberOfAnswer every all counted without dropped has upto remove ones
+    onesIn bigEndian numberAt
 spans = refl
 
 -- ---- A tie: both writes have number 1
@@ -269,8 +308,9 @@ unfolding next after joining leaving staying begun withoutAll storing joiningOve
     outcomeIn delivers stays startsFor rests step refusal first unexpected missing isNothing effect
     reply written lent outcomeOf valid inRange sizesInRange stampInRange entryInRange versionInRange
     messageInRange isKind endedInRange clientInRange readPartInRange writePartInRange load arrived
-    total occupied greatestIn choice stored found delivered joined touches listed readBytes
-    writeBytes frame every all counted without has upto remove ones onesIn bigEndian numberAt
+    total occupied greatestIn choice stored found delivered joined touches mentions unused listed
+    readBytes writeBytes frame numberOfAnswer every all counted without dropped has upto remove ones
+    onesIn bigEndian numberAt
 ties = (
   inr (refl, below),
   ⊎-elim (never 1) (λ p. never 1 (p .1)),

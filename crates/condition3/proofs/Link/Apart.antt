@@ -4,10 +4,10 @@ use mathlib.Core.Path.{_≡_, refl, ap}
 use Rattle.protocol.specs.Calls.{Call, nobody, Effects, effect}
 use Rattle.condition3.specs.World.{World, does, withoutAll, joining, leaving, staying, begun}
 use Rattle.condition3.specs.World.{storing}
-use Rattle.protocol.proofs.Sorts.{withViews, Apart}
+use Rattle.protocol.proofs.Sorts.{aside, Apart}
 
 module _ (w : World) (c : Call) (a : Apart (w .tables) c) where
-  pub apart-tables : effect (w .tables) c ≡ withViews (w .tables) (a .view)
+  pub apart-tables : effect (w .tables) c ≡ aside (w .tables) (a .view) (a .versions)
   unfolding effect
   apart-tables = ap (λ (x : Effects). x .tables) (a .does)
 

@@ -10,7 +10,7 @@ use native.Mathlib.Omega.{arith}
 use lib.Dec.{eqb}
 use Rattle.basics.proofs.Cases.{not-both, or-right}
 use Rattle.basics.specs.Lists.{In}
-use Rattle.basics.proofs.Lists.{in-right, in-append, in-map}
+use Rattle.basics.proofs.Lists.{in-right, in-append, in-map, sublist-in}
 use Rattle.itemset.specs.Set.{has}
 use Rattle.protocol.specs.declared.Message.{Message}
 use Rattle.protocol.specs.declared.Message.the-variants.{Prepare, Get}
@@ -78,7 +78,7 @@ module _ (caps : Capacities) (w : World) (inv : Inv caps w) where
         entered = rw (apart-begun w c a, apart-begins w c a, apart-tables w c a)
             (same-entered caps w inv (w .tables .client)
             (λ d. le-refl (w .tables .client d .count)));
-        stored = λ v i. inl (rw (apart-tables w c a) at i);
+        stored = λ v i. inl (sublist-in (a .fewer) v (rw (apart-tables w c a) at i));
         comes = λ l i. absurd (rw (apart-joining w c a) at i);
       }
 

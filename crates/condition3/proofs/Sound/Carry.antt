@@ -1,6 +1,6 @@
 -- What is said of a stamp against a ledger and stored versions is said against others that carry
 -- the stamp.
-use mathlib.Core.Bool.{Bool, true, false, _||_}
+use mathlib.Core.Bool.{true, false, _||_}
 use mathlib.Core.List.{List}
 use mathlib.Core.Logic.{_≢_}
 use mathlib.Core.Path.{_≡_, refl, sym, _∙_, subst}
@@ -19,6 +19,8 @@ use Rattle.protocol.specs.Tables.{laterOf, entryOf}
 use Rattle.protocol.specs.Message.{partsOf, ownerOf}
 use Rattle.protocol.specs.Range.{Capacities}
 use Rattle.protocol.specs.Steps.{stored}
+use Rattle.protocol.specs.Clear.{mentions}
+use Rattle.protocol.proofs.Cleared.{Covers}
 use Rattle.protocol.proofs.Ranges.Values.{IsClient, owner-in-range}
 use Rattle.condition3.proofs.Sound.{Ledger, Good, GoodEntry, Kept, Last, Writes, Fits}
 use Rattle.condition3.proofs.Sound.{SoundBy}
@@ -37,10 +39,6 @@ carries-self L vs s = record { set = refl; value = λ k e. refl; keeps = λ k e.
 pub later-good : (L : Ledger) (vs : List Version) (k : ℕ) (a b : Entry) → GoodEntry L vs k a
     → GoodEntry L vs k b → GoodEntry L vs k (laterOf a b)
 later-good L vs k a b x y = by-test (ltb (a .stamp) (b .stamp)) (λ e. rw e y) (λ e. rw e x)
-
--- the message holds stamp s
-unfoldable pub mentions : ℕ → Message → Bool
-mentions s m = eqb (partsOf m .stamp) s || eqb (partsOf m .latest .stamp) s
 
 mentions-own : (m : Message) → mentions (partsOf m .stamp) m ≡ true
 unfolding mentions
@@ -135,14 +133,6 @@ module _ (L L′ : Ledger) (vs vs′ : List Version) where
       }
 
 -- ---- the stamps in use
-
--- P holds of every stamp in a view, a latest, a message or a write under way
-pub record Covers (P : ℕ → Type 0) (t : Tables) : Type 0 where
-  pub view : (d k : ℕ) → IsClient (t .sizes) d → k < t .sizes .items → P (t .view d k .stamp)
-  pub latest : (k : ℕ) → k < t .sizes .items → P (t .latest k .stamp)
-  pub message : (m : Message) → In m (t .messages) → (s : ℕ) → mentions s m ≡ true → P s
-  pub write : (d : ℕ) → IsClient (t .sizes) d → t .client d .write .set ≢ 0
-      → P (t .client d .write .stamp)
 
 abbrev pub Any : ℕ → Type 0
 Any s = Unit

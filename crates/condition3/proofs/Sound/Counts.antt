@@ -16,10 +16,12 @@ use Rattle.protocol.specs.Tables.{Tables, numberOf, writerOf}
 use Rattle.protocol.specs.Message.{partsOf, isGet, itemOf}
 use Rattle.protocol.specs.Range.{Capacities}
 use Rattle.protocol.specs.Steps.{stored, found}
+use Rattle.protocol.specs.Clear.{mentions}
+use Rattle.protocol.proofs.Cleared.{Covers}
 use Rattle.protocol.proofs.Stored.{found-held}
 use Rattle.protocol.proofs.Ranges.Values.{IsClient}
 use Rattle.condition3.proofs.Sound.{Ledger, Good, Counted, Fits, SoundBy}
-use Rattle.condition3.proofs.Sound.Carry.{mentions, Covers, owner-client}
+use Rattle.condition3.proofs.Sound.Carry.{owner-client}
 use Rattle.condition3.proofs.Sound.Staying.{write-number}
 
 module _ (caps : Capacities) (L : Ledger) (t : Tables) (sound : SoundBy caps L t) where

@@ -1,14 +1,15 @@
--- No two stored versions are alike: kept by one more that isn't stored.
+-- No two stored versions are alike: kept by one more that isn't stored, and by taking some out.
 use mathlib.Core.Bool.{true, false, not}
-use mathlib.Core.List.{List, [], _∷_, _++_}
-use mathlib.Core.Path.{_≡_, refl, _∙_}
+use mathlib.Core.List.{List, [], _∷_, _++_, Sublistᴰ, Sublistᴰ·slnil, Sublistᴰ·cons}
+use mathlib.Core.List.{Sublistᴰ·cons-cons}
+use mathlib.Core.Path.{_≡_, refl, sym, _∙_, subst}
 use lib.Dec.{eqb}
 use borrow.Author.Tests.{eqb-true}
 use Rattle.basics.proofs.Cases.{by-test, not-both, and-left, and-right, or-neither, not-true}
 use Rattle.basics.proofs.Cases.{eqb-same}
 use Rattle.protocol.specs.declared.Version.{Version}
 use Rattle.protocol.specs.Steps.{alike, stored}
-use Rattle.protocol.proofs.Stored.{stored-append}
+use Rattle.protocol.proofs.Stored.{stored-append, unstored-sublist}
 use Rattle.condition3.proofs.Sound.{distinct}
 
 -- alike goes both ways
@@ -38,3 +39,18 @@ distinct-append (u ∷ us) v e f =
     stored-append us (v ∷ []) (u .item) (u .stamp) ∙ rw (none, other) refl in
     rw here (distinct-append us v (and-right (not (stored us (u .item) (u .stamp))) (distinct us) e)
     (g .1))
+
+pub distinct-sublist : {us vs : List Version} → Sublistᴰ us vs → distinct vs ≡ true
+    → distinct us ≡ true
+unfolding distinct
+distinct-sublist Sublistᴰ·slnil e = e
+distinct-sublist (Sublistᴰ·cons {a = v} {l₂ = vs} s) e =
+    distinct-sublist s (and-right (not (stored vs (v .item) (v .stamp))) (distinct vs) e)
+distinct-sublist (Sublistᴰ·cons-cons {b = v} {l₁ = us} {l₂ = vs} same s) e =
+    let none : stored us (v .item) (v .stamp) ≡ false =
+    unstored-sublist us vs s (v .item) (v .stamp)
+    (not-true (stored vs (v .item) (v .stamp))
+    (and-left (not (stored vs (v .item) (v .stamp))) (distinct vs) e)) in
+    subst (λ (u : Version). distinct (u ∷ us) ≡ true) (sym same)
+    (rw none (distinct-sublist s
+    (and-right (not (stored vs (v .item) (v .stamp))) (distinct vs) e)))

@@ -20,13 +20,13 @@ use Rattle.protocol.specs.Steps.{messageAt}
 use Rattle.protocol.specs.Calls.{unexpected, missing}
 use Rattle.protocol.specs.Calls.{Call, deliver, refusal, Effects, effects, effect, pick, step}
 use Rattle.protocol.proofs.Refusals.{Expected, tells-prepared, tells-got, accepted-deliver}
-use Rattle.protocol.proofs.Sorts.{withViews, Apart, Sort, reads, writes, delivers, apart}
-use Rattle.protocol.proofs.Sorts.{sort}
-use Rattle.protocol.proofs.Keeps.{valid-views, keeps}
+use Rattle.protocol.proofs.Sorts.{Sort, reads, writes, delivers, apart, sort}
+use Rattle.protocol.proofs.Keeps.{keeps}
 use Rattle.protocol.proofs.Valid.{valid-fresh}
 use Rattle.protocol.proofs.Ranges.Values.{IsClient}
 use Rattle.protocol.proofs.Ranges.Tables.{Valid, valid-facts}
 use Rattle.condition3.proofs.Sound.{Ledger, GoodEntry, Fits, Sound, SoundBy, distinct}
+use Rattle.condition3.proofs.Sound.Apart.{sound-apart}
 use Rattle.condition3.proofs.Sound.Carry.{owner-client}
 use Rattle.condition3.proofs.Sound.Delivery.{Taken, taken, awaited-in}
 use Rattle.condition3.proofs.Sound.Staying.{afterDelivery}
@@ -88,26 +88,6 @@ module _ (caps : Capacities) (L : Ledger) (t : Tables) (sound : SoundBy caps L t
   delivery i (Get d k s) taken ok = sound-get caps L t sound i d k s taken ok
   delivery i (Got d v latest) taken ok = sound-got caps L t sound i d v latest taken ok
 
-  -- a good entry of one client's view is one of another's
-  sound-views : (c : Call) (a : Apart t c) → SoundBy caps L (withViews t (a .view))
-  sound-views c a =
-      record {
-        valid = valid-views caps t c (sound .valid) a;
-        noSet = sound .noSet;
-        noValue = sound .noValue;
-        view = λ d k i l.
-            let from = a .taken d k i l in
-            subst (GoodEntry L (t .versions) k) (sym (from .2))
-            (sound .view (from .0) k (from .1) l);
-        latest = sound .latest;
-        versions = sound .versions;
-        distinct = sound .distinct;
-        writes = sound .writes;
-        last = sound .last;
-        one = sound .one;
-        fits = sound .fits;
-      }
-
   sort-sound : {c : Call} → Sort caps t c → Valid caps (effects t c .tables)
       → SoundBy caps (ledgerAfter L (effects t c .begins)) (effects t c .tables)
   sort-sound (reads d s a) ok =
@@ -118,7 +98,7 @@ module _ (caps : Capacities) (L : Ledger) (t : Tables) (sound : SoundBy caps L t
   sort-sound (delivers i a) ok = delivery i (messageAt t i) (taken t i (a .place)) ok
   sort-sound (apart c v a) ok =
       subst (λ (x : Effects). SoundBy caps (ledgerAfter L (x .begins)) (x .tables)) (sym (a .does))
-      (sound-views c a)
+      (sound-apart caps L t sound c a)
 
   pub sound-accepted : (c : Call) → refusal caps t c ≡ 0
       → SoundBy caps (ledgerAfter L (effects t c .begins)) (effect t c)

@@ -73,6 +73,12 @@ enum-known-frame-5 c = search needs
 show-requires : tie.Need-show-requires
 show-requires c κs = search needs
 
+enum-told : tie.Need-enum-told
+enum-told c = search needs
+
+clear-requires : tie.Need-clear-requires
+clear-requires c κs = search needs
+
 same-length : tie.Need-same-length
 same-length c = search needs
 
@@ -177,6 +183,25 @@ returns-5 c =
       ),
     )
 
+same-length-7 : tie.Need-same-length-7
+same-length-7 c = search needs
+
+returns-6 : tie.Need-returns-6
+unfolding callAnswer callBlock callOutput
+returns-6 c =
+    let arm = c .before .before .before .before in
+    let a = arm .before .before .before .before .before .args in
+    let b = a .b .now in
+    let f = a .f .now in
+    let o = a .shown .now in
+    let told = arm .enum-told .given .1 in (
+      c .before .before .clear .ensures .0 ∙ sym (ap (callAnswer b f o) told),
+      (
+        c .before .before .clear .ensures .1 .0 ∙ sym (ap (callBlock b f o) told),
+        sym (ap (callOutput b f o) told),
+      ),
+    )
+
 pub call-spec : {M : Type 1} → statement M
 call-spec =
     tie.close
@@ -194,6 +219,8 @@ call-spec =
     deliver-requires
     enum-known-frame-5
     show-requires
+    enum-told
+    clear-requires
     same-length
     returns
     same-length-2
@@ -204,4 +231,6 @@ call-spec =
     returns-4
     same-length-5
     same-length-6
-    returns-5)
+    returns-5
+    same-length-7
+    returns-6)

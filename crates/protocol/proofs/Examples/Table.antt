@@ -9,14 +9,15 @@ use lib.Count.{ones, onesIn}
 use lib.Dec.{eqb}
 use lib.ListN.{drop}
 use lib.Text.{eqt}
-use Rattle.basics.specs.Lists.{every, all, counted, without}
+use Rattle.basics.specs.Lists.{every, all, counted, without, dropped}
 use Rattle.hex.specs.Number.{bigEndian, numberAt}
 use Rattle.itemset.specs.Set.{has, upto, remove}
 use Rattle.protocol.specs.declared.Message.{Message}
 use Rattle.protocol.specs.declared.Message.the-variants.{Prepare, Prepared, Commit, Get, Got}
 use Rattle.protocol.specs.declared.Answer.{Answer}
 use Rattle.protocol.specs.declared.Answer.the-variants.{Refused, Made, Started, Delivered}
-use Rattle.protocol.specs.declared.Answer.the-variants.{Shown}
+use Rattle.protocol.specs.declared.Answer.the-variants.{Shown, Cleared}
+use Rattle.protocol.specs.declared.Version.{Version}
 use Rattle.protocol.specs.declared.Entry.{Entry}
 use Rattle.protocol.specs.Tables.{Sizes, Tables, isKind, fresh, numberOf, writerOf}
 use Rattle.protocol.specs.Range.{capacities, valid, inRange, stampInRange, sizesInRange}
@@ -25,6 +26,7 @@ use Rattle.protocol.specs.Range.{clientInRange, readPartInRange, writePa
 use Rattle.protocol.specs.Range.{total, load, occupied}
 use Rattle.protocol.specs.Steps.{greatestIn, choice, stored, found, delivered, joined}
 use Rattle.protocol.specs.Steps.{touches}
+use Rattle.protocol.specs.Clear.{mentions, unused}
 use Rattle.protocol.specs.LogFrame.{listed, readBytes, writeBytes, frame}
 use Rattle.protocol.specs.Calls.{Call, Given, first, refusal, freshAnswer, unexpected}
 use Rattle.protocol.specs.Calls.{missing, isNothing, outcomeOf, effect, reply, written, lent}
@@ -68,8 +70,9 @@ unfoldable pub given : Tables → Call → Given
 unfolding step refusal first unexpected missing isNothing effect reply written lent outcomeOf valid
     inRange sizesInRange stampInRange entryInRange versionInRange messageInRange isKind
     endedInRange clientInRange readPartInRange writePartInRange load arrived total occupied
-    greatestIn choice stored found delivered joined touches listed readBytes writeBytes frame every
-    all counted without has upto remove ones onesIn bigEndian numberAt
+    greatestIn choice stored found delivered joined touches mentions unused listed readBytes
+    writeBytes frame every all counted without dropped has upto remove ones onesIn bigEndian
+    numberAt
 given t c = step capacities t c
 
 unfoldable pub made : Sizes → Answer
@@ -91,6 +94,7 @@ framed Made = 0
 framed (Started n) = 0
 framed (Delivered kind n outcome) = 0
 framed (Shown n) = n
+framed (Cleared n) = 0
 
 -- ---- A row is right
 
@@ -134,12 +138,20 @@ same [] (y ∷ ys) = false
 same (x ∷ xs) [] = false
 same (x ∷ xs) (y ∷ ys) = eqb x y && same xs ys
 
--- the messages have these fields
+-- the elements have these fields, one after another
+abbrev haveFields : {A : Type 0} → (A → List ℕ) → List A → List (List ℕ) → Bool
+haveFields of [] [] = true
+haveFields of [] (f ∷ fs) = false
+haveFields of (x ∷ xs) [] = false
+haveFields of (x ∷ xs) (f ∷ fs) = same (of x) f && haveFields of xs fs
+
 abbrev pub messagesAre : List Message → List (List ℕ) → Bool
-messagesAre [] [] = true
-messagesAre [] (f ∷ fs) = false
-messagesAre (m ∷ ms) [] = false
-messagesAre (m ∷ ms) (f ∷ fs) = same (fieldsOf m) f && messagesAre ms fs
+messagesAre = haveFields fieldsOf
+
+-- a version's line, value, stamp (number and writing desk) and write set
+abbrev pub versionsAre : List Version → List (List ℕ) → Bool
+versionsAre = haveFields
+    (λ v. v .item ∷ v .value ∷ numberOf (v .stamp) ∷ writerOf (v .stamp) ∷ v .set ∷ [])
 
 -- the entry has this number, writing desk and write set
 abbrev pub entryIs : Entry → ℕ → ℕ → ℕ → Bool

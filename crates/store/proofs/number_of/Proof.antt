@@ -5,7 +5,7 @@ use Prim.Native.Nat.{_<_, _^_}
 use native.Mathlib.Omega.{arith}
 use borrow.Author.Needs.{needs}
 use Rattle.protocol.specs.Calls.{numberOfAnswer}
-use Rattle.block_calls.proofs.Fits.{fits-started, fits-delivered, fits-shown}
+use Rattle.block_calls.proofs.Fits.{fits-started, fits-delivered, fits-shown, fits-cleared}
 use Rattle.store.proofs.number_of.Statement.{statement}
 use Rattle.store.proofs.number_of.Tie as tie
 
@@ -61,6 +61,15 @@ mul-result-5 c =
     let answer = c .before .a4 .given in
     omega (arith, fits-shown (start .args .a) (answer .0 .0) (answer .1) (search needs))
 
+enum-known-a-5 : tie.Need-enum-known-a-5
+enum-known-a-5 c = search needs
+
+mul-result-6 : tie.Need-mul-result-6
+mul-result-6 c =
+    let start = c .before .before .before in
+    let answer = c .before .a5 .given in
+    omega (arith, fits-cleared (start .args .a) (answer .0 .0) (answer .1) (search needs))
+
 returns : tie.Need-returns
 unfolding numberOfAnswer
 returns c = rw (c .before .a .given .1) refl
@@ -81,6 +90,10 @@ returns-5 : tie.Need-returns-5
 unfolding numberOfAnswer
 returns-5 c = rw (c .before .a4 .given .1) refl
 
+returns-6 : tie.Need-returns-6
+unfolding numberOfAnswer
+returns-6 c = rw (c .before .a5 .given .1) refl
+
 pub number-of-spec : {M : Type 1} → statement M
 number-of-spec =
     tie.close
@@ -97,8 +110,11 @@ number-of-spec =
     add-result-2
     enum-known-a-4
     mul-result-5
+    enum-known-a-5
+    mul-result-6
     returns
     returns-2
     returns-3
     returns-4
-    returns-5)
+    returns-5
+    returns-6)

@@ -55,6 +55,11 @@ fn show(name: &'static str, session: &Session, client: u64) -> Case {
     case(name, session, Call::Show { client, output })
 }
 
+/// A clearing of the block.
+pub fn clear(name: &'static str, block: Vec<u64>) -> Case {
+    Case { name, block, call: Call::Clear }
+}
+
 /// Two clients, two partitions, four items: each call where the session of a write and a read of
 /// all items makes it.
 pub fn small() -> Vec<Case> {
@@ -103,6 +108,11 @@ pub fn busy() -> Vec<Case> {
         show("show a read of 64 items", &session, 1),
         check(CHECK, &session),
     ]
+}
+
+/// A clearing of the busy block.
+pub fn busy_clear() -> Case {
+    clear("the busy block: 500 versions, 120 messages", busy_session().block())
 }
 
 /// The busy block before client 7 starts its read of all 64 items: 500 stored versions and 56

@@ -4,6 +4,7 @@ use crate::call::Row;
 use crate::cases::{CHECK, CHECK_OF_A_FRESH_SHEET, READ_OF_4, READ_OF_64};
 use crate::clock::Figure;
 use crate::page::{time, Measured};
+use crate::sheet;
 
 /// A limit, what was found of it, and whether that meets it; nothing where it wasn't measured.
 pub struct Limit {
@@ -26,8 +27,12 @@ const WIDE_READS: f64 = 1.5;
 /// libraries, aligned alike and in one program: docs/changes/ready.md.
 const FRESH_SHEET_WAS: f64 = 3.34;
 const FRESH_SHEET: f64 = 1.1;
-/// A write and a read on a fresh small sheet are so many times faster than SQLite.
+/// A clearing of the busy block is at most so many floors (document 02, P5).
+const CLEARING_FLOORS: f64 = 40.0;
+/// A write and a read on a fresh small sheet are so many times faster than SQLite, and over a life
+/// with clearings no slower.
 const FASTER: f64 = 2.0;
+const NOT_SLOWER: f64 = 1.0;
 /// The slowest log takes at most 20 ms, and so many times the model's judge.
 const SLOWEST: f64 = 20e6;
 const JUDGES: f64 = 8.0;
@@ -71,15 +76,26 @@ pub fn limits(measured: &Measured) -> Vec<Limit> {
             FRESH_SHEET * FRESH_SHEET_WAS,
         ),
     ];
-    let faster = measured.sheets[0].sqlite.map(|sqlite| sqlite.times);
-    limits.push(Limit {
-        limit: format!(
+    limits.push(at_most(
+        format!("busy block: a clearing at most {CLEARING_FLOORS} floors"),
+        measured.clearings.busy.floors,
+        CLEARING_FLOORS,
+    ));
+    limits.push(as_fast(
+        format!(
             "small sheet: a write and a read of 4 items at least {FASTER} times faster than SQLite"
         ),
-        quickest: faster.map_or("not installed".to_owned(), |faster| ratio(faster.quickest)),
-        median: faster.map_or(String::new(), |faster| ratio(faster.median)),
-        met: faster.map(|faster| faster.quickest >= FASTER),
-    });
+        &measured.sheets.fresh,
+        FASTER,
+    ));
+    let lives = [
+        ("whenever 9 refuses a write".to_owned(), &measured.sheets.cleared),
+        (format!("after every {} writes", sheet::SOONER), &measured.sheets.cleared_sooner),
+    ];
+    for (when, life) in lives {
+        let limit = format!("small sheet, its life with a clearing {when}: not slower than SQLite");
+        limits.push(as_fast(limit, life, NOT_SLOWER));
+    }
     let slowest = &measured.slowest;
     limits.push(Limit {
         limit: "judge: the slowest log at most 20 ms".to_owned(),
@@ -116,6 +132,17 @@ fn at_most(limit: String, found: Figure, most: f64) -> Limit {
         quickest: ratio(found.quickest),
         median: ratio(found.median),
         met: Some(found.quickest <= most),
+    }
+}
+
+/// How many times as fast as SQLite the store is.
+fn as_fast(limit: String, row: &sheet::Row, least: f64) -> Limit {
+    let faster = row.sqlite.map(|sqlite| sqlite.times);
+    Limit {
+        limit,
+        quickest: faster.map_or("not installed".to_owned(), |faster| ratio(faster.quickest)),
+        median: faster.map_or(String::new(), |faster| ratio(faster.median)),
+        met: faster.map(|faster| faster.quickest >= least),
     }
 }
 

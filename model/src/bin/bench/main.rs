@@ -5,6 +5,7 @@
 mod block;
 mod call;
 mod cases;
+mod clearing;
 mod clock;
 mod floor;
 mod growth;
@@ -23,6 +24,7 @@ fn main() {
         small: call::rows(&cases::small()),
         busy: call::rows(&cases::busy()),
         busy_with_room: call::rows(&cases::busy_with_room()),
+        clearings: clearing::clearings(),
         sheets: sheet::rows(),
         slowest: judges::slowest(),
         versions: growth::versions(),

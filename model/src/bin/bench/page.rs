@@ -1,8 +1,10 @@
 //! docs/PERFORMANCE.md: the text of page.md, with what was measured in its places.
 
+use crate::clearing::Clearings;
 use crate::clock::Figure;
 use crate::growth::Point;
 use crate::limits::limits;
+use crate::sheet::SOONER;
 use crate::{call, judges, machine, sheet};
 use std::fmt::Write as _;
 use std::{fs, io};
@@ -16,8 +18,9 @@ pub struct Measured {
     pub busy: Vec<call::Row>,
     /// On the busy block before its widest read.
     pub busy_with_room: Vec<call::Row>,
+    pub clearings: Clearings,
     /// On a fresh sheet, and over the life of one.
-    pub sheets: Vec<sheet::Row>,
+    pub sheets: sheet::Rows,
     pub slowest: judges::Row,
     pub versions: Vec<Point>,
     pub messages: Vec<Point>,
@@ -56,11 +59,13 @@ pub fn page(measured: &Measured) -> String {
             "The busy block before client 7 reads all 64 items: 500 versions, 56 messages",
             &measured.busy_with_room,
         ),
+        calls_table("A clearing", measured.clearings.rows()),
         sheets_table(&measured.sheets),
         judges_table(&measured.slowest),
     ];
     TEXT.replace("{machine}", &machine::class())
         .replace("{limits}", &limits_table(measured))
+        .replace("{clearing}", &clearing(measured))
         .replace("{cannot}", &cannot(measured))
         .replace("{tables}\n", &tables.join("\n"))
 }
@@ -83,11 +88,19 @@ fn limits_table(measured: &Measured) -> String {
     text
 }
 
+/// The worst case of a clearing.
+fn clearing(measured: &Measured) -> String {
+    let Clearings { busy, worst, .. } = &measured.clearings;
+    format!(
+        "{} where the busy block takes {}",
+        time(worst.store.quickest),
+        time(busy.store.quickest)
+    )
+}
+
 /// What the floor leaves, beside SQLite.
 fn cannot(measured: &Measured) -> String {
-    let [fresh, life] = &measured.sheets[..] else {
-        return String::new();
-    };
+    let sheet::Rows { fresh, life, cleared, cleared_sooner } = &measured.sheets;
     let (Some(floor), Some(sqlite)) = (fresh.floor, fresh.sqlite) else {
         return "SQLite was not installed where this page was made.\n".to_owned();
     };
@@ -107,20 +120,24 @@ fn cannot(measured: &Measured) -> String {
         (Some(floor), Some(sqlite)) => floor.time.quickest > sqlite.time.quickest,
         _ => false,
     });
-    if let (Some(slower), Some(sqlite)) = (slower, life.sqlite) {
-        let (versions, faster) = (slower.versions, sqlite.times.quickest);
+    if let Some(slower) = slower {
+        let versions = slower.versions;
+        let [life, cleared, cleared_sooner] = [life, cleared, cleared_sooner]
+            .map(|life| life.sqlite.map_or(0.0, |sqlite| sqlite.times.quickest));
         write!(
             text,
             "With {versions} versions stored the 22 passes alone take longer than SQLite, which keeps one\n\
              version of each item: over the life of a sheet, from fresh to full, the store is\n\
-             {faster:.2} times as fast as SQLite.\n"
+             {life:.2} times as fast as SQLite. With a clearing whenever 9 refuses a write\n\
+             the sheet is full again before each, and it is {cleared:.2} times as fast; with a clearing\n\
+             after every {SOONER} writes it is {cleared_sooner:.2} times as fast.\n"
         )
         .expect("text grows");
     }
     text
 }
 
-fn calls_table(title: &str, rows: &[call::Row]) -> String {
+fn calls_table<'a>(title: &str, rows: impl IntoIterator<Item = &'a call::Row>) -> String {
     let head = [
         "Call",
         "Store",
@@ -145,7 +162,7 @@ fn calls_table(title: &str, rows: &[call::Row]) -> String {
     text
 }
 
-fn sheets_table(rows: &[sheet::Row]) -> String {
+fn sheets_table(rows: &sheet::Rows) -> String {
     let head = [
         "",
         "Store",
@@ -162,7 +179,7 @@ fn sheets_table(rows: &[sheet::Row]) -> String {
         let time = beside.map_or(none.to_owned(), |beside| times(beside.time));
         (time, beside.map_or(String::new(), |beside| ratios(beside.times)))
     };
-    for row in rows {
+    for row in rows.all() {
         let (floor, to_floor) = beside(row.floor, "not measured");
         let (sqlite, to_store) = beside(row.sqlite, "not installed");
         let [store, model] = [row.store, row.model].map(times);

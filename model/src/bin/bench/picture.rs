@@ -32,7 +32,7 @@ fn curve((_, colour): (&str, &'static str), points: Vec<(f64, f64)>) -> Curve {
     Curve { colour, points }
 }
 
-/// The start of a read against how many there are of something.
+/// A call against how many there are of something.
 fn of_calls(title: &str, label: &str, points: &[Point]) -> Panel {
     let along = |time: fn(&Point) -> f64| -> Vec<(f64, f64)> {
         let at = |point: &Point| (point.count as f64, time(point));
@@ -87,6 +87,11 @@ fn panels(measured: &Measured) -> Vec<Panel> {
         of_calls("Start a read of 4 of 64 items", "stored versions", &measured.versions),
         of_calls("Start a read of 4 of 64 items", "messages in flight", &measured.messages),
         of_calls("Start a read of all items", "items, each written once", &measured.items),
+        of_calls(
+            "Clear away what nothing names",
+            "stored versions, of which 64 stay",
+            &measured.clearings.versions,
+        ),
         of_sheets(measured),
         of_logs(measured),
     ]

@@ -13,9 +13,15 @@ use std::cell::RefCell;
 use std::hint::black_box;
 use std::ops::Range;
 
-/// So many writes of four items fill the 512 versions.
+/// So many writes of four items fill the 512 versions, and so many are made where 9 has an end by a
+/// clearing.
 const WRITES_OF_A_LIFE: usize = 128;
+const WRITES_OF_A_LONG_LIFE: usize = 4 * WRITES_OF_A_LIFE;
+/// Or old versions are cleared away after so many writes.
+pub const SOONER: usize = 8;
 const SHEET: u64 = 0b1111;
+/// The refusal of a write that would be over 512 versions.
+const FULL: u64 = 9;
 const ROUNDS: usize = 101;
 const ROUNDS_OF_LIVES: usize = 31;
 
@@ -37,23 +43,55 @@ pub struct Beside {
     pub times: Figure,
 }
 
-/// On a fresh sheet, and over the life of one.
-pub fn rows() -> Vec<Row> {
-    let life = Row {
-        name: format!("the mean of {WRITES_OF_A_LIFE}, from a fresh sheet to a full one"),
-        ..row(
-            0,
-            &Rounds::run(
-                ROUNDS_OF_LIVES,
-                beside(vec![a_life(Proved), a_life(Modelled::default())]),
-            ),
-            0,
-            None,
-        )
-    };
-    let mut rows = on_sheets(&[0]);
-    rows.push(life);
-    rows
+/// On a fresh sheet, and the mean over the life of one.
+pub struct Rows {
+    pub fresh: Row,
+    /// From a fresh sheet to a full one.
+    pub life: Row,
+    /// With a clearing whenever 9 refuses a write.
+    pub cleared: Row,
+    /// With a clearing after every few writes.
+    pub cleared_sooner: Row,
+}
+
+impl Rows {
+    pub fn all(&self) -> [&Row; 4] {
+        [&self.fresh, &self.life, &self.cleared, &self.cleared_sooner]
+    }
+}
+
+pub fn rows() -> Rows {
+    let long = format!("the mean of {WRITES_OF_A_LONG_LIFE} from a fresh sheet on");
+    Rows {
+        fresh: on_sheets(&[0]).remove(0),
+        life: mean(
+            format!("the mean of {WRITES_OF_A_LIFE}, from a fresh sheet to a full one"),
+            Life { writes: WRITES_OF_A_LIFE, cleared_after: usize::MAX },
+        ),
+        cleared: mean(
+            format!("{long}, with a clearing whenever 9 refuses a write"),
+            Life { writes: WRITES_OF_A_LONG_LIFE, cleared_after: usize::MAX },
+        ),
+        cleared_sooner: mean(
+            format!("{long}, with a clearing after every {SOONER} writes"),
+            Life { writes: WRITES_OF_A_LONG_LIFE, cleared_after: SOONER },
+        ),
+    }
+}
+
+/// The life of a sheet: so many writes, each read, with a clearing whenever 9 refuses one, and
+/// after so many.
+#[derive(Clone, Copy)]
+struct Life {
+    writes: usize,
+    cleared_after: usize,
+}
+
+/// The mean of its writes and reads.
+fn mean(name: String, life: Life) -> Row {
+    let lives = vec![a_life(Proved, life), a_life(Modelled::default(), life)];
+    let rounds = Rounds::run(ROUNDS_OF_LIVES, beside(lives));
+    Row { name, ..row(0, &rounds, 0, None) }
 }
 
 /// Against the number of stored versions.
@@ -173,28 +211,41 @@ impl Calls for Watched {
         self.look(block);
         Proved.show(block, client, output)
     }
+
+    fn clear(&self, block: &mut [u64]) -> u64 {
+        self.look(block);
+        Proved.clear(block)
+    }
 }
 
-fn a_life<'a>(served: impl Calls + 'a) -> Contender<'a> {
+fn a_life<'a>(served: impl Calls + 'a, life: Life) -> Contender<'a> {
     let block = Session::fresh(2, 2, 4).block();
     let mut lent = Lent::new(&block, &block);
-    let mut life = steps(move || {
+    let mut lived = steps(move || {
         accepted(served.fresh(&mut lent.block, 2, 2, 4));
-        for value in 0..WRITES_OF_A_LIFE {
-            write_and_read(&served, &mut lent, value as u32);
+        for write in 1..=life.writes {
+            write_and_read(&served, &mut lent, write as u32);
+            if write % life.cleared_after == 0 {
+                accepted(served.clear(black_box(&mut lent.block)));
+            }
         }
     });
-    Box::new(move || life().of_each(WRITES_OF_A_LIFE))
+    Box::new(move || lived().of_each(life.writes))
 }
 
+/// A write that the sheet has no room for is made after a clearing.
 fn write_and_read(served: &impl Calls, lent: &mut Lent, value: u32) {
     let block = black_box(&mut lent.block[..]);
     let mut values = [0; 16];
     for (item, bytes) in values.chunks_mut(4).enumerate() {
         bytes.copy_from_slice(&(value + item as u32).to_be_bytes());
     }
-    let started = accepted(served.start_write(block, 1, SHEET, &values));
-    deliver_all(served, block, started >> 8);
+    let mut started = served.start_write(block, 1, SHEET, &values);
+    if started == FULL {
+        accepted(served.clear(block));
+        started = served.start_write(block, 1, SHEET, &values);
+    }
+    deliver_all(served, block, accepted(started) >> 8);
     let started = accepted(served.start_read(block, 2, SHEET));
     deliver_all(served, block, started >> 8);
     accepted(served.show(block, 1, &mut lent.output));

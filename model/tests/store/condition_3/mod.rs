@@ -2,6 +2,7 @@
 //! answers and outputs: what tables alone say, a client's count and views, is for tests/trials.
 
 mod answers;
+mod clearings;
 mod corrections;
 mod falls;
 mod showings;
@@ -58,6 +59,8 @@ fn a_write_and_its_read_keep_every_clause() {
         written_entries_shown: 2,
         corrections: 0,
         shown_again: 0,
+        gone: 0,
+        served: 0,
     };
     assert_eq!(check(&own_read()), Ok(expected));
 }

@@ -2,6 +2,7 @@
 //! it was.
 
 mod capacities;
+mod clearings;
 mod deliveries;
 mod order;
 mod starts;

@@ -1,5 +1,6 @@
 //! Each step's tables, written down from documents 01 and 02.
 
+mod clearings;
 mod offers;
 mod reads;
 mod showings;

@@ -1,0 +1,96 @@
+-- What the code reads, test by test, is what the definitions say.
+use mathlib.Core.Bool.{true, false, not, _&&_}
+use mathlib.Core.List.{List, [], _∷_, _++_}
+use mathlib.Core.Logic.{_≢_}
+use mathlib.Core.Path.{_≡_, refl, sym, ap, ap₂, _∙_, subst}
+use Prim.Native.Nat.{ℕ, _+_, _/_, _%_, _*_, _≤_, _<_}
+use native.Mathlib.Numerals.{add-one}
+use native.Mathlib.Omega.{arith}
+use lib.Dec.{eqb, ltb, leb}
+use lib.ListN.{length, getD, set, take}
+use lib.Seq.{take-suc, take-suc-set, take-all}
+use borrow.Author.Tests.{eq-eqb, ne-eqb}
+use Rattle.basics.specs.Lists.{table}
+use Rattle.layout.specs.Layout.{mostItems, entryWords, header, scalars, latest, at, clientsAt}
+use Rattle.layout.specs.Layout.{itemsAt, messagesAt, modeAt, setAt, stampAt}
+use Rattle.layout.specs.Decode.{kindIn}
+use Rattle.layout.specs.Encodes.{word}
+use Rattle.slots.proofs.Chosen.{when, unless}
+use Rattle.clear.specs.Stamps.{entryStamp, messageStamp, writeStamp, slotOf, marked, Marks}
+use Rattle.clear.proofs.Slots.{marks-next}
+
+-- ---- a stamp, if there is one
+
+module _ (b : List ℕ) (p : ℕ) {clients items : ℕ} (c : clients ≡ at b header clientsAt)
+    (i : items ≡ at b header itemsAt) where
+  pub entry-some : {r : ℕ} → (leb (p / mostItems) clients && ltb (p % mostItems) items) ≡ true
+      → r ≡ at b latest (entryWords * p) → r ≡ entryStamp b p
+  unfolding entryStamp
+  entry-some e h = when _ _ _ _
+      (ap₂ (λ (x y : ℕ). leb (p / mostItems) x && ltb (p % mostItems) y) (sym c) (sym i) ∙ e) h
+
+  pub entry-none : (leb (p / mostItems) clients && ltb (p % mostItems) items) ≡ false
+      → 0 ≡ entryStamp b p
+  unfolding entryStamp
+  entry-none e = unless _ _ _ _
+      (ap₂ (λ (x y : ℕ). leb (p / mostItems) x && ltb (p % mostItems) y) (sym c) (sym i) ∙ e) refl
+
+module _ (b : List ℕ) (kind f i : ℕ) {messages own : ℕ} (c : messages ≡ at b header messagesAt)
+    (o : own ≡ kindIn b i) where
+  pub message-some : {r : ℕ} → (ltb i messages && leb kind own) ≡ true → r ≡ word b i f
+      → r ≡ messageStamp b kind f i
+  unfolding messageStamp
+  message-some e h =
+      when _ _ _ _ (ap₂ (λ (x y : ℕ). ltb i x && leb kind y) (sym c) (sym o) ∙ e) h
+
+  pub message-none : (ltb i messages && leb kind own) ≡ false → 0 ≡ messageStamp b kind f i
+  unfolding messageStamp
+  message-none e =
+      unless _ _ _ _ (ap₂ (λ (x y : ℕ). ltb i x && leb kind y) (sym c) (sym o) ∙ e) refl
+
+module _ (b : List ℕ) (i : ℕ) {clients mode s : ℕ} (c : clients ≡ at b header clientsAt)
+    (m : mode ≡ at b scalars (modeAt (i + 1))) (o : s ≡ at b scalars (setAt (i + 1))) where
+  pub write-some : {r : ℕ} → (ltb i clients && leb 2 mode && not (eqb s 0)) ≡ true
+      → r ≡ at b scalars (stampAt (i + 1)) → r ≡ writeStamp b i
+  unfolding writeStamp
+  write-some e h = when _ _ _ _ (rw (c, m, o) at e) h
+
+  pub write-none : (ltb i clients && leb 2 mode && not (eqb s 0)) ≡ false → 0 ≡ writeStamp b i
+  unfolding writeStamp
+  write-none e = unless _ _ _ _ (rw (c, m, o) at e) refl
+
+-- ---- the stamps, one after another
+
+pub gathered-next : (f : ℕ → ℕ) (l : List ℕ) (p v : ℕ) → p < length l → take p l ≡ table p f
+    → v ≡ f p → take (p + 1) (set l p v) ≡ table (p + 1) f
+unfolding table
+gathered-next f l p v h e g =
+    rw add-one (take-suc-set l p v h ∙ ap₂ (λ (xs : List ℕ) (x : ℕ). xs ++ x ∷ []) e g)
+
+pub gathered-all : (f : ℕ → ℕ) (l : List ℕ) (p n : ℕ) → take p l ≡ table p f → length l ≡ n
+    → p ≤ n → n ≤ p → l ≡ table n f
+gathered-all f l p n e h low high =
+    let same : p ≡ n = omega arith in
+    sym (take-all p l (omega arith)) ∙ e ∙ ap (λ (k : ℕ). table k f) same
+
+-- ---- the marks, one after another
+
+module _ (slots : List ℕ) (s : ℕ) where
+  pub marked-some : (slot : ℕ) → s ≢ 0 → slot ≡ slotOf s → set slots slot s ≡ marked slots s
+  unfolding marked
+  marked-some slot n e = unless _ _ _ _ (ne-eqb s 0 n) (ap (λ (k : ℕ). set slots k s) e)
+
+  pub marked-none : s ≡ 0 → slots ≡ marked slots s
+  unfolding marked
+  marked-none e = when _ _ _ _ (eq-eqb s 0 e) refl
+
+pub marks-step : (stamps slots after : List ℕ) (p : ℕ) → p < length stamps
+    → Marks (take p stamps) slots → after ≡ marked slots (getD stamps p 0)
+    → Marks (take (p + 1) stamps) after
+marks-step stamps slots after p l m e =
+    rw (add-one, take-suc stamps p 0 l, e)
+    (marks-next (take p stamps) slots (getD stamps p 0) m)
+
+pub marks-all : (stamps slots : List ℕ) (p : ℕ) → length stamps ≤ p → Marks (take p stamps) slots
+    → Marks stamps slots
+marks-all stamps slots p l m = subst (λ (xs : List ℕ). Marks xs slots) (take-all p stamps l) m

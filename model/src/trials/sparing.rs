@@ -1,0 +1,123 @@
+//! Blocks whose versions are each named in one place, or in none: what a clearing tells apart.
+
+use super::Busy;
+use crate::layout::Sort;
+use crate::random::Random;
+use crate::set::items;
+use crate::stamp::{Entry, Stamp};
+use crate::store::message::Message;
+use crate::store::tables::{
+    Client, Ended, Sizes, Tables, Version, IDLE, ITEMS, READ, READING, WRITE, WRITING,
+};
+
+/// The block of a seed. Words that are no field often hold a stamp of a stored version.
+pub(super) fn sparing(seed: u64) -> Busy {
+    let mut random = Random::new(seed);
+    let sizes = Sizes::new(random.between(1, 8), random.between(1, 8), random.between(1, 64));
+    let mut maker = Maker { random, tables: Tables::fresh(sizes) };
+    let most = maker.random.pick(&[1, 3, 20]);
+    for _ in 0..maker.random.between(1, 24) {
+        maker.write(most);
+    }
+    let mut busy = Busy::holding(maker.tables, seed);
+    let stamps: Vec<u64> = busy
+        .fields
+        .iter()
+        .filter(|field| field.sort == Sort::Stamp)
+        .map(|field| field.word)
+        .collect();
+    let mut fields = busy.fields.iter().map(|field| field.place).peekable();
+    for (place, word) in busy.words.iter_mut().enumerate() {
+        if fields.next_if_eq(&place).is_none() && maker.random.once_in(4) {
+            *word = maker.random.pick(&stamps);
+        }
+    }
+    busy
+}
+
+struct Maker {
+    random: Random,
+    tables: Tables,
+}
+
+impl Maker {
+    /// At most so many versions of one stamp, anywhere among those stored, and its stamp in one
+    /// place. Numbers often differ by a power of two, so that they share a place in tables of
+    /// stamps.
+    fn write(&mut self, most: u64) {
+        let apart = 1 << self.random.between(5, 20);
+        let number = self.random.between(1, 12) + self.random.below(3) * apart;
+        let stamp = Stamp::new(number, self.client());
+        for _ in 0..self.random.between(1, most) {
+            let version = self.version(stamp);
+            let place = self.random.place(self.tables.versions.len() + 1);
+            self.tables.versions.insert(place, version);
+        }
+        self.put(stamp);
+    }
+
+    /// Puts the stamp in a view, a latest, a message of each kind, a write under way; in a client's
+    /// transaction that doesn't count; or nowhere.
+    fn put(&mut self, stamp: Stamp) {
+        let entry = Entry::new(stamp, self.set());
+        let (client, item) = (self.client(), self.random.below(self.tables.sizes.items));
+        let version = self.version(stamp);
+        let initial = Version { stamp: Stamp::INITIAL, ..version };
+        let partition = self.random.below(self.tables.sizes.partitions);
+        let message = match self.random.below(16) {
+            0 => {
+                self.tables.view_mut(client)[item as usize] = entry;
+                return;
+            }
+            1 => {
+                self.tables.latest[item as usize] = entry;
+                return;
+            }
+            2 => Message::Prepare(version),
+            3 => Message::Prepared { item, stamp },
+            4 => Message::Commit { partition, stamp },
+            5 => Message::Get { client, item, stamp },
+            6 => Message::Got { client, version, latest: Entry::INITIAL },
+            7 => Message::Got { client, version: initial, latest: entry },
+            8..14 => {
+                let record = self.record(stamp);
+                *self.tables.client_mut(client) = record;
+                return;
+            }
+            _ => return,
+        };
+        self.tables.messages.push(message);
+    }
+
+    /// A client that writes with the stamp, asks for it, or has ended with it.
+    fn record(&mut self, stamp: Stamp) -> Client {
+        let set = self.set();
+        let mut stamps = [Stamp::INITIAL; ITEMS];
+        items(set).for_each(|item| stamps[item as usize] = stamp);
+        let running = Client { set, stamps, ..Client::INITIAL };
+        let read = Ended { kind: READ, set, stamps, ..Ended::NONE };
+        let write = Ended { kind: WRITE, set, stamp, ..Ended::NONE };
+        match self.random.below(6) {
+            0 | 1 => Client { mode: WRITING, awaited: set, ..running },
+            2 => Client { mode: READING, awaited: set, ..running },
+            3 => Client { mode: IDLE, ..running },
+            4 => Client { last: read, ..Client::INITIAL },
+            _ => Client { last: write, ..Client::INITIAL },
+        }
+    }
+
+    fn version(&mut self, stamp: Stamp) -> Version {
+        let item = self.random.below(self.tables.sizes.items);
+        Version { item, value: self.random.below(1 << 32), stamp, set: self.set() | 1 << item }
+    }
+
+    fn client(&mut self) -> u64 {
+        self.random.between(1, self.tables.sizes.clients)
+    }
+
+    /// A nonempty set.
+    fn set(&mut self) -> u64 {
+        let items = self.tables.sizes.items;
+        self.random.number() & (u64::MAX >> (64 - items)) | 1 << self.random.below(items)
+    }
+}
