@@ -36,6 +36,7 @@
  *   - a length is no more than what is there: words for a block, bytes for the others;
  *   - no pointer is null, even where the length is 0;
  *   - block, values and output do not overlap;
+ *   - there is stack enough: some 40,000 bytes for koolvent_clear, 21,000 for koolvent_judge, 1,100 for any other call;
  *   - one caller at a time: while a call runs, nobody else reads or writes what was lent to it. Two threads may work on
  *     two blocks, and on the judge beside them: nothing is shared;
  *   - between calls the host leaves the block's words as they are. It may copy them: a copy of all KOOLVENT_WORDS words,
@@ -70,7 +71,7 @@ extern "C" {
 
 /* The greatest load: messages in flight (the pile), and for each write under way the items whose prepared reply has
  * come. And the most stored versions, prepares in flight counted with them: koolvent_clear takes away those that
- * nothing names any more, and nothing else takes one away. */
+ * nothing names any more, and but for koolvent_fresh nothing else takes one away. */
 #define KOOLVENT_MOST_LOAD 128
 #define KOOLVENT_MOST_VERSIONS 512
 
@@ -121,10 +122,10 @@ enum koolvent_refusal {
     /* A start: the load would exceed KOOLVENT_MOST_LOAD. Deliver, and try again. */
     KOOLVENT_REFUSED_LOAD = 8,
     /* koolvent_start_write: versions would exceed KOOLVENT_MOST_VERSIONS. Clear old ones away with koolvent_clear, and
-     * try again. If that frees too few, the others are in use: deliver what is in flight and let every client read, so
-     * that they know of later writes, and clear again. What they know stays, and if that is too much, copy the sheet to
-     * a fresh block, in several writes if it has more than KOOLVENT_MOST_WRITE_ITEMS items: reads between them show it
-     * in part. Reads go on meanwhile. */
+     * try again. If that frees too few, the others are in use: deliver what is in flight and let every client read all
+     * items, so that each learns of later writes, and clear again. What they have learnt stays, and if that is too
+     * much, copy the sheet to a fresh block, in several writes if it has more than KOOLVENT_MOST_WRITE_ITEMS items:
+     * reads between them show it in part. Reads go on meanwhile. */
     KOOLVENT_REFUSED_VERSIONS = 9,
     /* koolvent_deliver: no message lies at that place. */
     KOOLVENT_REFUSED_PLACE = 10,
@@ -180,11 +181,11 @@ uint64_t koolvent_deliver(uint64_t *block, size_t words, uint64_t place);
  * they are. Refused by 1, 3, 4, 13 and 14. */
 uint64_t koolvent_show(const uint64_t *block, size_t words, uint64_t client, uint8_t *output, size_t room);
 
-/* Takes away exactly those stored versions whose write, by number and client, is not the newest that a client knows of
- * any item, not the latest of any item, in no message in flight and not under way. The others stay, in their order, and
- * the places freed serve the next writes. It may be called at any time: every read still ends after its own replies,
- * unfractured, no delivery is refused for it, and what a client ended last can still be shown. Refused by 1 alone. It
- * takes some 40,000 bytes of stack. */
+/* Takes away exactly those stored versions whose write, by number and client, no client has as the latest that it wrote
+ * of any item or learnt by a reply for it, no item has as its latest committed, no message in flight names, and which
+ * isn't under way. The others stay, in their order, and the places freed serve the next writes. It may be called at any
+ * time: every read still ends after its own replies, unfractured, no delivery is refused for it, and what a client
+ * ended last can still be shown. Refused by 1 alone. It takes some 40,000 bytes of stack. */
 uint64_t koolvent_clear(uint64_t *block, size_t words);
 
 /* ---- What an accepted call answers ---- */

@@ -116,6 +116,18 @@ static uint64_t first(unsigned items)
     return ~UINT64_C(0) >> (64 - items);
 }
 
+/* Of a block full of one client's writes of eight items the last stays, and there is room again. */
+static void clearings(unsigned versions)
+{
+    uint64_t answer = koolvent_clear(block, WORDS);
+
+    SAME(koolvent_refusal(answer), KOOLVENT_ACCEPTED);
+    SAME(koolvent_cleared_versions(answer), versions - 8);
+    SAME(koolvent_clear(block, WORDS), KOOLVENT_ACCEPTED);
+    SAME(koolvent_refusal(write_items(1, first(8), 32)), KOOLVENT_ACCEPTED);
+    SAME(koolvent_clear(block, KOOLVENT_WORDS - 1), KOOLVENT_REFUSED_BLOCK);
+}
+
 /* The greatest load, and the most versions, are those at which even one item is refused. */
 static void starts(void)
 {
@@ -156,12 +168,7 @@ static void starts(void)
     }
     SAME(write_items(1, 1, 4), KOOLVENT_REFUSED_VERSIONS);
     SAME(versions, KOOLVENT_MOST_VERSIONS);
-    answer = koolvent_clear(block, WORDS);
-    SAME(koolvent_refusal(answer), KOOLVENT_ACCEPTED);
-    SAME(koolvent_cleared_versions(answer), versions - 8);
-    SAME(koolvent_cleared_versions(koolvent_clear(block, WORDS)), 0);
-    SAME(koolvent_refusal(write_items(1, first(8), 32)), KOOLVENT_ACCEPTED);
-    SAME(koolvent_clear(block, KOOLVENT_WORDS - 1), KOOLVENT_REFUSED_BLOCK);
+    clearings(versions);
 }
 
 /* Refusals that no block gives which only the calls have written. The words are those of docs/LAYOUT.md. */

@@ -4,10 +4,10 @@
 //! The checker runs a list of labels beside the calls, as the steps say which messages join and
 //! leave, and never sees the store's tables. By the labels it knows which numbers each client has
 //! learnt of, and so each write's stamp from its start on, shown or not: every clause goes by whole
-//! stamps. It keeps no views and no capacities, so it doesn't see which of the entries that the
-//! clauses allow a read has to show, nor whether a start has to be refused. Each clause is one
-//! function and one `Clause`. That answers, outputs and tables are those of the steps and the
-//! refusal table is for whoever holds the list against the model's store.
+//! stamps. It keeps no views, and a capacity for its summary alone, so it doesn't see which of the
+//! entries that the clauses allow a read has to show, nor whether a start has to be refused. Each
+//! clause is one function and one `Clause`. That answers, outputs and tables are those of the steps
+//! and the refusal table is for whoever holds the list against the model's store.
 
 mod checker;
 mod clauses;
@@ -62,8 +62,8 @@ pub enum Clause {
     WentBack { item: u64 },
     /// A clearing is accepted, and no more versions go than are stored.
     Clearing,
-    /// A write isn't refused by 9 that has no more items than a clearing freed places, less those
-    /// of writes started since.
+    /// A write isn't refused by 9 if it has no more items than are left of the places that a
+    /// clearing freed.
     FreedPlaces,
 }
 

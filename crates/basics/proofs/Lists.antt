@@ -168,6 +168,20 @@ module _ {A : Type 0} where
       by-test (p y) (λ t. dropped-in p ys x (rw t at i))
       (λ t. ⊎-elim (λ e. subst (λ (z : A). p z ≡ false) (sym e) t) (dropped-in p ys x) (rw t at i))
 
+  pub dropped-append : (p : A → Bool) (xs ys : List A)
+      → dropped p (xs ++ ys) ≡ dropped p xs ++ dropped p ys
+  unfolding dropped
+  dropped-append p [] ys = refl
+  dropped-append p (x ∷ xs) ys =
+      by-test (p x) (λ e. rw e (dropped-append p xs ys))
+      (λ e. rw e (ap (λ (l : List A). x ∷ l) (dropped-append p xs ys)))
+
+  pub dropped-ext : (p q : A → Bool) (xs : List A) → ((x : A) → In x xs → p x ≡ q x)
+      → dropped p xs ≡ dropped q xs
+  unfolding dropped
+  dropped-ext p q [] h = refl
+  dropped-ext p q (x ∷ xs) h = rw (h x (inl refl), dropped-ext p q xs (λ y i. h y (inr i))) refl
+
   pub length-dropped : (p : A → Bool) (xs : List A)
       → length (dropped p xs) + counted p xs ≡ length xs
   unfolding dropped counted

@@ -9,7 +9,7 @@ use native.Mathlib.Omega.{arith}
 use lib.ListN.{length, getD, set, List·getD-append}
 use lib.Seq.{sets, getD-append-add}
 use Rattle.basics.specs.Lists.{In, table, dropped}
-use Rattle.basics.proofs.Lists.{length-table, in-table}
+use Rattle.basics.proofs.Lists.{length-table, in-table, dropped-ext}
 use Rattle.protocol.specs.declared.Version.{Version}
 use Rattle.protocol.specs.Tables.{Tables}
 use Rattle.protocol.specs.Range.{capacities}
@@ -32,7 +32,6 @@ use Rattle.encoding.proofs.WellFormed.{tells-valid-block}
 use Rattle.encoding.proofs.Decoded.{few-versions}
 use Rattle.clear.specs.Clear.{wordsOfVersions, clearedBlock}
 use Rattle.clear.specs.Stamps.{stampsIn, absent, staying, NoneInitial}
-use Rattle.clear.proofs.Dropped.{dropped-ext}
 use Rattle.clear.proofs.Gathered.{absent-unused}
 use Rattle.clear.proofs.Staying.{length-words}
 

@@ -11,7 +11,7 @@ use lib.ListN.{length, length-append}
 use lib.Seq.{sets}
 use Rattle.basics.specs.Lists.{table, dropped}
 use Rattle.basics.proofs.Cases.{by-test}
-use Rattle.basics.proofs.Lists.{length-table, length-dropped}
+use Rattle.basics.proofs.Lists.{length-table, length-dropped, dropped-append}
 use Rattle.protocol.specs.declared.Version.{Version}
 use Rattle.layout.specs.Layout.{versionWords, versions, base, at, versionAt}
 use Rattle.layout.specs.Decode.{versionIn}
@@ -21,7 +21,6 @@ use Rattle.slots.proofs.Runs.{getD-sets-behind}
 use Rattle.hex.proofs.Stores.{sets-append}
 use Rattle.clear.specs.Clear.{wordsOfVersions}
 use Rattle.clear.specs.Stamps.{absent, staying, NoneInitial}
-use Rattle.clear.proofs.Dropped.{dropped-append}
 
 -- ---- words of versions
 

@@ -74,7 +74,7 @@ absent stamps s = all (λ r. not (eqb r s)) stamps
 abbrev pub mostSlots : ℕ
 mostSlots = 4096
 
--- the slot of a stamp: clients in turn, and the numbers around
+-- the slot of a stamp: the 8 clients of a number side by side, numbers modulo 512
 abbrev pub slotOf : ℕ → ℕ
 slotOf s = (numberOf s * mostClients + writerOf s % mostClients) % mostSlots
 

@@ -22,14 +22,10 @@ use layout::LATEST;
 use layout::MOST_CLIENTS;
 use layout::MOST_ITEMS;
 use layout::MOST_MESSAGES;
-use layout::VERSION_WORDS;
-use layout::VERSIONS;
-use protocol::Version;
 use range_message::message_word;
-use slots::put_four;
 
-// Where the messages' stamps start behind those of the entries, their latest's and those of writes
-// under way, and how many there are in all.
+// Behind the entries' stamps, where those of the messages start, then their latest's, then those of
+// writes under way; and how many there are in all.
 const MESSAGE_STAMPS: u64 = MOST_ITEMS * (MOST_CLIENTS + 1);
 
 const LATEST_STAMPS: u64 = MESSAGE_STAMPS + MOST_MESSAGES;
@@ -38,6 +34,7 @@ const WRITE_STAMPS: u64 = LATEST_STAMPS + MOST_MESSAGES;
 
 const STAMPS: usize = (WRITE_STAMPS + MOST_CLIENTS) as usize;
 
+// 512 numbers, of 8 clients each.
 const SLOTS: usize = 4096;
 
 // The stamp of entry `p`, of latest or of a view behind it, if its client and item exist.
@@ -68,7 +65,7 @@ fn message_stamp(b: &[u64], kind: u64, f: u64, i: u64) -> u64
     }
 }
 
-// The stamp of client `i + 1`, if it is writing.
+// The stamp of client `i + 1`, if it is writing: a field only where its set isn't empty.
 fn write_stamp(b: &[u64], i: u64) -> u64
     requires { ⌜ i < mostClients ⌝ }
     ensures { λ r. ⌜ r ≡ writeStamp (now (b .entry)) i ⌝ }
@@ -174,21 +171,6 @@ fn is_unused(stamps: &[u64], slots: &[u64], stamp: u64) -> bool
     is_absent(stamps, stamp)
 }
 
-// Version `v` at place `i`.
-fn put_version(b: &mut [u64], i: u64, v: Version)
-    requires { ⌜ i < mostVersions ⌝ }
-    ensures { λ _. ⌜ now (b .exit) ≡ storeVersion (now (b .entry)) i v ⌝ }
-{
-    put_four(
-        b,
-        VERSIONS + (VERSION_WORDS * i + 0),
-        v.item,
-        v.value,
-        v.stamp,
-        v.set,
-    );
-}
-
 // Version `i` moves behind the `kept` that stay, if it stays too; so many stay then.
 fn keep(b: &mut [u64], stamps: &[u64], slots: &[u64], i: u64, kept: u64) -> u64
     requires { ⌜ (i < mostVersions) × (kept ≤ i) × (needed ≤ length (now b))
@@ -204,7 +186,7 @@ fn keep(b: &mut [u64], stamps: &[u64], slots: &[u64], i: u64, kept: u64) -> u64
     if is_unused(stamps, slots, stamp) {
         kept
     } else {
-        put_version(b, kept, v);
+        versions::put(b, kept, v);
         kept + 1
     }
 }

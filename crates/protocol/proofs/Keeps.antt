@@ -1,6 +1,6 @@
 -- What an accepted call keeps, whatever its sort: the tables stay valid, sizes stay, counts rise,
--- views grow, no version's place is taken but by a prepare that joins, and the client of a start
--- was idle.
+-- views grow, versions and prepares by no more than the prepares that join, and the client of a
+-- start was idle.
 use mathlib.Core.Bool.{true}
 use mathlib.Core.Path.{_≡_, refl, sym, subst}
 use Prim.Native.Nat.{ℕ, _+_, _≤_}

@@ -5,7 +5,7 @@ ghost use lib.ListN.{length};
 ghost use Rattle.basics.specs.Lists.{table};
 ghost use Rattle.layout.specs.Layout.{mostVersions, versionWords, needed, at, versions, versionAt};
 ghost use Rattle.layout.specs.Decode.{versionIn};
-ghost use Rattle.layout.specs.Store.{appendVersion};
+ghost use Rattle.layout.specs.Store.{storeVersion, appendVersion};
 ghost use Rattle.protocol.specs.Steps.{alike, stored as storedIn};
 ghost use Rattle.slots.specs.Room.{keep};
 ghost use Rattle.versions.specs.Found.{firstAlike};
@@ -53,19 +53,27 @@ pub fn stamp_of(b: &[u64], i: u64) -> u64
     part(b, i, 2)
 }
 
-// Version `v` joins the `n` that are there, at the end.
-pub fn append(b: &mut [u64], n: u64, v: Version)
-    requires { ⌜ n < mostVersions ⌝ }
-    ensures { λ _. ⌜ now (b .exit) ≡ appendVersion (now (b .entry)) n v ⌝ }
+// Version `v` at place `i`.
+pub fn put(b: &mut [u64], i: u64, v: Version)
+    requires { ⌜ i < mostVersions ⌝ }
+    ensures { λ _. ⌜ now (b .exit) ≡ storeVersion (now (b .entry)) i v ⌝ }
 {
     put_four(
         b,
-        VERSIONS + (VERSION_WORDS * n + 0),
+        VERSIONS + (VERSION_WORDS * i + 0),
         v.item,
         v.value,
         v.stamp,
         v.set,
     );
+}
+
+// Version `v` joins the `n` that are there, at the end.
+pub fn append(b: &mut [u64], n: u64, v: Version)
+    requires { ⌜ n < mostVersions ⌝ }
+    ensures { λ _. ⌜ now (b .exit) ≡ appendVersion (now (b .entry)) n v ⌝ }
+{
+    put(b, n, v);
     put_version_count(b, n + 1);
 }
 

@@ -119,8 +119,8 @@ pub(super) fn clearing_takes_stored_versions(
     }
 }
 
-/// A write isn't refused by 9 that has no more items than places which a clearing freed and writes
-/// since have left.
+/// A write isn't refused by 9 if it has no more items than are left of the places that a clearing
+/// freed.
 pub(super) fn freed_places_serve(
     history: &History,
     set: u64,

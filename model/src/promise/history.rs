@@ -112,7 +112,8 @@ pub(super) struct History {
     /// Prepares delivered, and versions that clearings took away.
     pub(super) stored: u64,
     pub(super) gone: u64,
-    /// Places that a clearing freed, less the items of writes started since: the most of any.
+    /// Places left of those that a clearing freed, the items of writes started since taken off; of
+    /// several clearings the most that one has left.
     pub(super) freed: u64,
 }
 

@@ -3,78 +3,66 @@
 
 use super::fault::Fault;
 use super::message::Message;
-use super::tables::{Version, WRITING};
+use super::tables::{Client, Version, WRITING};
 use super::Store;
 use crate::set::items;
 use crate::stamp::Stamp;
-use std::collections::BTreeSet;
 
 impl Store {
-    /// Versions whose stamp is in use stay, in their order, whatever their item; the others go.
+    /// The versions go whose stamp occurs nowhere; the others stay in their order.
     pub(super) fn step_clear(&mut self) {
-        let in_use = self.stamps_in_use();
-        let stays = |version: &Version| match self.fault {
-            Some(Fault::SparedByItem) => self.names(version),
-            Some(Fault::SparedByNumber) => {
-                in_use.iter().any(|stamp| stamp.number == version.stamp.number)
-            }
-            _ => in_use.contains(&version.stamp),
-        };
         let mut kept = self.tables.versions.clone();
         if self.has(Fault::LastIntoTheHole) {
-            while let Some(hole) = kept.iter().position(|version| !stays(version)) {
+            while let Some(hole) = kept.iter().position(|version| self.goes(version)) {
                 kept.swap_remove(hole);
             }
         }
-        kept.retain(stays);
+        kept.retain(|version| !self.goes(version));
         self.tables.versions = kept;
     }
 
-    /// The stamps of views, latest, messages and writes under way.
-    fn stamps_in_use(&self) -> BTreeSet<Stamp> {
+    /// Whether the version's stamp is in no view and no latest, no message and no write under way.
+    fn goes(&self, version: &Version) -> bool {
         let tables = &self.tables;
-        let entries = tables.entries().map(|(_, entry)| entry.stamp);
-        let messages = tables.messages.iter().flat_map(|message| self.stamps_in(message));
-        let mut stamps: BTreeSet<Stamp> = entries.chain(messages).collect();
-        for client in tables.existing_clients() {
-            let is_writing = client.mode == WRITING && !self.has(Fault::WriteUnderWayForgotten);
-            if is_writing || self.has(Fault::AskedSpares) {
-                stamps.extend(client.running_stamps());
-            }
-            if self.has(Fault::LastEndedSpares) {
-                stamps.extend(client.last_stamps());
-            }
+        let mut entries = tables.entries();
+        !entries.any(|(item, entry)| self.is_spared(version, entry.stamp, item == version.item))
+            && !tables.messages.iter().any(|message| self.mentions(message, version))
+            && !tables.existing_clients().any(|client| self.is_writing(client, version))
+    }
+
+    /// A stamp spares the versions that have it, whatever their item. That it stands at the
+    /// version's own item counts for a fault alone.
+    fn is_spared(&self, version: &Version, stamp: Stamp, is_at_item: bool) -> bool {
+        match self.fault {
+            Some(Fault::SparedByItem) => is_at_item && stamp == version.stamp,
+            Some(Fault::SparedByNumber) => stamp.number == version.stamp.number,
+            _ => stamp == version.stamp,
         }
-        stamps
     }
 
-    /// The stamps of a message: of a got its version's and its latest's.
-    fn stamps_in(&self, message: &Message) -> impl Iterator<Item = Stamp> {
+    /// Of a got its version's stamp and its latest's count.
+    fn mentions(&self, message: &Message, version: &Version) -> bool {
         let parts = message.parts();
-        let latest = parts.latest.map(|latest| latest.stamp);
-        let looked_at = match self.fault {
-            Some(Fault::GetsAloneSpare) if parts.kind != 4 => [None; 2],
-            Some(Fault::GotsLatestForgotten) => [Some(parts.stamp), None],
-            _ => [Some(parts.stamp), latest],
-        };
-        looked_at.into_iter().flatten()
+        let partition = self.tables.partition_of(version.item);
+        let is_at_item = parts.item == Some(version.item) || parts.partition == Some(partition);
+        let spares = |stamp| self.is_spared(version, stamp, is_at_item);
+        let latest_spares = parts.latest.is_some_and(|latest| spares(latest.stamp));
+        match self.fault {
+            Some(Fault::GetsAloneSpare) => parts.kind == 4 && spares(parts.stamp),
+            Some(Fault::GotsLatestForgotten) => spares(parts.stamp),
+            _ => spares(parts.stamp) || latest_spares,
+        }
     }
 
-    /// For a fault alone: whether the version's stamp stands somewhere beside its item, its
-    /// partition or a set that holds it.
-    fn names(&self, version: &Version) -> bool {
-        let Version { item, stamp, .. } = *version;
-        let tables = &self.tables;
-        let in_message = |message: &Message| {
-            let parts = message.parts();
-            let is_beside =
-                parts.item == Some(item) || parts.partition == Some(tables.partition_of(item));
-            is_beside && self.stamps_in(message).any(|named| named == stamp)
-        };
-        tables.entries().any(|(place, entry)| place == item && entry.stamp == stamp)
-            || tables.messages.iter().any(in_message)
-            || tables.existing_clients().filter(|client| client.mode == WRITING).any(|client| {
-                items(client.set).zip(client.running_stamps()).any(|named| named == (item, stamp))
-            })
+    /// A client's transaction spares where it is a write under way; where it is a read, or has
+    /// ended, with a fault alone.
+    fn is_writing(&self, client: &Client, version: &Version) -> bool {
+        if self.has(Fault::LastEndedSpares) && client.last_stamps().contains(&version.stamp) {
+            return true;
+        }
+        let is_writing = client.mode == WRITING && !self.has(Fault::WriteUnderWayForgotten);
+        let mut stamps = items(client.set).zip(client.running_stamps());
+        (is_writing || self.has(Fault::AskedSpares))
+            && stamps.any(|(item, stamp)| self.is_spared(version, stamp, item == version.item))
     }
 }

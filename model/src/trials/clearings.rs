@@ -6,6 +6,7 @@ use super::sparing::sparing;
 use super::{Difference, Met};
 use crate::block::{make, Calls, Modelled};
 use crate::call::Call;
+use crate::layout::places;
 use crate::random::Random;
 
 /// A clearing of the block of each seed, another of what it leaves, and one of the block with a
@@ -21,6 +22,7 @@ pub fn clearings(
         let mut damaged = busy.words.clone();
         spoil(&mut damaged, &busy, &mut Random::new(seed));
         make(&Modelled::default(), &mut busy.words, &Call::Clear);
+        met.stayed += busy.words[places::VERSIONS];
         for words in [&busy.words, &damaged] {
             met.count(&Call::Clear, agree(served, words, &Call::Clear)?);
         }

@@ -17,8 +17,9 @@ pub struct Met {
     pub writes_ended: usize,
     pub shown: usize,
     pub cleared: usize,
-    /// Versions that went.
+    /// Versions that went, and those that stayed, where a trial counts these.
     pub gone: u64,
+    pub stayed: u64,
 }
 
 impl Met {

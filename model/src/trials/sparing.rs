@@ -1,7 +1,7 @@
 //! Blocks whose versions are each named in one place, or in none: what a clearing tells apart.
 
 use super::Busy;
-use crate::layout::Sort;
+use crate::layout::places;
 use crate::random::Random;
 use crate::set::items;
 use crate::stamp::{Entry, Stamp};
@@ -10,7 +10,7 @@ use crate::store::tables::{
     Client, Ended, Sizes, Tables, Version, IDLE, ITEMS, READ, READING, WRITE, WRITING,
 };
 
-/// The block of a seed. Words that are no field often hold a stamp of a stored version.
+/// The block of a seed. Words that are no field often hold the stamp of a stored version.
 pub(super) fn sparing(seed: u64) -> Busy {
     let mut random = Random::new(seed);
     let sizes = Sizes::new(random.between(1, 8), random.between(1, 8), random.between(1, 64));
@@ -20,12 +20,8 @@ pub(super) fn sparing(seed: u64) -> Busy {
         maker.write(most);
     }
     let mut busy = Busy::holding(maker.tables, seed);
-    let stamps: Vec<u64> = busy
-        .fields
-        .iter()
-        .filter(|field| field.sort == Sort::Stamp)
-        .map(|field| field.word)
-        .collect();
+    let stored = 0..busy.tables.versions.len();
+    let stamps: Vec<u64> = stored.map(|place| busy.words[places::version(place) + 2]).collect();
     let mut fields = busy.fields.iter().map(|field| field.place).peekable();
     for (place, word) in busy.words.iter_mut().enumerate() {
         if fields.next_if_eq(&place).is_none() && maker.random.once_in(4) {

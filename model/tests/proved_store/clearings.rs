@@ -10,6 +10,6 @@ fn blocks_whose_versions_are_each_named_in_one_place() {
     let mut met = Met::default();
     let held = clearings(&Proved, 400_000..420_000, &mut met);
     assert_eq!(held, Ok(()));
-    assert!(met.cleared >= 50_000 && met.gone >= 500_000, "{met:?}");
+    assert!(met.cleared >= 50_000 && met.gone.min(met.stayed) >= 500_000, "{met:?}");
     met.assert_refused(&[1], 3_000);
 }

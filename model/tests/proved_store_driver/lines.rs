@@ -43,6 +43,15 @@ fn writes_of_every_width() {
     agreed(&input, 1_000);
 }
 
+/// 256 versions and more go.
+#[test]
+fn how_many_went_are_two_bytes() {
+    let write = format!("03010000000000000fff{}\n", "00000009".repeat(12));
+    let writes = format!("{write}{}", "040000\n".repeat(25)).repeat(42);
+    let answers = printed(format!("0101010c\n{writes}{write}40\n{write}").as_bytes(), 4_096);
+    assert!(answers.ends_with("\n0003000000\n09\n0001ec\n00000c\n"), "{answers}");
+}
+
 #[test]
 fn every_byte_in_place_of_a_digit() {
     let mut input = Vec::new();

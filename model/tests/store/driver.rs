@@ -96,6 +96,16 @@ fn a_write_frame_of_13_to_64_values_is_well_formed_and_answered_11() {
     }
 }
 
+/// Of 42 writes of 12 items all but the last go.
+#[test]
+fn how_many_went_are_two_bytes() {
+    let write = format!("03010000000000000fff{}\n", "00000009".repeat(12));
+    let delivered = "040000\n".repeat(25);
+    let writes = format!("{write}{delivered}").repeat(42);
+    let answers = run(format!("0101010c\n{writes}{write}40\n{write}").as_bytes());
+    assert!(answers.ends_with("\n0003000000\n09\n0001ec\n00000c\n"), "{answers}");
+}
+
 #[test]
 fn refusals_are_one_byte_of_hexadecimal() {
     let input = b"01010101\n0509\n02010000000000000000\n04ffff\n0501\n";

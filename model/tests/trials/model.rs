@@ -25,14 +25,14 @@ fn damages_meet_every_call_and_refusal() {
 #[test]
 fn edges_meet_starts_deliveries_and_their_refusals() {
     let met = crate::edge_calls(&Modelled::default()).expect("the model's own answers");
-    assert!(met.reads.min(met.writes).min(met.shown) >= 10, "{met:?}");
+    assert!(met.reads.min(met.writes).min(met.shown).min(met.cleared) >= 10, "{met:?}");
     met.assert_refused(&[1, 2, 3, 4, 5, 6, 7, 8, 9, 10, 13, 14, 17], 1);
 }
 
 #[test]
 fn clearings_meet_versions_that_go_and_that_stay() {
     let met = crate::cleared(&Modelled::default()).expect("the model's own answers");
-    assert!(met.cleared >= 700 && met.gone >= 1_500, "{met:?}");
+    assert!(met.cleared >= 700 && met.gone.min(met.stayed) >= 1_500, "{met:?}");
     met.assert_refused(&[1], 50);
 }
 

@@ -111,8 +111,8 @@ impl Wrong {
         }
     }
 
-    /// A clearing moves the versions down whose stamp the block has among the model's or in the
-    /// entry of an absent client or item.
+    /// A clearing that sets the words of the places freed to 0, or that also leaves the versions
+    /// whose stamp an entry of an absent client or item has.
     fn spoil_clearing(self, before: &[u64], after: &mut [u64]) {
         let [was, is] = [before, &*after].map(|words| words[places::VERSIONS] as usize);
         match self {

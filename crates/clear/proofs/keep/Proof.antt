@@ -16,8 +16,8 @@ is-unused-requires c κs =
       λ e. start .pre .4 (ap (λ (v : Version). v .stamp) (sym (c .version .ensures)) ∙ e),
     )
 
-put-version-requires : tie.Need-put-version-requires
-put-version-requires c κs = search needs
+put-requires : tie.Need-put-requires
+put-requires c κs = search needs
 
 add-result : tie.Need-add-result
 add-result c = search needs
@@ -42,7 +42,7 @@ returns-2 c =
     let start = told .before .before .before .before .before .before in
     keep-stays (start .args .stamps .now) (start .args .b .now) (start .args .i) (start .args .kept)
     (told .before .version .ensures) (told .is-unused .ensures) _ (left .if1 .left)
-    (c .before .before .put-version .ensures)
+    (c .before .before .put .ensures)
 
 pub keep-spec : {M : Type 1} → statement M
 keep-spec =
@@ -50,7 +50,7 @@ keep-spec =
     (tie.spec
     version-requires
     is-unused-requires
-    put-version-requires
+    put-requires
     add-result
     same-length
     returns

@@ -43,6 +43,9 @@ inFlight m = withMessages stock (Commit 0 (stampOf 9 2) ∷ m ∷ [])
 abbrev withSecond : Client → Tables
 withSecond c = withClient stock 2 c
 
+abbrev writtenBy : ℕ → Tables
+writtenBy d = withClient stock d (writer 3 1 (stampOf 2 1) 7)
+
 -- Its stamp in any one of these places spares it, on both lines, and nothing else: any view, any
 -- latest, any message, also of the other line or of none, and a write under way. A got holds two.
 abbrev spared : Row
@@ -56,7 +59,7 @@ spared =
           ∷ inFlight (Get 2 1 (stampOf 2 1))
           ∷ inFlight (Got 2 (version 1 8 2 1 3) initial)
           ∷ inFlight (Got 2 (version 1 0 0 0 0) (entry 2 1 3))
-          ∷ withSecond (writer 3 1 (stampOf 2 1) 7)
+          ∷ writtenBy 1 ∷ writtenBy 2
           ∷ []);
       lines = clear ⇒ "000002" ∷ clear ⇒ "000000" ∷ [];
       after = λ t. versionsAre (t .versions)
@@ -111,7 +114,7 @@ wholeSpared =
 abbrev absentWriter : Row
 absentWriter =
     record {
-      start = on (withClient stock 3 (writer 3 1 (stampOf 2 1) 7));
+      start = on (writtenBy 3);
       lines = clear ⇒ "000004" ∷ [];
       after = λ t. versionsAre (t .versions) [];
     }

@@ -21,11 +21,13 @@ fn damaged_tables_are_1() {
     refused(&Tables::default(), 1, Call::Clear);
 }
 
-/// Though there is something to clear, too many versions and prepares are 1, and so is the load.
+/// Though there is something to clear, too many versions and prepares are 1, and so is a load over
+/// 128.
 #[test]
 fn full_tables_are_cleared_and_fuller_ones_are_1() {
     let sizes = Sizes::new(2, 2, 3);
-    accepted(&tables_with_versions(sizes, 512), Call::Clear);
+    let (answer, cleared, _) = made(&tables_with_versions(sizes, 512), Call::Clear);
+    assert_eq!((answer, cleared.versions.len()), (Answer::Cleared { gone: 512 }, 0));
     refused(&tables_with_versions(sizes, 513), 1, Call::Clear);
     let mut tables = tables_with_versions(sizes, 511);
     let prepare = Message::Prepare(version(1, 5, Stamp::new(1, 2), &[1]));
@@ -75,7 +77,8 @@ fn a_write_that_9_refuses_is_accepted_after_a_clearing() {
     assert_eq!(after.versions_and_prepares(), 3);
 }
 
-/// All of the freed places serve, and not one more: 42 writes of 12 items and one of 7.
+/// 42 writes of 12 items and one of 6 take the 510 freed places; one place is left, which was free
+/// before.
 #[test]
 fn as_many_places_serve_as_went() {
     let (_, mut tables, _) = made(&crowded(), Call::Clear);

@@ -1,8 +1,8 @@
--- `clear::put_version` meets its contract: its four words are stored in order.
+-- `versions::put` meets its contract: its four words are stored in order.
 use borrow.Author.Needs.{needs}
 use Rattle.layout.specs.Store.{storeVersion}
-use Rattle.clear.proofs.put_version.Statement.{statement}
-use Rattle.clear.proofs.put_version.Tie as tie
+use Rattle.versions.proofs.put.Statement.{statement}
+use Rattle.versions.proofs.put.Tie as tie
 
 mul-put-four : tie.Need-mul-put-four
 mul-put-four c = search needs
@@ -23,8 +23,8 @@ returns : tie.Need-returns
 unfolding storeVersion
 returns c = search needs
 
-pub put-version-spec : {M : Type 1} → statement M
-put-version-spec =
+pub put-spec : {M : Type 1} → statement M
+put-spec =
     tie.close
     (tie.spec
     mul-put-four
