@@ -115,5 +115,5 @@ fn floor(case: &Case) -> Contender<'_> {
         let mut block = case.block.clone();
         return steps(move || black_box(&mut block).fill(0));
     }
-    floor::passes(&case.block, &[floor::in_use(&case.block)])
+    floor::passes(&case.block, vec![floor::in_use(&case.block)])
 }

@@ -2,7 +2,9 @@
 
 use crate::session::{first_items, some_values, Session, COMMIT, GET, GOT, PREPARE, PREPARED};
 use koolvent_model::call::Call;
+use koolvent_model::layout::decode;
 use koolvent_model::store::tables::Sizes;
+use koolvent_model::store::Store;
 
 /// A call on a block that accepts it, or refuses it by 3 after the check of all fields.
 pub struct Case {
@@ -55,8 +57,11 @@ fn show(name: &'static str, session: &Session, client: u64) -> Case {
     case(name, session, Call::Show { client, output })
 }
 
-/// A clearing of the block.
-pub fn clear(name: &'static str, block: Vec<u64>) -> Case {
+/// A clearing of the block, at which so many versions stay.
+pub fn clear(name: &'static str, block: Vec<u64>, stay: usize) -> Case {
+    let mut store = Store::with_tables(decode(&block).expect("a block of tables"));
+    store.clear();
+    assert_eq!(store.tables.versions.len(), stay, "{name}");
     Case { name, block, call: Call::Clear }
 }
 
@@ -112,7 +117,8 @@ pub fn busy() -> Vec<Case> {
 
 /// A clearing of the busy block.
 pub fn busy_clear() -> Case {
-    clear("the busy block: 500 versions, 120 messages", busy_session().block())
+    let name = "the busy block: 500 versions, of which 80 stay, and 120 messages";
+    clear(name, busy_session().block(), 80)
 }
 
 /// The busy block before client 7 starts its read of all 64 items: 500 stored versions and 56

@@ -19,14 +19,6 @@ pub struct Sample {
     off: f64,
 }
 
-impl Sample {
-    /// Of a step that is so many.
-    pub fn of_each(self, steps: usize) -> Sample {
-        let [step, off] = [self.step, self.off].map(|time| time / steps as f64);
-        Sample { step, off }
-    }
-}
-
 /// Something that is timed, a round each time that it is called.
 pub type Contender<'a> = Box<dyn FnMut() -> Sample + 'a>;
 
@@ -65,6 +57,23 @@ pub fn steps_undone<'a, State: 'a>(
             undo(&mut state);
         });
         Sample { step: both, off: per_step(steps, || undo(&mut state)) }
+    })
+}
+
+/// One's step, less the other's. What each takes off is put with the other's step, so that of each
+/// part the quickest can be told.
+pub fn difference<'a>(mut one: Contender<'a>, mut other: Contender<'a>) -> Contender<'a> {
+    Box::new(move || {
+        let (one, other) = (one(), other());
+        Sample { step: one.step + other.off, off: one.off + other.step }
+    })
+}
+
+/// One of the so many that a step is.
+pub fn one_of<'a>(count: usize, mut all: Contender<'a>) -> Contender<'a> {
+    Box::new(move || {
+        let Sample { step, off } = all();
+        Sample { step: step / count as f64, off: off / count as f64 }
     })
 }
 

@@ -6,17 +6,21 @@ use koolvent_model::layout::{decode, fields};
 use std::arch::asm;
 use std::hint::black_box;
 use std::ops::Range;
+use std::rc::Rc;
 
 /// Words between two fields that a pass goes over rather than around: those of a cache line.
 const GAP: usize = 8;
 
+/// Words that a pass goes over.
+pub type Stretches = Vec<Range<usize>>;
+
 /// The words of the block that a range check has to look at, as stretches, and the few between
 /// them.
-pub fn in_use(block: &[u64]) -> Vec<Range<usize>> {
+pub fn in_use(block: &[u64]) -> Stretches {
     let tables = decode(block).expect("a block of tables");
     let mut places: Vec<usize> = fields(&tables).iter().map(|field| field.place).collect();
     places.sort_unstable();
-    let mut stretches: Vec<Range<usize>> = Vec::new();
+    let mut stretches = Stretches::new();
     for place in places {
         match stretches.last_mut() {
             Some(last) if place < last.end + GAP => last.end = place + 1,
@@ -26,13 +30,14 @@ pub fn in_use(block: &[u64]) -> Vec<Range<usize>> {
     stretches
 }
 
-/// A pass over each of these lists of stretches, one after the other; each copy of it on a block of
-/// its own.
-pub fn passes<'a>(block: &[u64], of_each: &[Vec<Range<usize>>]) -> Contender<'a> {
+/// A pass over each of these stretches, one after the other; each copy of it on a block of its own.
+/// The copies share the stretches: those of a sheet's life are some megabytes.
+pub fn passes<'a>(block: &[u64], of_each: Vec<Stretches>) -> Contender<'a> {
+    let of_each = Rc::new(of_each);
     let with = |sum: Sum| {
-        let (block, of_each) = (block.to_vec(), of_each.to_vec());
+        let (block, of_each) = (block.to_vec(), Rc::clone(&of_each));
         steps(move || {
-            for stretches in &of_each {
+            for stretches in of_each.iter() {
                 black_box(sum(black_box(&block), stretches));
             }
         })

@@ -1,11 +1,14 @@
 //! docs/PERFORMANCE.md: the text of page.md, with what was measured in its places.
 
+mod cannot;
+
 use crate::clearing::Clearings;
 use crate::clock::Figure;
 use crate::growth::Point;
 use crate::limits::limits;
-use crate::sheet::SOONER;
+use crate::sheet::CALLS;
 use crate::{call, judges, machine, sheet};
+use cannot::cannot;
 use std::fmt::Write as _;
 use std::{fs, io};
 
@@ -88,53 +91,14 @@ fn limits_table(measured: &Measured) -> String {
     text
 }
 
-/// The worst case of a clearing.
+/// A clearing where all slots are taken, beside one of the busy block.
 fn clearing(measured: &Measured) -> String {
-    let Clearings { busy, worst, .. } = &measured.clearings;
+    let Clearings { busy, slots_taken, .. } = &measured.clearings;
     format!(
         "{} where the busy block takes {}",
-        time(worst.store.quickest),
+        time(slots_taken.store.quickest),
         time(busy.store.quickest)
     )
-}
-
-/// What the floor leaves, beside SQLite.
-fn cannot(measured: &Measured) -> String {
-    let sheet::Rows { fresh, life, cleared, cleared_sooner } = &measured.sheets;
-    let (Some(floor), Some(sqlite)) = (fresh.floor, fresh.sqlite) else {
-        return "SQLite was not installed where this page was made.\n".to_owned();
-    };
-    let passes = floor.time.quickest;
-    let mut text = format!(
-        "A write and a read of the small sheet are 22 calls. On a fresh sheet 22 plain passes over\n\
-         the words in use take {}, {} each, and SQLite takes {} for its two\n\
-         transactions: a store that looks at its block at each call, and did nothing else, would be\n\
-         {:.1} times faster than SQLite and no more. This one is {:.1} times faster.\n",
-        time(passes),
-        time(passes / 22.0),
-        time(sqlite.time.quickest),
-        sqlite.time.quickest / passes,
-        sqlite.times.quickest,
-    );
-    let slower = measured.sheet.iter().find(|row| match (row.floor, row.sqlite) {
-        (Some(floor), Some(sqlite)) => floor.time.quickest > sqlite.time.quickest,
-        _ => false,
-    });
-    if let Some(slower) = slower {
-        let versions = slower.versions;
-        let [life, cleared, cleared_sooner] = [life, cleared, cleared_sooner]
-            .map(|life| life.sqlite.map_or(0.0, |sqlite| sqlite.times.quickest));
-        write!(
-            text,
-            "With {versions} versions stored the 22 passes alone take longer than SQLite, which keeps one\n\
-             version of each item: over the life of a sheet, from fresh to full, the store is\n\
-             {life:.2} times as fast as SQLite. With a clearing whenever 9 refuses a write\n\
-             the sheet is full again before each, and it is {cleared:.2} times as fast; with a clearing\n\
-             after every {SOONER} writes it is {cleared_sooner:.2} times as fast.\n"
-        )
-        .expect("text grows");
-    }
-    text
 }
 
 fn calls_table<'a>(title: &str, rows: impl IntoIterator<Item = &'a call::Row>) -> String {
@@ -166,24 +130,40 @@ fn sheets_table(rows: &sheet::Rows) -> String {
     let head = [
         "",
         "Store",
+        "Its checks alone",
         "Model on the block",
         "Floor",
         "SQLite in memory",
         "Store / floor",
+        "Checks / floor",
         "SQLite / store",
     ];
-    let title =
-        "A write of 4 items and a read of them on the small sheet, delivered and shown: 22 calls";
-    let mut text = format!("## {title}\n\n") + &heading(&head, "|---|--:|--:|--:|--:|--:|--:|");
-    let beside = |beside: Option<sheet::Beside>, none: &str| {
-        let time = beside.map_or(none.to_owned(), |beside| times(beside.time));
-        (time, beside.map_or(String::new(), |beside| ratios(beside.times)))
-    };
+    let mut text = format!(
+        "## A write of 4 items and a read of them on the small sheet, delivered and shown: {CALLS} \
+         calls, and the clearings\n\n"
+    ) + &heading(&head, "|---|--:|--:|--:|--:|--:|--:|--:|--:|");
     for row in rows.all() {
-        let (floor, to_floor) = beside(row.floor, "not measured");
-        let (sqlite, to_store) = beside(row.sqlite, "not installed");
-        let [store, model] = [row.store, row.model].map(times);
-        line(&mut text, &[&row.name, &store, &model, &floor, &sqlite, &to_floor, &to_store]);
+        let [store, checks, model, floor] =
+            [row.store, row.checks, row.model, row.floor].map(times);
+        let [to_floor, checks_to_floor] = [row.floors, row.floors_of_checks].map(ratios);
+        let (sqlite, to_store) = match row.sqlite {
+            Some(sqlite) => (times(sqlite.time), ratios(sqlite.as_fast)),
+            None => ("not installed".to_owned(), String::new()),
+        };
+        line(
+            &mut text,
+            &[
+                &row.name,
+                &store,
+                &checks,
+                &model,
+                &floor,
+                &sqlite,
+                &to_floor,
+                &checks_to_floor,
+                &to_store,
+            ],
+        );
     }
     text
 }

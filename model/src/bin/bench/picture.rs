@@ -13,7 +13,10 @@ use svg::Svg;
 
 const PICTURE: &str = concat!(env!("CARGO_MANIFEST_DIR"), "/../docs/performance.svg");
 const MARGIN: f64 = 24.0;
-const TOP: f64 = 84.0;
+/// Where the legend's first line lies, and how far its lines are apart.
+const LEGEND: f64 = 88.0;
+const LEGEND_LINE: f64 = 22.0;
+const TOP: f64 = 140.0;
 const BETWEEN: f64 = 28.0;
 const COLUMNS: usize = 3;
 
@@ -98,29 +101,32 @@ fn panels(measured: &Measured) -> Vec<Panel> {
 }
 
 fn picture(panels: &[Panel]) -> String {
-    let rows = (panels.len() + 1).div_ceil(COLUMNS);
-    let width = 2.0 * MARGIN + COLUMNS as f64 * (panel::WIDTH + BETWEEN) - BETWEEN;
+    let rows = panels.len().div_ceil(COLUMNS);
+    let width = left(COLUMNS) - BETWEEN + MARGIN;
     let height = TOP + rows as f64 * (panel::HEIGHT + BETWEEN);
     let mut svg = Svg::new(width, height);
     svg.text(MARGIN, 36.0, 20, "What it costs, and what it is held against");
     let axes = "The quickest of interleaved rounds; time on a scale of powers of ten, so that equal distances are equal ratios.";
     svg.text(MARGIN, 60.0, 13, axes);
-    let corner = |place: usize| {
-        let (column, row) = (place % COLUMNS, place / COLUMNS);
-        let x = MARGIN + column as f64 * (panel::WIDTH + BETWEEN);
-        (x, TOP + row as f64 * (panel::HEIGHT + BETWEEN))
-    };
+    legend(&mut svg);
     for (place, panel) in panels.iter().enumerate() {
-        panel.draw(&mut svg, corner(place));
+        let row = (place / COLUMNS) as f64;
+        panel.draw(&mut svg, (left(place % COLUMNS), TOP + row * (panel::HEIGHT + BETWEEN)));
     }
-    legend(&mut svg, corner(panels.len()));
     svg.end()
 }
 
-fn legend(svg: &mut Svg, (x, y): (f64, f64)) {
+/// Where a column of panels starts.
+fn left(column: usize) -> f64 {
+    MARGIN + column as f64 * (panel::WIDTH + BETWEEN)
+}
+
+/// Lines of as many names as there are columns.
+fn legend(svg: &mut Svg) {
     for (place, (name, colour)) in [STORE, MODEL, TABLES, SQLITE, FLOOR].iter().enumerate() {
-        let y = y + 60.0 + 28.0 * place as f64;
-        svg.curve(&[(x + 30.0, y), (x + 66.0, y)], colour);
-        svg.text(x + 76.0, y + 4.0, 13, name);
+        let x = left(place % COLUMNS);
+        let y = LEGEND + LEGEND_LINE * (place / COLUMNS) as f64;
+        svg.curve(&[(x + 3.0, y), (x + 39.0, y)], colour);
+        svg.text(x + 49.0, y + 4.0, 13, name);
     }
 }

@@ -1,27 +1,28 @@
 //! A transaction each way on the small sheet: client 1 writes its four items, client 2 reads them,
 //! all messages are delivered in turn, both are shown.
 
+mod calls;
+
 use crate::block::Lent;
-use crate::clock::{steps, steps_undone, Contender, Figure, Rounds};
-use crate::floor;
+use crate::clock::{difference, one_of, steps, steps_undone, Contender, Figure, Rounds};
+use crate::floor::{self, Stretches};
 use crate::session::Session;
 #[cfg(feature = "sqlite")]
 use crate::sqlite::Sheet;
+pub use calls::CALLS;
+use calls::{check_often, write_and_read, Life, Looked, CHECKS, SHEET};
 use koolvent_model::block::{Calls, Modelled};
 use koolvent_model::proved::store::Proved;
 use std::cell::RefCell;
-use std::hint::black_box;
-use std::ops::Range;
 
-/// So many writes of four items fill the 512 versions, and so many are made where 9 has an end by a
-/// clearing.
+/// So many writes of four items fill the 512 versions of a sheet: without clearings its life ends
+/// there.
 const WRITES_OF_A_LIFE: usize = 128;
+/// A life with clearings has no end, and is timed for so many writes: the sheet fills up four times
+/// in them, if it isn't cleared sooner.
 const WRITES_OF_A_LONG_LIFE: usize = 4 * WRITES_OF_A_LIFE;
-/// Or old versions are cleared away after so many writes.
+/// So many writes lie between two clearings of a sheet that is cleared sooner.
 pub const SOONER: usize = 8;
-const SHEET: u64 = 0b1111;
-/// The refusal of a write that would be over 512 versions.
-const FULL: u64 = 9;
 const ROUNDS: usize = 101;
 const ROUNDS_OF_LIVES: usize = 31;
 
@@ -31,16 +32,22 @@ pub struct Row {
     /// Stored versions before it.
     pub versions: u64,
     pub store: Figure,
+    /// Of the store's time, that of its calls' checks.
+    pub checks: Figure,
     pub model: Figure,
-    pub floor: Option<Beside>,
-    pub sqlite: Option<Beside>,
+    /// For each call one plain pass over the words in use before it.
+    pub floor: Figure,
+    /// The store's time and that of its checks as multiples of the floor.
+    pub floors: Figure,
+    pub floors_of_checks: Figure,
+    pub sqlite: Option<InSqlite>,
 }
 
-/// A time beside the store's: how many of it the store takes, or of the store's it is.
+/// SQLite's time, and how many times as fast as SQLite the store is.
 #[derive(Clone, Copy)]
-pub struct Beside {
+pub struct InSqlite {
     pub time: Figure,
-    pub times: Figure,
+    pub as_fast: Figure,
 }
 
 /// On a fresh sheet, and the mean over the life of one.
@@ -66,32 +73,29 @@ pub fn rows() -> Rows {
         fresh: on_sheets(&[0]).remove(0),
         life: mean(
             format!("the mean of {WRITES_OF_A_LIFE}, from a fresh sheet to a full one"),
-            Life { writes: WRITES_OF_A_LIFE, cleared_after: usize::MAX },
+            Life { writes: WRITES_OF_A_LIFE, cleared_after: None },
         ),
         cleared: mean(
             format!("{long}, with a clearing whenever 9 refuses a write"),
-            Life { writes: WRITES_OF_A_LONG_LIFE, cleared_after: usize::MAX },
+            Life { writes: WRITES_OF_A_LONG_LIFE, cleared_after: None },
         ),
         cleared_sooner: mean(
             format!("{long}, with a clearing after every {SOONER} writes"),
-            Life { writes: WRITES_OF_A_LONG_LIFE, cleared_after: SOONER },
+            Life { writes: WRITES_OF_A_LONG_LIFE, cleared_after: Some(SOONER) },
         ),
     }
 }
 
-/// The life of a sheet: so many writes, each read, with a clearing whenever 9 refuses one, and
-/// after so many.
-#[derive(Clone, Copy)]
-struct Life {
-    writes: usize,
-    cleared_after: usize,
-}
-
-/// The mean of its writes and reads.
+/// The mean of a life's writes and reads.
 fn mean(name: String, life: Life) -> Row {
-    let lives = vec![a_life(Proved, life), a_life(Modelled::default(), life)];
-    let rounds = Rounds::run(ROUNDS_OF_LIVES, beside(lives));
-    Row { name, ..row(0, &rounds, 0, None) }
+    let contenders = beside_sqlite([
+        a_life(Proved, life),
+        one_of(CHECKS, difference(a_life(Looked(check_often), life), a_life(Proved, life))),
+        a_life(Modelled::default(), life),
+        passes_of_a_life(life),
+    ]);
+    let rounds = Rounds::run(ROUNDS_OF_LIVES, contenders);
+    row(name, 0, &rounds, 0)
 }
 
 /// Against the number of stored versions.
@@ -104,17 +108,20 @@ fn on_sheets(versions: &[u64]) -> Vec<Row> {
     let of_one = |versions: &u64| {
         let block = sheet_with(*versions);
         assert_alike(&block);
-        beside(vec![once(Proved, &block), once(Modelled::default(), &block), passes(&block)])
+        beside_sqlite([
+            once(Proved, &block),
+            one_of(CHECKS, difference(once(Looked(check_often), &block), once(Proved, &block))),
+            once(Modelled::default(), &block),
+            passes(&block),
+        ])
     };
     let of_each: Vec<Vec<Contender>> = versions.iter().map(of_one).collect();
     let each = of_each.first().map_or(0, Vec::len);
     let rounds = Rounds::run(ROUNDS, of_each.into_iter().flatten().collect());
-    let rows = versions.iter().enumerate();
-    let of_one = |(place, versions): (usize, &u64)| {
-        let place = each * place;
-        row(*versions, &rounds, place, Some(place + 2))
+    let row_of_one = |(place, versions): (usize, &u64)| {
+        row(format!("on a sheet with {versions} stored versions"), *versions, &rounds, each * place)
     };
-    rows.map(of_one).collect()
+    versions.iter().enumerate().map(row_of_one).collect()
 }
 
 fn sheet_with(versions: u64) -> Vec<u64> {
@@ -126,26 +133,25 @@ fn sheet_with(versions: u64) -> Vec<u64> {
     session.block()
 }
 
-/// These, and SQLite where it is there.
-fn beside<'a>(mut contenders: Vec<Contender<'a>>) -> Vec<Contender<'a>> {
-    contenders.extend(in_sqlite());
-    contenders
+/// The store, its checks, the model, the floor, and SQLite where it is there.
+fn beside_sqlite<'a>(contenders: [Contender<'a>; 4]) -> Vec<Contender<'a>> {
+    contenders.into_iter().chain(in_sqlite()).collect()
 }
 
-/// The row of the store, which is the contender at the place, the model behind it, the floor where
-/// there is one, and perhaps SQLite behind them all.
-fn row(versions: u64, rounds: &Rounds, place: usize, floor: Option<usize>) -> Row {
-    let last = floor.unwrap_or(place + 1) + 1;
+/// The row of such contenders, of which the first is at the place.
+fn row(name: String, versions: u64, rounds: &Rounds, place: usize) -> Row {
+    let [store, checks, model, floor, last] = [0, 1, 2, 3, 4].map(|other| place + other);
     let sqlite = cfg!(feature = "sqlite")
-        .then(|| Beside { time: rounds.time(last), times: rounds.ratio(last, place) });
-    let floor =
-        floor.map(|floor| Beside { time: rounds.time(floor), times: rounds.ratio(place, floor) });
+        .then(|| InSqlite { time: rounds.time(last), as_fast: rounds.ratio(last, store) });
     Row {
-        name: format!("on a sheet with {versions} stored versions"),
+        name,
         versions,
-        store: rounds.time(place),
-        model: rounds.time(place + 1),
-        floor,
+        store: rounds.time(store),
+        checks: rounds.time(checks),
+        model: rounds.time(model),
+        floor: rounds.time(floor),
+        floors: rounds.ratio(store, floor),
+        floors_of_checks: rounds.ratio(checks, floor),
         sqlite,
     }
 }
@@ -166,101 +172,38 @@ fn once<'a>(served: impl Calls + 'a, block: &[u64]) -> Contender<'a> {
     steps_undone(lent, step, Lent::undo)
 }
 
-/// The floor: for each call one plain pass over the words in use before it.
-fn passes<'a>(block: &[u64]) -> Contender<'a> {
-    let watched = Watched::default();
-    write_and_read(&watched, &mut Lent::new(block, block), 1);
-    let calls = watched.in_use.into_inner();
-    assert_eq!(calls.len(), 22);
-    floor::passes(block, &calls)
-}
-
-/// The proved store, and the words in use before each call of it.
-#[derive(Default)]
-struct Watched {
-    in_use: RefCell<Vec<Vec<Range<usize>>>>,
-}
-
-impl Watched {
-    fn look(&self, block: &[u64]) {
-        self.in_use.borrow_mut().push(floor::in_use(block));
-    }
-}
-
-impl Calls for Watched {
-    fn fresh(&self, block: &mut [u64], clients: u64, partitions: u64, items: u64) -> u64 {
-        Proved.fresh(block, clients, partitions, items)
-    }
-
-    fn start_read(&self, block: &mut [u64], client: u64, set: u64) -> u64 {
-        self.look(block);
-        Proved.start_read(block, client, set)
-    }
-
-    fn start_write(&self, block: &mut [u64], client: u64, set: u64, values: &[u8]) -> u64 {
-        self.look(block);
-        Proved.start_write(block, client, set, values)
-    }
-
-    fn deliver(&self, block: &mut [u64], place: u64) -> u64 {
-        self.look(block);
-        Proved.deliver(block, place)
-    }
-
-    fn show(&self, block: &[u64], client: u64, output: &mut [u8]) -> u64 {
-        self.look(block);
-        Proved.show(block, client, output)
-    }
-
-    fn clear(&self, block: &mut [u64]) -> u64 {
-        self.look(block);
-        Proved.clear(block)
-    }
-}
-
 fn a_life<'a>(served: impl Calls + 'a, life: Life) -> Contender<'a> {
-    let block = Session::fresh(2, 2, 4).block();
-    let mut lent = Lent::new(&block, &block);
-    let mut lived = steps(move || {
-        accepted(served.fresh(&mut lent.block, 2, 2, 4));
-        for write in 1..=life.writes {
-            write_and_read(&served, &mut lent, write as u32);
-            if write % life.cleared_after == 0 {
-                accepted(served.clear(black_box(&mut lent.block)));
-            }
-        }
-    });
-    Box::new(move || lived().of_each(life.writes))
+    let mut lent = fresh_sheet();
+    one_of(life.writes, steps(move || life.live(&served, &mut lent)))
 }
 
-/// A write that the sheet has no room for is made after a clearing.
-fn write_and_read(served: &impl Calls, lent: &mut Lent, value: u32) {
-    let block = black_box(&mut lent.block[..]);
-    let mut values = [0; 16];
-    for (item, bytes) in values.chunks_mut(4).enumerate() {
-        bytes.copy_from_slice(&(value + item as u32).to_be_bytes());
-    }
-    let mut started = served.start_write(block, 1, SHEET, &values);
-    if started == FULL {
-        accepted(served.clear(block));
-        started = served.start_write(block, 1, SHEET, &values);
-    }
-    deliver_all(served, block, accepted(started) >> 8);
-    let started = accepted(served.start_read(block, 2, SHEET));
-    deliver_all(served, block, started >> 8);
-    accepted(served.show(block, 1, &mut lent.output));
-    accepted(served.show(block, 2, &mut lent.output));
+fn fresh_sheet() -> Lent {
+    let block = sheet_with(0);
+    Lent::new(&block, &block)
 }
 
-fn deliver_all(served: &impl Calls, block: &mut [u64], mut messages: u64) {
-    while messages > 0 {
-        messages = accepted(served.deliver(block, 0)) >> 16 & 0xffff;
-    }
+/// The floor of a write and a read.
+fn passes<'a>(block: &[u64]) -> Contender<'a> {
+    let mut lent = Lent::new(block, block);
+    let before_each = RefCell::new(Vec::new());
+    write_and_read(&watched(&before_each), &mut lent, 1);
+    let before_each = before_each.into_inner();
+    assert_eq!(before_each.len(), CALLS);
+    floor::passes(block, before_each)
 }
 
-fn accepted(answer: u64) -> u64 {
-    assert_eq!(answer & 0xff, 0);
-    answer
+/// The mean floor of a life's writes and reads, refused ones and clearings counted in. Its passes
+/// are all over one block: what the words hold doesn't matter to them.
+fn passes_of_a_life<'a>(life: Life) -> Contender<'a> {
+    let mut lent = fresh_sheet();
+    let before_each = RefCell::new(Vec::new());
+    life.live(&watched(&before_each), &mut lent);
+    one_of(life.writes, floor::passes(&lent.block, before_each.into_inner()))
+}
+
+/// The proved store; the words in use before each call go to the list.
+fn watched(before_each: &RefCell<Vec<Stretches>>) -> impl Calls + '_ {
+    Looked(|block: &[u64]| before_each.borrow_mut().push(floor::in_use(block)))
 }
 
 #[cfg(feature = "sqlite")]
