@@ -27,7 +27,7 @@ impl Store {
         let mut entries = tables.entries();
         !entries.any(|(item, entry)| self.is_spared(version, entry.stamp, item == version.item))
             && !tables.messages.iter().any(|message| self.mentions(message, version))
-            && !tables.existing_clients().any(|client| self.is_writing(client, version))
+            && !tables.existing_clients().any(|client| self.transaction_spares(client, version))
     }
 
     /// A stamp spares the versions that have it, whatever their item. That it stands at the
@@ -56,7 +56,7 @@ impl Store {
 
     /// A client's transaction spares where it is a write under way; where it is a read, or has
     /// ended, with a fault alone.
-    fn is_writing(&self, client: &Client, version: &Version) -> bool {
+    fn transaction_spares(&self, client: &Client, version: &Version) -> bool {
         if self.has(Fault::LastEndedSpares) && client.last_stamps().contains(&version.stamp) {
             return true;
         }

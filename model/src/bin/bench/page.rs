@@ -139,8 +139,8 @@ fn sheets_table(rows: &sheet::Rows) -> String {
         "SQLite / store",
     ];
     let mut text = format!(
-        "## A write of 4 items and a read of them on the small sheet, delivered and shown: {CALLS} \
-         calls, and the clearings\n\n"
+        "## A write and a read of 4 items on the small sheet, shown: {CALLS} calls, and the \
+         clearings\n\n"
     ) + &heading(&head, "|---|--:|--:|--:|--:|--:|--:|--:|--:|");
     for row in rows.all() {
         let [store, checks, model, floor] =
