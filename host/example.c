@@ -7,10 +7,12 @@
  *
  * The morning client fills in the sheet; the afternoon client reads it for the first time. Then the morning client
  * corrects tape speed and equaliser curve, which must never be seen apart, while the afternoon client reads on. When
- * all has arrived both read again, and have the same sheet. At last the afternoon client, which has written nothing so
- * far, corrects the curve that it has read: its one write is later than both of the morning client's, and is what it
- * reads from then on, and the morning client once it has learnt of it. By then nobody knows of the first correction any
- * more: it is cleared away, and both read the sheet as it was.
+ * all has arrived both read again, and have the same sheet. At the change of shift the morning client notes the minutes
+ * done and hands over: the afternoon client, which was behind, reads them at once, whatever of them is still in flight,
+ * and the log has a line on it for the judge. Then the afternoon client, which has written nothing so far, corrects the
+ * curve that it has read: its one write is later than all of the morning client's, and is what it reads from then on,
+ * and the morning client once it has learnt of it. By then nobody knows of the first correction any more: it is cleared
+ * away, and both read the sheet as it was.
  */
 #include <inttypes.h>
 #include <stdio.h>
@@ -235,20 +237,52 @@ static void clear(struct shift *shift, unsigned expected)
         printf("%u versions are cleared away\n", koolvent_cleared_versions(answer));
 }
 
+static unsigned standing(const struct shift *shift, unsigned first, unsigned second)
+{
+    uint64_t answer = koolvent_compare(shift->block, KOOLVENT_WORDS, first, second);
+
+    return koolvent_compared_standing(accepted(answer, "a comparison"));
+}
+
+/* The receiver, which is behind, takes over what the giver has seen; the log says so. */
+static void hand_over(struct shift *shift, unsigned giver, unsigned receiver)
+{
+    uint8_t frame[KOOLVENT_HAND_OVER_FRAME_BYTES];
+
+    if (standing(shift, receiver, giver) != KOOLVENT_BEHIND)
+        fail("the receiver is not behind the giver");
+    accepted(koolvent_hand_over(shift->block, KOOLVENT_WORDS, giver, receiver), "a hand-over");
+    if (standing(shift, receiver, giver) != KOOLVENT_SAME)
+        fail("the receiver has not taken over what the giver knows");
+    koolvent_put_hand_over(frame, giver, receiver);
+    add_to_log(shift, frame, sizeof frame);
+    if (shift->aloud)
+        printf("%s hands over to %s\n", client_names[giver], client_names[receiver]);
+}
+
 static unsigned can_start(const struct client *client)
 {
     return !client->busy && client->plans_left > 0;
 }
 
-/* Starts what is planned and delivers what is in flight, in any order, until nothing is left. */
-static void run(struct shift *shift)
+/* Whether both have done what was planned. */
+static int has_ended(const struct shift *shift)
+{
+    const struct client *morning = &shift->clients[MORNING], *afternoon = &shift->clients[AFTERNOON];
+
+    return !morning->busy && !afternoon->busy && morning->plans_left == 0 && afternoon->plans_left == 0;
+}
+
+/* Starts what is planned and delivers what is in flight, in any order, until nothing is left; or until nobody has
+ * anything to do, whatever is in flight then. */
+static void run_until(struct shift *shift, int all_has_arrived)
 {
     for (;;) {
         unsigned morning = can_start(&shift->clients[MORNING]);
         unsigned afternoon = can_start(&shift->clients[AFTERNOON]);
         size_t choices = shift->messages + morning + afternoon;
         size_t choice;
-        if (choices == 0)
+        if (choices == 0 || (!all_has_arrived && has_ended(shift)))
             return;
         choice = choose(shift, choices);
         if (choice < shift->messages)
@@ -256,6 +290,11 @@ static void run(struct shift *shift)
         else
             start(shift, morning && choice == shift->messages ? MORNING : AFTERNOON);
     }
+}
+
+static void run(struct shift *shift)
+{
+    run_until(shift, 1);
 }
 
 static void plan(struct shift *shift, unsigned client, const struct plan *plans, size_t count)
@@ -286,6 +325,7 @@ static void play(struct shift *shift, uint64_t seed, int aloud)
 {
     static const struct plan fill_in = {WHOLE_SHEET, {190, 70, 320, 12}, ITEMS};
     static const struct plan correct = {SET(SPEED) | SET(CURVE), {381, 35}, 2};
+    static const struct plan note_minutes = {SET(MINUTES), {47}, 1};
     static const struct plan correct_again = {SET(SPEED) | SET(CURVE), {381, 18}, 2};
     static const struct plan reads[3] = {{WHOLE_SHEET, {0}, 0}, {WHOLE_SHEET, {0}, 0}, {WHOLE_SHEET, {0}, 0}};
 
@@ -312,6 +352,15 @@ static void play(struct shift *shift, uint64_t seed, int aloud)
     plan(shift, AFTERNOON, reads, 2);
     run(shift);
     compare_sheets(shift, MORNING);
+    part(shift, "change of shift: the morning client notes the minutes done, and hands over");
+    plan(shift, MORNING, &note_minutes, 1);
+    run_until(shift, 0);
+    hand_over(shift, MORNING, AFTERNOON);
+    part(shift, "the afternoon client's next read shows them, whatever is still in flight");
+    plan(shift, AFTERNOON, reads, 1);
+    run(shift);
+    if (shift->clients[AFTERNOON].sheet[MINUTES].value != note_minutes.values[0])
+        fail("what was taken over is not read");
     part(shift, "the afternoon client, which has written nothing so far, corrects the curve that it has read");
     plan(shift, AFTERNOON, &correct_again, 1);
     run(shift);

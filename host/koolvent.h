@@ -5,7 +5,8 @@
  * up to 12 at a time, in transactions. A read that shows one item of a write never shows another item of that write
  * older, never misses what its own client had written before it started, never shows an item older than an earlier
  * read of its client did, and ends after one reply for each item, whatever the order in which messages arrive. A write
- * is later than everything that its client was shown before it started.
+ * is later than everything that its client was shown before it started. A client may take over what another has seen:
+ * what that one had written by then, or taken over itself, counts as its own for every read that it starts afterwards.
  *
  * The host owns all memory and moves all messages. It lends a block of words to each call, and the store keeps
  * everything there: nothing is allocated, no thread is started, no clock is read, nothing is kept elsewhere.
@@ -82,21 +83,26 @@ extern "C" {
 #define KOOLVENT_MOST_LOG_BYTES 32768
 #define KOOLVENT_MOST_LOG_LINES 256
 
-/* ---- Log frames: what koolvent_show writes ----
+/* ---- Log frames: what koolvent_show writes, and of a hand-over koolvent_put_hand_over ----
  *
  * Numbers of several bytes have the most significant byte first. For each item of the set, ascending:
  *
- *     a write   kind 20 (1 byte), client (1), set (8), number of the write (4), then for each item its value (4)
- *     a read    kind 21 (1 byte), client (1), set (8), then for each item the number of the write that is shown (4),
- *               the client that wrote it (1), and the value (4); all three are 0 where nobody's write is shown
+ *     a write       kind 20 (1 byte), client (1), set (8), number of the write (4), then for each item its value (4)
+ *     a read        kind 21 (1 byte), client (1), set (8), then for each item the number of the write that is shown
+ *                   (4), the client that wrote it (1), and the value (4); all three are 0 where nobody's write is shown
+ *     a hand-over   kind 22 (1 byte), giver (1), receiver (1)
  *
- * A log is a text: each frame as lowercase hexadecimal digits, two a byte, and then the byte 0a. */
+ * A log is a text: each frame as lowercase hexadecimal digits, two a byte, and then the byte 0a. Its lines are in the
+ * order in which transactions ended and hand-overs were made: what the receiver has ended before a hand-over is logged
+ * above it, or the judge takes it for a read after it. */
 #define KOOLVENT_WRITE_FRAME 0x20
 #define KOOLVENT_READ_FRAME 0x21
+#define KOOLVENT_HAND_OVER_FRAME 0x22
 
-/* The bytes of a frame of so many items, and room enough for any frame. */
+/* The bytes of a frame of so many items, those of a hand-over's, and room enough for any frame. */
 #define KOOLVENT_WRITE_FRAME_BYTES(items) (14 + 4 * (items))
 #define KOOLVENT_READ_FRAME_BYTES(items) (10 + 9 * (items))
+#define KOOLVENT_HAND_OVER_FRAME_BYTES 3
 #define KOOLVENT_FRAME_ROOM 586
 
 /* ---- Refusals: the lowest byte of an answer; 0 is accepted ---- */
@@ -109,9 +115,9 @@ enum koolvent_refusal {
     KOOLVENT_REFUSED_BLOCK = 1,
     /* koolvent_fresh: a size is 0 or over its limit. */
     KOOLVENT_REFUSED_SIZES = 2,
-    /* There is no such client. */
+    /* There is no such client; of two, either. */
     KOOLVENT_REFUSED_CLIENT = 3,
-    /* A start, or koolvent_show: the client has a transaction under way. */
+    /* A start, or koolvent_show: the client has a transaction under way. koolvent_hand_over: either client has. */
     KOOLVENT_REFUSED_BUSY = 4,
     /* A start: the set is empty, or holds an item that does not exist. */
     KOOLVENT_REFUSED_SET = 5,
@@ -144,7 +150,9 @@ enum koolvent_refusal {
     /* koolvent_judge: the log is longer than the judge takes. */
     KOOLVENT_REFUSED_LOG_TOO_LONG = 16,
     /* koolvent_start_write: the set has more than KOOLVENT_MOST_WRITE_ITEMS items. */
-    KOOLVENT_REFUSED_WRITE_TOO_WIDE = 17
+    KOOLVENT_REFUSED_WRITE_TOO_WIDE = 17,
+    /* koolvent_hand_over: giver and receiver are one client. */
+    KOOLVENT_REFUSED_SAME_CLIENT = 18
 };
 
 /* The refusal of any answer, or KOOLVENT_ACCEPTED. A call on a block that is refused answers exactly that number, with
@@ -157,7 +165,8 @@ static inline unsigned koolvent_refusal(uint64_t answer)
 /* ---- The calls on a block ----
  *
  * A set holds item k as the bit worth 2 to the power k. Of several refusals that apply to a call the lowest is given,
- * but for koolvent_fresh, where 2 goes before 1, and koolvent_start_write, where 17 goes between 6 and 7. */
+ * but for koolvent_fresh, where 2 goes before 1, koolvent_start_write, where 17 goes between 6 and 7, and
+ * koolvent_hand_over, where 18 goes between 3 and 4. */
 
 /* Makes a store of so many clients, partitions and items, nothing written, every value 0. What the block held is lost;
  * it may hold anything. Refused by 1 and 2. */
@@ -188,6 +197,18 @@ uint64_t koolvent_show(const uint64_t *block, size_t words, uint64_t client, uin
  * ended last can still be shown. Refused by 1 alone. It takes some 40,000 bytes of stack. */
 uint64_t koolvent_clear(uint64_t *block, size_t words);
 
+/* The receiver takes over what the giver has seen, as at a change of shift: of each item it has from then on the later
+ * of the two writes that they had as their latest, and what the giver has stays as it was. So the receiver's reads miss
+ * nothing that the giver had written, or taken over, before. An accepted hand-over answers 0. A host that keeps a log
+ * adds a line with its frame, and the judge then counts the giver's writes above that line, and those that it had taken
+ * over by then, as the receiver's own. They must be two different clients, and both idle. Refused by 1, 3, 18 and 4. */
+uint64_t koolvent_hand_over(uint64_t *block, size_t words, uint64_t giver, uint64_t receiver);
+
+/* Tells how what the first client knows stands to what the second knows, by what each has as the latest write of each
+ * item, its number and client alone; koolvent_compared_standing reads the answer. Clients may be busy, and may be the
+ * same. Refused by 1 and 3. */
+uint64_t koolvent_compare(const uint64_t *block, size_t words, uint64_t first, uint64_t second);
+
 /* ---- What an accepted call answers ---- */
 
 /* The kind of a message. */
@@ -210,6 +231,17 @@ enum koolvent_outcome {
     KOOLVENT_NONE_ENDED = 0,
     KOOLVENT_READ_ENDED = 1,
     KOOLVENT_WRITE_ENDED = 2
+};
+
+/* How what one client knows stands to what another knows. */
+enum koolvent_standing {
+    KOOLVENT_SAME = 0,
+    /* Of no item it knows a later write, and of some an earlier one or none. */
+    KOOLVENT_BEHIND = 1,
+    /* Of some item it knows a later write, and of none an earlier one. */
+    KOOLVENT_AHEAD = 2,
+    /* Of some item it knows a later write, and of another an earlier one or none. */
+    KOOLVENT_NEITHER = 3
 };
 
 /* After a start: how many messages are in flight. */
@@ -248,6 +280,12 @@ static inline unsigned koolvent_cleared_versions(uint64_t answer)
     return (unsigned)(answer >> 8 & 0xffff);
 }
 
+/* After a comparison: how the first client's knowledge stands to the second's, an enum koolvent_standing. */
+static inline unsigned koolvent_compared_standing(uint64_t answer)
+{
+    return (unsigned)(answer >> 8 & 0xff);
+}
+
 /* ---- The judge ---- */
 
 /* What is wrong with a read of the log. */
@@ -257,12 +295,13 @@ enum koolvent_finding {
     KOOLVENT_UNWRITTEN = 1,
     /* It shows one item of a write, and another item of that write older. */
     KOOLVENT_FRACTURED = 2,
-    /* It shows an item older than its own client had written it, in a line above. */
+    /* It shows an item older than its own client had written it, in a line above, or had taken it over: at a hand-over
+     * above, what counted as the giver's own there counts as the receiver's below. */
     KOOLVENT_OWN_WRITE_MISSED = 3
 };
 
 /* Judges a log, whoever wrote it: the first read at fault, and there the lowest of the findings above. Refused by 15
- * and 16, the latter tested first. It takes some 21,000 bytes of stack; the calls on a block, but for koolvent_clear,
+ * and 16, the latter tested first. It takes some 23,000 bytes of stack; the calls on a block, but for koolvent_clear,
  * take less than 1,100, of which 512 are a stamp for each item when a read starts. */
 uint64_t koolvent_judge(const uint8_t *log, size_t length);
 
@@ -287,6 +326,14 @@ static inline void koolvent_put_value(uint8_t *bytes, uint32_t value)
     bytes[1] = (uint8_t)(value >> 16);
     bytes[2] = (uint8_t)(value >> 8);
     bytes[3] = (uint8_t)value;
+}
+
+/* Puts the log frame of a hand-over into KOOLVENT_HAND_OVER_FRAME_BYTES bytes. */
+static inline void koolvent_put_hand_over(uint8_t *frame, unsigned giver, unsigned receiver)
+{
+    frame[0] = KOOLVENT_HAND_OVER_FRAME;
+    frame[1] = (uint8_t)giver;
+    frame[2] = (uint8_t)receiver;
 }
 
 /* The number of 4 bytes. */

@@ -171,6 +171,63 @@ static void starts(void)
     clearings(versions);
 }
 
+static uint64_t hand_over(uint64_t giver, uint64_t receiver)
+{
+    return koolvent_hand_over(block, WORDS, giver, receiver);
+}
+
+/* How the first client's knowledge stands to the second's. */
+static unsigned standing(uint64_t first, uint64_t second)
+{
+    uint64_t answer = koolvent_compare(block, WORDS, first, second);
+
+    SAME(koolvent_refusal(answer), KOOLVENT_ACCEPTED);
+    return koolvent_compared_standing(answer);
+}
+
+/* Clients 1 and 3 each write an item, and nobody learns of it by messages. */
+static void hand_overs(void)
+{
+    fresh(3, 1, 2);
+    SAME(hand_over(1, 4), KOOLVENT_REFUSED_CLIENT);
+    SAME(hand_over(4, 1), KOOLVENT_REFUSED_CLIENT);
+    SAME(hand_over(4, 4), KOOLVENT_REFUSED_CLIENT);
+    SAME(koolvent_compare(block, WORDS, 1, 4), KOOLVENT_REFUSED_CLIENT);
+    SAME(koolvent_compare(block, WORDS, 4, 1), KOOLVENT_REFUSED_CLIENT);
+    SAME(koolvent_hand_over(block, KOOLVENT_WORDS - 1, 1, 2), KOOLVENT_REFUSED_BLOCK);
+    SAME(koolvent_compare(block, KOOLVENT_WORDS - 1, 1, 2), KOOLVENT_REFUSED_BLOCK);
+    SAME(standing(1, 2), KOOLVENT_SAME);
+
+    write_items(1, 1, 4);
+    SAME(hand_over(1, 2), KOOLVENT_REFUSED_BUSY);
+    SAME(hand_over(2, 1), KOOLVENT_REFUSED_BUSY);
+    SAME(hand_over(1, 1), KOOLVENT_REFUSED_SAME_CLIENT);
+    SAME(standing(1, 1), KOOLVENT_SAME);
+    deliver(0);
+    deliver(0);
+    SAME(standing(1, 2), KOOLVENT_AHEAD);
+    SAME(standing(2, 1), KOOLVENT_BEHIND);
+    write_items(3, 2, 4);
+    deliver(1);
+    deliver(1);
+    SAME(standing(1, 3), KOOLVENT_NEITHER);
+
+    SAME(hand_over(1, 2), KOOLVENT_ACCEPTED);
+    SAME(standing(1, 2), KOOLVENT_SAME);
+    SAME(hand_over(2, 3), KOOLVENT_ACCEPTED);
+    SAME(standing(2, 3), KOOLVENT_BEHIND);
+    read_items(3, 3);
+    deliver_all();
+    show(3, ROOM);
+    SAME(koolvent_frame_entry(output, 0).number, 1);
+    SAME(koolvent_frame_entry(output, 0).client, 1);
+    SAME(koolvent_frame_entry(output, 1).client, 3);
+
+    memset(output, 0xee, ROOM);
+    koolvent_put_hand_over(output, 2, 1);
+    SAME(memcmp(output, "\x22\x02\x01\xee", 4), 0);
+}
+
 /* Refusals that no block gives which only the calls have written. The words are those of docs/LAYOUT.md. */
 static void damaged_blocks(void)
 {
@@ -282,6 +339,7 @@ static size_t longest(int byte)
 
 #define WRITE_BY_1 "20010000000000000003000000010000000700000008\n"
 #define HALF_READ_BY(client) "21" client "0000000000000003000000010100000007000000000000000000\n"
+#define HAND_OVER "220102\n"
 #define INITIAL_READ_BY(client) "21" client "0000000000000001000000000000000000\n"
 
 static void verdicts(void)
@@ -301,6 +359,10 @@ static void verdicts(void)
     verdict = judge(WRITE_BY_1 INITIAL_READ_BY("02") INITIAL_READ_BY("01"));
     SAME(koolvent_verdict_finding(verdict), KOOLVENT_OWN_WRITE_MISSED);
     SAME(koolvent_verdict_line(verdict), 3);
+    verdict = judge(WRITE_BY_1 INITIAL_READ_BY("02") HAND_OVER INITIAL_READ_BY("02"));
+    SAME(koolvent_verdict_finding(verdict), KOOLVENT_OWN_WRITE_MISSED);
+    SAME(koolvent_verdict_line(verdict), 4);
+    SAME(strlen(HAND_OVER), 2 * KOOLVENT_HAND_OVER_FRAME_BYTES + 1);
     for (int line = 1; line < 256; line++)
         strcat(long_log, INITIAL_READ_BY("02"));
     verdict = judge(strcat(long_log, "x"));
@@ -315,6 +377,7 @@ int main(void)
     session();
     sizes();
     starts();
+    hand_overs();
     damaged_blocks();
     frames();
     copies();

@@ -1,11 +1,21 @@
 //! The answer to a call, as document 01's bytes and as one number.
 
 use crate::call::Call;
+use crate::frames::log::LogFrame;
 
 /// What a delivery reports.
 pub const NONE_ENDED: u64 = 0;
 pub const READ_ENDED: u64 = 1;
 pub const WRITE_ENDED: u64 = 2;
+
+/// How one view stands to another, by stamps alone.
+pub const SAME: u64 = 0;
+/// No entry is later, and one is earlier.
+pub const BEHIND: u64 = 1;
+/// No entry is earlier, and one is later.
+pub const AHEAD: u64 = 2;
+/// One entry is earlier, and one is later.
+pub const NEITHER: u64 = 3;
 
 /// The answer to a call.
 #[derive(Clone, Copy, Debug, PartialEq, Eq)]
@@ -28,6 +38,15 @@ pub enum Answer {
     Cleared {
         gone: u64,
     },
+    /// Who gave and who took, for the log.
+    HandedOver {
+        giver: u64,
+        receiver: u64,
+    },
+    /// How the first view stands to the second.
+    Compared {
+        standing: u64,
+    },
 }
 
 impl Answer {
@@ -36,13 +55,14 @@ impl Answer {
     pub fn number(self) -> u64 {
         match self {
             Answer::Refused(refusal) => refusal,
-            Answer::Fresh => 0,
+            Answer::Fresh | Answer::HandedOver { .. } => 0,
             Answer::Started { messages } => messages << 8,
             Answer::Delivered { kind, messages, outcome } => {
                 kind << 8 | messages << 16 | outcome << 32
             }
             Answer::Shown { length } => length << 8,
             Answer::Cleared { gone } => gone << 8,
+            Answer::Compared { standing } => standing << 8,
         }
     }
 
@@ -61,9 +81,16 @@ impl Answer {
             },
             Call::Show { .. } => Answer::Shown { length: number >> 8 & 0xffff },
             Call::Clear => Answer::Cleared { gone: number >> 8 & 0xffff },
+            Call::HandOver { giver, receiver } => {
+                Answer::HandedOver { giver: *giver, receiver: *receiver }
+            }
+            Call::Compare { .. } => Answer::Compared { standing: number >> 8 & 0xff },
         };
         let is_given = match (call, answer.refusal()) {
             (Call::Clear, refusal) => refusal <= 1,
+            (Call::HandOver { .. }, refusal) => [0, 1, 3, 4, 18].contains(&refusal),
+            (Call::Compare { .. }, 0) => number >> 8 <= NEITHER,
+            (Call::Compare { .. }, refusal) => [1, 3].contains(&refusal),
             (call, 17) => matches!(call, Call::Write { .. }),
             (_, refusal) => refusal <= 14,
         };
@@ -82,6 +109,11 @@ impl Answer {
             }
             Answer::Shown { length } => [&[0], &output[..length as usize]].concat(),
             Answer::Cleared { gone } => [&[0], &two_bytes(gone)[..]].concat(),
+            Answer::HandedOver { giver, receiver } => {
+                let frame = LogFrame::of_hand_over(giver as u8, receiver as u8);
+                [&[0], &frame.bytes()[..]].concat()
+            }
+            Answer::Compared { standing } => vec![0, standing as u8],
         }
     }
 

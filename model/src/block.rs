@@ -15,6 +15,8 @@ pub trait Calls {
     fn deliver(&self, block: &mut [u64], place: u64) -> u64;
     fn show(&self, block: &[u64], client: u64, output: &mut [u8]) -> u64;
     fn clear(&self, block: &mut [u64]) -> u64;
+    fn hand_over(&self, block: &mut [u64], giver: u64, receiver: u64) -> u64;
+    fn compare(&self, block: &[u64], first: u64, second: u64) -> u64;
 
     /// Makes the call, with this output for a showing.
     #[inline]
@@ -28,6 +30,8 @@ pub trait Calls {
             Call::Deliver { place } => self.deliver(block, *place),
             Call::Show { client, .. } => self.show(block, *client, output),
             Call::Clear => self.clear(block),
+            Call::HandOver { giver, receiver } => self.hand_over(block, *giver, *receiver),
+            Call::Compare { first, second } => self.compare(block, *first, *second),
         }
     }
 }
@@ -60,7 +64,7 @@ impl Modelled {
         })
     }
 
-    /// A start, a clearing, or the delivery of the message at a place.
+    /// A start, a clearing, a hand-over, or the delivery of the message at a place.
     fn step(
         &self,
         block: &mut [u64],
@@ -110,5 +114,16 @@ impl Calls for Modelled {
 
     fn clear(&self, block: &mut [u64]) -> u64 {
         self.step(block, None, Store::clear)
+    }
+
+    fn hand_over(&self, block: &mut [u64], giver: u64, receiver: u64) -> u64 {
+        self.step(block, None, |store| store.hand_over(giver, receiver))
+    }
+
+    fn compare(&self, block: &[u64], first: u64, second: u64) -> u64 {
+        match self.store(block) {
+            Ok(store) => store.compare(first, second).number(),
+            Err(refusal) => refusal.number(),
+        }
     }
 }

@@ -30,6 +30,16 @@ pub enum Call {
     },
     /// Drops the stored versions that nothing names any more.
     Clear,
+    /// The receiver takes over what the giver has seen.
+    HandOver {
+        giver: u64,
+        receiver: u64,
+    },
+    /// Tells how the first client's view stands to the second's.
+    Compare {
+        first: u64,
+        second: u64,
+    },
 }
 
 impl Call {

@@ -53,7 +53,7 @@ pub enum Clause {
     /// delivered.
     AnsweredBeforeStored { item: u64 },
     /// No entry is older than a write of that item which the client had ended before the read's
-    /// start.
+    /// start, or taken over from another that had ended it or taken it over.
     OwnWriteMissed { item: u64 },
     /// A write is later than every entry that its client was shown before it started.
     OlderThanShown,
@@ -90,6 +90,8 @@ pub struct Summary {
     pub gone: u64,
     /// Writes accepted that 9 would have refused if no version had gone.
     pub served: usize,
+    /// Entries shown of items whose latest write that counts as the client's own it had taken over.
+    pub taken_over: usize,
 }
 
 /// Whether the events keep every clause of condition 3. The first is an accepted fresh; another

@@ -28,7 +28,8 @@ pub enum Sort {
 pub struct Run {
     /// All calls from the accepted fresh on.
     pub events: Vec<Event>,
-    /// Each ended transaction, shown right after its end, up to the judge's limits.
+    /// Each ended transaction, shown right after its end, and each hand-over, up to the judge's
+    /// limits.
     pub log: Vec<u8>,
     pub most_versions: usize,
     pub greatest_load: u64,
@@ -61,6 +62,8 @@ struct Runner<'a, 'b> {
     clearings: u64,
     /// A write that 9 refuses is followed by a clearing and tried again.
     clears_when_full: bool,
+    /// Before so many calls in a hundred there is a hand-over, and before as many a comparison.
+    hand_overs: u64,
     log_lines: usize,
     run: Run,
     watch: &'a mut Watch<'b>,
@@ -92,8 +95,8 @@ pub fn tables_amid(sort: Sort, seed: u64) -> Tables {
 }
 
 impl Sort {
-    /// How many calls are made, deliveries of what is left at the end and showings after ends not
-    /// counted.
+    /// How many calls are made, deliveries of what is left at the end, showings after ends,
+    /// hand-overs and comparisons not counted.
     fn calls(self) -> u64 {
         match self {
             Sort::Small => 120,
@@ -129,6 +132,7 @@ impl<'a, 'b> Runner<'a, 'b> {
         };
         let clearings = random.pick(&[0, 0, 2, 15]);
         let clears_when_full = random.percent(50);
+        let hand_overs = random.pick(&[0, 1, 5, 15]);
         Runner {
             random,
             sort,
@@ -136,6 +140,7 @@ impl<'a, 'b> Runner<'a, 'b> {
             order,
             clearings,
             clears_when_full,
+            hand_overs,
             log_lines: 0,
             run: Run {
                 events: Vec::new(),
@@ -151,6 +156,12 @@ impl<'a, 'b> Runner<'a, 'b> {
     fn call_something(&mut self) {
         if self.random.percent(self.clearings) {
             self.call(Call::Clear);
+        }
+        if self.random.percent(self.hand_overs) {
+            self.hand_over();
+        }
+        if self.random.percent(self.hand_overs) {
+            self.compare();
         }
         match self.random.below(100) {
             0..60 => self.deliver_next(),
@@ -168,11 +179,13 @@ impl<'a, 'b> Runner<'a, 'b> {
         self.call(fresh(false, clients));
         self.call(Call::Read { client: 1, set: 1 });
         self.call(Call::Clear);
+        self.call(Call::HandOver { giver: 1, receiver: 2 });
+        self.call(Call::Compare { first: 1, second: 1 });
         self.run.events.clear();
         self.call(fresh(true, clients));
     }
 
-    /// Makes the call; shows and logs what it ended.
+    /// Makes the call; shows and logs what it ended, or logs who handed over to whom.
     fn call(&mut self, call: Call) -> Answer {
         let before = self.run.store.tables.clone();
         let (answer, event) = self.run.store.make(call);
@@ -196,6 +209,9 @@ impl<'a, 'b> Runner<'a, 'b> {
         if let Some(client) = ended {
             self.show_and_log(client);
         }
+        if let Answer::HandedOver { .. } = answer {
+            self.log(&answer.bytes(&[])[1..]);
+        }
         answer
     }
 
@@ -206,7 +222,12 @@ impl<'a, 'b> Runner<'a, 'b> {
             panic!("a showing after an end was refused");
         };
         let shown = self.run.events.last().expect("the showing");
-        let line = to_hex(&shown.output[..length as usize]) + "\n";
+        let frame = shown.output[..length as usize].to_vec();
+        self.log(&frame);
+    }
+
+    fn log(&mut self, frame: &[u8]) {
+        let line = to_hex(frame) + "\n";
         if self.log_lines < LOG_LINES && self.run.log.len() + line.len() <= LOG_BYTES {
             self.run.log.extend(line.bytes());
             self.log_lines += 1;

@@ -3,6 +3,7 @@
 mod calls;
 mod clear;
 pub mod fault;
+mod hand_over;
 pub mod message;
 pub mod range;
 mod refusals;

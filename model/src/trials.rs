@@ -7,11 +7,13 @@ mod busy;
 pub mod clearings;
 pub mod damage;
 pub mod edges;
+pub mod hand_overs;
 mod leftovers;
 mod met;
 pub mod range;
 pub mod runs;
 mod sparing;
+mod views;
 
 pub use brimming::brimming;
 pub use busy::Busy;

@@ -71,6 +71,13 @@ fn put_into(out: &mut [u8], a: Answer, shown: &[u8]) -> usize
         ),
         Answer::Shown { length } => put_shown(out, front(shown, length)),
         Answer::Cleared { gone } => put_line(out, 3, gone % 65536),
+        // 00, 22, giver, receiver
+        Answer::HandedOver { giver, receiver } => put_line(
+            out,
+            4,
+            2228224 + giver % 256 * 256 + receiver % 256,
+        ),
+        Answer::Compared { standing } => put_line(out, 2, standing % 256),
     }
 }
 

@@ -12,7 +12,7 @@ use lib.ListN.{length, getD, length-append, List·getD-append}
 use lib.Seq.{getD-at}
 use lib.Dec.{eqb}
 use borrow.Author.Tests.{eqb-true, eqb-false}
-use Rattle.basics.proofs.Cases.{by-test, and-left, and-right, and-both}
+use Rattle.basics.proofs.Cases.{by-test, not-both, and-left, and-right, and-both}
 use Rattle.basics.specs.Lists.{In, all, counted, without, dropped, table, every}
 
 module _ {A : Type 0} where
@@ -270,3 +270,13 @@ unfolding every
 at-every zero p h = refl
 at-every (suc n) p h = and-both (every n p) (p n) (at-every n p (λ k l. h k (omega arith)))
     (h n (omega arith))
+
+-- or fails of one
+pub not-every : (n : ℕ) (p : ℕ → Bool) → every n p ≡ false → (k : ℕ) × (k < n) × (p k ≡ false)
+unfolding every
+not-every zero p e = not-both refl e
+not-every (suc n) p e =
+    by-test (p n)
+    (λ t. by-test (every n p) (λ h. not-both (and-both (every n p) (p n) h t) e)
+    (λ h. let rest = not-every n p h in (rest .0, omega (arith, rest .1), rest .2)))
+    (λ t. (n, omega arith, t))

@@ -4,16 +4,18 @@ use mathlib.Core.Path.{_≡_}
 use Prim.Native.Nat.{ℕ}
 use Rattle.protocol.specs.Tables.{Tables}
 use Rattle.protocol.specs.Range.{capacities}
-use Rattle.protocol.specs.Calls.{Call, startRead, startWrite, deliver, show, clear, refusal}
-use Rattle.protocol.specs.Calls.{effect}
+use Rattle.protocol.specs.Calls.{Call, startRead, startWrite, deliver, show, clear, handOver}
+use Rattle.protocol.specs.Calls.{compare, refusal, effect}
 use Rattle.protocol.proofs.Refusals.{accepted-read, accepted-write, accepted-deliver}
-use Rattle.protocol.proofs.Refusals.{accepted-clear}
+use Rattle.protocol.proofs.Refusals.{accepted-clear, accepted-hand-over}
 use Rattle.layout.specs.Decode.{tablesOf}
 use Rattle.layout.specs.Encodes.{Encodes}
+use Rattle.layout.proofs.Room.{room-valid}
 use Rattle.start.proofs.EncodesRead.{encodes-read}
 use Rattle.start.proofs.EncodesWrite.{encodes-write}
 use Rattle.deliver.proofs.Delivered.{encodes-deliver}
 use Rattle.clear.proofs.Cleared.{encodes-clear}
+use Rattle.hand_over.proofs.HandedOver.{encodes-handed-over}
 use Rattle.block_calls.specs.Calls.{changed}
 
 -- a clearing is defined by the tables that are read, so these must be the ones held
@@ -28,3 +30,9 @@ encodes-changed b t (deliver i) same h e =
     encodes-deliver i h (accepted-deliver capacities t i .0 e)
 encodes-changed b t (show d output) same h e = h
 encodes-changed b t clear same h e = encodes-clear b t same h (accepted-clear capacities t .0 e)
+encodes-changed b t (handOver giver receiver) same h e =
+    let a = accepted-hand-over capacities t giver receiver .0 e in
+    rw (h .items)
+    (encodes-handed-over giver receiver h (room-valid t (a .valid)) (a .giver .0) (a .giver .1)
+    (a .receiver .0) (a .receiver .1) (a .other))
+encodes-changed b t (compare giver receiver) same h e = h

@@ -7,38 +7,39 @@ use native.Mathlib.Omega.{arith}
 use Rattle.basics.proofs.Cases.{by-test}
 use Rattle.protocol.specs.declared.Answer.{Answer}
 use Rattle.protocol.specs.declared.Answer.the-variants.{Refused, Made, Started, Delivered, Shown}
-use Rattle.protocol.specs.declared.Answer.the-variants.{Cleared}
+use Rattle.protocol.specs.declared.Answer.the-variants.{Cleared, HandedOver, Compared}
 use Rattle.protocol.specs.Tables.{Tables, Sizes}
 use Rattle.protocol.specs.Steps.{messageAt}
-use Rattle.protocol.specs.Calls.{Call, startRead, startWrite, deliver, show, clear, Test, test}
-use Rattle.protocol.specs.Calls.{first, refusal, effect, reply, step, pick}
+use Rattle.protocol.specs.Calls.{Call, startRead, startWrite, deliver, show, clear, handOver}
+use Rattle.protocol.specs.Calls.{compare, Test, test, first, refusal, effect, reply, step, pick}
 use Rattle.protocol.specs.Calls.{numberOfAnswer}
 use Rattle.protocol.proofs.MessageKinds.{kind-within}
 use Rattle.protocol.proofs.Delivered.{outcome-most}
-use Rattle.protocol.proofs.Refusals.{accepted-clear}
+use Rattle.protocol.proofs.Refusals.{accepted-clear, accepted-hand-over}
 use Rattle.protocol.proofs.Cleared.{length-cleared}
 use Rattle.protocol.proofs.Valid.{valid-kept}
 use Rattle.protocol.specs.Range.{capacities}
 use Rattle.layout.specs.Decode.{tablesOf, validBlock}
 use Rattle.encoding.proofs.Decoded.{few-versions, few-messages}
 use Rattle.show.proofs.LogFrames.{length-frame-le}
+use Rattle.hand_over.proofs.Compared.{standing-most}
 use Rattle.block_calls.specs.Calls.{freshRefusalOn, freshAnswerOn, refusalOn, answerOn, Fits}
 use Rattle.block_calls.proofs.Accepted.{answer-accepted, answer-refused}
 
 -- ---- refusals
 
 -- one more test
-more : (n : ℕ) (a : Bool) (xs : List Test) → n ≤ 17 → first xs ≤ 17 → first (test n a ∷ xs) ≤ 17
+more : (n : ℕ) (a : Bool) (xs : List Test) → n ≤ 18 → first xs ≤ 18 → first (test n a ∷ xs) ≤ 18
 unfolding first
 more n true xs x y = x
 more n false xs x y = y
 
-none : first [] ≤ 17
+none : first [] ≤ 18
 unfolding first
 none = omega arith
 
 -- one of the refusal table's numbers, or 0
-pub refusal-le : (t : Tables) (c : Call) → refusal capacities t c ≤ 17
+pub refusal-le : (t : Tables) (c : Call) → refusal capacities t c ≤ 18
 unfolding refusal
 refusal-le t (startRead d s) =
     more 1 _ _ (omega arith) (more 3 _ _ (omega arith)
@@ -56,8 +57,11 @@ refusal-le t (show d output) =
     more 1 _ _ (omega arith) (more 3 _ _ (omega arith)
     (more 4 _ _ (omega arith) (more 13 _ _ (omega arith) (more 14 _ _ (omega arith) none))))
 refusal-le t clear = more 1 _ _ (omega arith) none
+refusal-le t (handOver d e) = more 1 _ _ (omega arith)
+    (more 3 _ _ (omega arith) (more 18 _ _ (omega arith) (more 4 _ _ (omega arith) none)))
+refusal-le t (compare d e) = more 1 _ _ (omega arith) (more 3 _ _ (omega arith) none)
 
-fresh-refusal-le : (b : List ℕ) (z : Sizes) → freshRefusalOn b z ≤ 17
+fresh-refusal-le : (b : List ℕ) (z : Sizes) → freshRefusalOn b z ≤ 18
 unfolding freshRefusalOn
 fresh-refusal-le b z = more 2 _ _ (omega arith) (more 1 _ _ (omega arith) none)
 
@@ -71,6 +75,8 @@ refusalOf (Started n) = 0
 refusalOf (Delivered kind n outcome) = 0
 refusalOf (Shown n) = 0
 refusalOf (Cleared n) = 0
+refusalOf (HandedOver giver receiver) = 0
+refusalOf (Compared n) = 0
 
 reply-fits : (t : Tables) (c : Call) → refusal capacities t c ≡ 0 → Fits (reply t c)
 unfolding reply effect
@@ -91,6 +97,11 @@ reply-fits t (deliver i) e = (
 reply-fits t (show d output) e = omega (arith, length-frame-le d (t .client d .last))
 reply-fits t clear e =
     omega (arith, length-cleared t, few-versions t (accepted-clear capacities t .0 e))
+reply-fits t (handOver d e) h =
+    let a = accepted-hand-over capacities t d e .0 h in
+    let most = a .valid .inRange .sizes .clients in
+    (omega (arith, a .giver .1, most), omega (arith, a .receiver .1, most))
+reply-fits t (compare d e) h = omega (arith, standing-most t d e)
 
 step-fits : (t : Tables) (c : Call) → Fits (step capacities t c .answer)
 unfolding step
@@ -123,6 +134,8 @@ low-byte (Started n) f = omega arith
 low-byte (Delivered kind n outcome) f = omega arith
 low-byte (Shown n) f = omega arith
 low-byte (Cleared n) f = omega arith
+low-byte (HandedOver giver receiver) f = refl
+low-byte (Compared n) f = omega arith
 
 reply-accepts : (t : Tables) (c : Call) → refusalOf (reply t c) ≡ 0
 unfolding refusalOf reply
@@ -131,6 +144,8 @@ reply-accepts t (startWrite d s bytes) = refl
 reply-accepts t (deliver i) = refl
 reply-accepts t (show d output) = refl
 reply-accepts t clear = refl
+reply-accepts t (handOver d e) = refl
+reply-accepts t (compare d e) = refl
 
 tells-refusal : (b : List ℕ) (c : Call) (r : ℕ) → refusalOn b c ≡ r → refusalOf (answerOn b c) ≡ r
 unfolding refusalOf
@@ -154,3 +169,6 @@ fits-shown a n e f = subst Fits e f
 
 pub fits-cleared : (a : Answer) (n : ℕ) → a ≡ Cleared n → Fits a → n < 2 ^ 16
 fits-cleared a n e f = subst Fits e f
+
+pub fits-compared : (a : Answer) (n : ℕ) → a ≡ Compared n → Fits a → n < 2 ^ 8
+fits-compared a n e f = subst Fits e f

@@ -1,30 +1,34 @@
 -- What the calls' code has done, step by step, is what the calls are to give; and what its parts
 -- require.
-use mathlib.Core.Bool.{Bool, true, cond}
+use mathlib.Core.Bool.{Bool, true, cond, _&&_}
 use mathlib.Core.List.{List, _++_}
 use mathlib.Core.Logic.{_≢_}
 use mathlib.Core.Path.{_≡_, refl, sym, ap, _∙_}
 use Prim.Native.Nat.{ℕ, zero, suc, _+_, _*_, _^_, _≤_, _<_}
 use native.Mathlib.Omega.{arith}
 use lib.ListN.{length, drop}
-use Rattle.basics.proofs.Cases.{between}
+use Rattle.basics.proofs.Cases.{between, and-left, and-right}
 use Rattle.itemset.specs.Set.{count}
 use Rattle.protocol.specs.declared.Answer.the-variants.{Refused, Started, Shown, Cleared}
+use Rattle.protocol.specs.declared.Answer.the-variants.{HandedOver, Compared}
 use Rattle.protocol.specs.Tables.{Sizes}
 use Rattle.protocol.specs.Range.{capacities, isClient, load, occupied}
 use Rattle.protocol.specs.Clear.{gone}
-use Rattle.protocol.specs.Calls.{Call, startRead, startWrite, show, clear, effect, reply, written}
-use Rattle.protocol.specs.Calls.{lent, pick, shownFrame, refusal, first}
+use Rattle.protocol.specs.HandOver.{standing}
+use Rattle.protocol.specs.Calls.{Call, startRead, startWrite, show, clear, handOver, compare}
+use Rattle.protocol.specs.Calls.{effect, reply, written, lent, pick, shownFrame, refusal, first}
 use Rattle.protocol.proofs.Ranges.Tables.{Valid, valid-facts}
 use Rattle.protocol.proofs.Refusals.{accepted-read, accepted-write, accepted-show}
-use Rattle.layout.specs.Layout.{mostVersions, mostMessages, header, at, itemsAt, messagesAt}
-use Rattle.layout.specs.Layout.{needed}
+use Rattle.protocol.proofs.Refusals.{accepted-hand-over, accepted-compare}
+use Rattle.layout.specs.Layout.{mostVersions, mostMessages, header, at, clientsAt, itemsAt}
+use Rattle.layout.specs.Layout.{messagesAt, needed}
 use Rattle.layout.specs.Decode.{sizesIn, tablesOf, validBlock}
 use Rattle.start.specs.Start.{readStarted, greatestOn, writeStarted}
 use Rattle.start.proofs.Ready.{ready-start, ready-write}
 use Rattle.show.specs.Show.{frameIn}
 use Rattle.show.proofs.LogFrames.{shownFrame-tablesOf}
 use Rattle.clear.specs.Clear.{clearedBlock}
+use Rattle.hand_over.specs.HandOver.{handedOverBlock}
 use Rattle.encoding.proofs.WellFormed.{client-test, tells-valid-block}
 use Rattle.block_calls.specs.Calls.{refusalOn, answerOn, outputOn, tablesAfter, changed}
 use Rattle.block_calls.specs.Calls.{blockAfter}
@@ -159,6 +163,13 @@ module _ (b : List ℕ) (v : validBlock b ≡ true) where
         ),
       )
 
+  pub both-words : (d e : ℕ) → (isClient (sizesIn b) d && isClient (sizesIn b) e) ≡ true
+      → (1 ≤ d) × (d ≤ 8) × (1 ≤ e) × (e ≤ 8)
+  both-words d e c =
+      let p = has-words d (and-left (isClient (sizesIn b) d) _ c) in
+      let q = has-words e (and-right (isClient (sizesIn b) d) _ c) in
+      (p .0, p .1, q .0, q .1)
+
   pub view-words : (d : ℕ) → isClient (sizesIn b) d ≡ true → (items : ℕ)
       → items ≡ at b header itemsAt → (1 ≤ d) × (d ≤ 8) × (items ≤ 64) × (needed ≤ length b)
   view-words d c items i =
@@ -172,15 +183,21 @@ module _ (b : List ℕ) (v : validBlock b ≡ true) where
   pub occupied-few : (n : ℕ) → n ≡ occupied (tablesOf b) → n ≤ mostVersions
   occupied-few n e = omega (arith, e, facts .occupied)
 
--- ---- showings
+-- ---- calls that change no word
+
+kept : (b : List ℕ) (r : ℕ) → b ≡ pick r b b
+kept b zero = refl
+kept b (suc r) = refl
 
 pub show-keeps : (b : List ℕ) (d : ℕ) (out : List ℕ) → b ≡ blockAfter b (show d out)
 unfolding blockAfter changed
-show-keeps b d out = either (refusalOn b (show d out))
-  where
-    either : (r : ℕ) → b ≡ pick r b b
-    either zero = refl
-    either (suc r) = refl
+show-keeps b d out = kept b (refusalOn b (show d out))
+
+pub compare-keeps : (b : List ℕ) (d e : ℕ) → b ≡ blockAfter b (compare d e)
+unfolding blockAfter changed
+compare-keeps b d e = kept b (refusalOn b (compare d e))
+
+-- ---- showings
 
 module _ (b : List ℕ) (d : ℕ) (out : List ℕ) (e : refusalOn b (show d out) ≡ 0) where
   shown-frame : shownFrame (tablesOf b) d ≡ frameIn b d
@@ -231,3 +248,52 @@ clear-given b after n e m a = (
   ap Cleared m ∙ sym (answer-accepted b clear e),
   block-given b clear e after a,
 )
+
+-- ---- hand-overs and comparisons
+
+module _ (b : List ℕ) (d e : ℕ) where
+  pub hand-over-ready : refusalOn b (handOver d e) ≡ 0 → (items : ℕ) → items ≡ at b header itemsAt
+      → (1 ≤ d) × (d ≤ 8) × (1 ≤ e) × (e ≤ 8) × (items ≤ 64)
+  hand-over-ready z items i =
+      let a = accepted-hand-over capacities (tablesOf b) d e .0
+      (accepted-tables b (handOver d e) z) in
+      let sizes = a .valid .inRange .sizes in (
+        a .giver .0,
+        omega (arith, a .giver .1, sizes .clients),
+        a .receiver .0,
+        omega (arith, a .receiver .1, sizes .clients),
+        omega (arith, i, sizes .items, ap (λ (n : Sizes). n .items) (sizes-read b)),
+      )
+
+  pub hand-over-given : refusalOn b (handOver d e) ≡ 0 → (after : List ℕ) (items : ℕ)
+      → items ≡ at b header itemsAt → after ≡ handedOverBlock b d e items
+      → (HandedOver d e ≡ answerOn b (handOver d e)) × (after ≡ blockAfter b (handOver d e))
+  unfolding reply changed
+  hand-over-given z after items i a = (
+    sym (answer-accepted b (handOver d e) z),
+    block-given b (handOver d e) z after (a ∙ ap (handedOverBlock b d e) i),
+  )
+
+  pub compare-ready : refusalOn b (compare d e) ≡ 0 → (items : ℕ) → items ≡ at b header itemsAt
+      → (1 ≤ d) × (d ≤ at b header clientsAt) × (1 ≤ e) × (e ≤ at b header clientsAt)
+      × (at b header clientsAt ≤ 8) × (items ≤ 64) × (items ≡ at b header itemsAt)
+      × (needed ≤ length b)
+  compare-ready z items i =
+      let a = accepted-compare capacities (tablesOf b) d e .0
+      (accepted-tables b (compare d e) z) in
+      let words = tells-valid-block b .0 (accepted-valid b (compare d e) z) .wellFormed in
+      let same = ap (λ (n : Sizes). n .clients) (sizes-read b) in (
+        a .one .0,
+        omega (arith, a .one .1, same),
+        a .other .0,
+        omega (arith, a .other .1, same),
+        words .sizes .clients,
+        omega (arith, i, words .sizes .items),
+        i,
+        words .long,
+      )
+
+  pub compare-given : refusalOn b (compare d e) ≡ 0 → (n : ℕ) → n ≡ standing (tablesOf b) d e
+      → Compared n ≡ answerOn b (compare d e)
+  unfolding reply
+  compare-given z n m = ap Compared m ∙ sym (answer-accepted b (compare d e) z)

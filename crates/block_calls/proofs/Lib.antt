@@ -1,5 +1,5 @@
 -- A block that holds tables holds those of the steps after every call; what a call gives, from the
--- words of the block; condition 3 about blocks.
+-- words of the block; that words past a block's needed length stay; condition 3 about blocks.
 pub mod Changed
 pub mod Holds
 pub mod Fresh
@@ -7,6 +7,7 @@ pub mod Accepted
 pub mod Tested
 pub mod Given
 pub mod Places
+pub mod Past
 pub mod Fits
 pub mod Examples
 pub mod Condition3

@@ -1,15 +1,16 @@
 -- The refusal table from the words of a valid block.
-use mathlib.Core.Bool.{Bool, true, false, cond, not, _||_, and-true}
+use mathlib.Core.Bool.{Bool, true, false, cond, not, _&&_, _||_, and-true}
 use mathlib.Core.List.{List}
 use mathlib.Core.Path.{_≡_, refl, sym, _∙_}
 use Prim.Native.Nat.{ℕ, _+_, _*_}
 use lib.Dec.{eqb, ltb, leb}
 use lib.ListN.{length}
-use Rattle.basics.proofs.Cases.{by-test, between}
+use Rattle.basics.proofs.Cases.{by-test, between, and-left, and-right}
 use Rattle.itemset.specs.Set.{allBelow, count}
 use Rattle.protocol.specs.Range.{capacities, isClient, isIdle, load, occupied}
 use Rattle.protocol.specs.Steps.{greatestOf}
-use Rattle.protocol.specs.Calls.{startRead, startWrite, show, refusal, first, isNothing}
+use Rattle.protocol.specs.Calls.{startRead, startWrite, show, handOver, compare, refusal, first}
+use Rattle.protocol.specs.Calls.{isNothing}
 use Rattle.layout.specs.Layout.{mostVersions, mostMessages, mostWriteItems, header, scalars, at}
 use Rattle.layout.specs.Layout.{itemsAt, modeAt, awaitedAt, lastKindAt}
 use Rattle.layout.specs.Decode.{sizesIn, clientIn, tablesOf, validBlock}
@@ -111,3 +112,40 @@ module _ (b : List ℕ) (d : ℕ) (v : validBlock b ≡ true) where
         sizes-read b,
         c,
       ) refl
+
+-- ---- of two clients
+
+module _ (b : List ℕ) (d e : ℕ) (v : validBlock b ≡ true) where
+  abbrev pub bothClients : Bool
+  bothClients = isClient (sizesIn b) d && isClient (sizesIn b) e
+
+  abbrev pub bothIdle : Bool
+  bothIdle = eqb (at b scalars (modeAt d)) 0 && eqb (at b scalars (modeAt e)) 0
+
+  pub hand-over-nobody : bothClients ≡ false
+      → refusal capacities (tablesOf b) (handOver d e) ≡ 3
+  unfolding refusal first
+  hand-over-nobody c = rw (valid-tables b v, sizes-read b, c) refl
+
+  pub compare-nobody : bothClients ≡ false → refusal capacities (tablesOf b) (compare d e) ≡ 3
+  unfolding refusal first
+  compare-nobody c = rw (valid-tables b v, sizes-read b, c) refl
+
+  pub hand-over-tests : bothClients ≡ true
+      → refusal capacities (tablesOf b) (handOver d e) ≡ cond (eqb d e) 18
+      (cond (not bothIdle) 4 0)
+  unfolding refusal first
+  hand-over-tests c =
+      let one = isClient (sizesIn b) d in
+      let other = isClient (sizesIn b) e in
+      rw (
+        valid-tables b v,
+        idle-read b d (and-left one other c) v,
+        idle-read b e (and-right one other c) v,
+        sizes-read b,
+        c,
+      ) refl
+
+  pub compare-tests : bothClients ≡ true → refusal capacities (tablesOf b) (compare d e) ≡ 0
+  unfolding refusal first
+  compare-tests c = rw (valid-tables b v, sizes-read b, c) refl

@@ -8,17 +8,18 @@ use lib.Dec.{ltb}
 use lib.ListN.{length}
 use Rattle.protocol.specs.declared.Answer.{Answer}
 use Rattle.protocol.specs.declared.Answer.the-variants.{Refused, Made, Started, Delivered, Shown}
-use Rattle.protocol.specs.declared.Answer.the-variants.{Cleared}
+use Rattle.protocol.specs.declared.Answer.the-variants.{Cleared, HandedOver, Compared}
 use Rattle.protocol.specs.Tables.{Sizes, Tables, fresh}
 use Rattle.protocol.specs.Range.{capacities, sizesInRange}
-use Rattle.protocol.specs.Calls.{Call, startRead, startWrite, deliver, show, clear, test, first}
-use Rattle.protocol.specs.Calls.{pick, refusal, step, lent}
-use Rattle.layout.specs.Layout.{needed}
+use Rattle.protocol.specs.Calls.{Call, startRead, startWrite, deliver, show, clear, handOver}
+use Rattle.protocol.specs.Calls.{compare, test, first, pick, refusal, step, lent}
+use Rattle.layout.specs.Layout.{needed, header, at, itemsAt}
 use Rattle.layout.specs.Decode.{tablesOf, validBlock}
 use Rattle.layout.specs.Store.{freshBlock}
 use Rattle.start.specs.Start.{readStarted, writeStarted}
 use Rattle.deliver.specs.Deliver.{deliveredBlock}
 use Rattle.clear.specs.Clear.{clearedBlock}
+use Rattle.hand_over.specs.HandOver.{handedOverBlock}
 
 -- ---- fresh: 2 for sizes out of range, whatever the block's length; else 1 for one too short
 
@@ -57,6 +58,8 @@ changed b (startWrite d s bytes) = writeStarted b d s bytes
 changed b (deliver i) = deliveredBlock b i
 changed b (show d output) = b
 changed b clear = clearedBlock b
+changed b (handOver giver receiver) = handedOverBlock b giver receiver (at b header itemsAt)
+changed b (compare d e) = b
 
 unfoldable pub blockAfter : List ℕ → Call → List ℕ
 blockAfter b c = pick (refusalOn b c) (changed b c) b
@@ -70,3 +73,5 @@ Fits (Started n) = n < 2 ^ 16
 Fits (Delivered kind n outcome) = (kind < 2 ^ 8) × (n < 2 ^ 16) × (outcome < 2 ^ 8)
 Fits (Shown n) = n < 2 ^ 16
 Fits (Cleared n) = n < 2 ^ 16
+Fits (HandedOver giver receiver) = (giver < 2 ^ 8) × (receiver < 2 ^ 8)
+Fits (Compared n) = n < 2 ^ 8

@@ -1,2 +1,3 @@
 -- The words of condition 3, computed on document 01's session and on runs around it.
 pub mod Spans
+pub mod Own

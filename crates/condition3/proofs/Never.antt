@@ -12,8 +12,8 @@ use borrow.Author.Tests.{leb-false}
 use Rattle.basics.proofs.Cases.{by-test}
 use Rattle.protocol.specs.Tables.{Sizes}
 use Rattle.protocol.specs.Range.{Capacities, sizesInRange, valid, load, occupied}
-use Rattle.protocol.specs.Calls.{Call, startRead, startWrite, deliver, show, clear, Test}
-use Rattle.protocol.specs.Calls.{test, first, refusal}
+use Rattle.protocol.specs.Calls.{Call, startRead, startWrite, deliver, show, clear, handOver}
+use Rattle.protocol.specs.Calls.{compare, Test, test, first, refusal}
 use Rattle.condition3.specs.World.{World, begin, after}
 use Rattle.protocol.proofs.Ranges.Tables.{facts-valid}
 use Rattle.condition3.proofs.Link.{Inv}
@@ -85,6 +85,12 @@ module _ (caps : Capacities) (w : World) (inv : Inv caps w) where
       (mild-test 4 _ _ (omega arith)
       (mild-test 13 _ _ (omega arith) (mild-test 14 _ _ (omega arith) mild-none))))
   mild clear = passes 1 _ _ is-valid mild-none
+  mild (handOver giver receiver) =
+      passes 1 _ _ is-valid
+      (mild-test 3 _ _ (omega arith)
+      (mild-test 18 _ _ (omega arith) (mild-test 4 _ _ (omega arith) mild-none)))
+  mild (compare d e) =
+      passes 1 _ _ is-valid (mild-test 3 _ _ (omega arith) mild-none)
 
 -- ---- on a list from freshly made tables, before each of its calls
 

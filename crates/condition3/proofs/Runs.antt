@@ -8,6 +8,7 @@ pub mod Spans
 pub mod WriteSpan
 pub mod Rising
 pub mod WriteShows
+pub mod Own
 pub mod Provenance
 pub mod Deliverable
 pub mod OneMessage

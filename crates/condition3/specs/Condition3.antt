@@ -17,8 +17,8 @@ use Rattle.protocol.specs.Tables.{numberOf, writerOf}
 use Rattle.protocol.specs.Message.{isPrepare, ownerOf}
 use Rattle.protocol.specs.Range.{Capacities}
 use Rattle.protocol.specs.Steps.{nextStamp}
-use Rattle.protocol.specs.Calls.{Call, startRead, startWrite, deliver, show, clear, refusal}
-use Rattle.protocol.specs.Calls.{step}
+use Rattle.protocol.specs.Calls.{Call, startRead, startWrite, deliver, show, clear, handOver}
+use Rattle.protocol.specs.Calls.{refusal, step}
 use Rattle.condition3.specs.World.{World, Labelled, Write, Store, begun, storing, after}
 use Rattle.condition3.specs.World.{joiningOver, leavingOver, isRequest, isReply, isReplyFor}
 use Rattle.condition3.specs.World.{isReadMessage, outcomeIn, endsFor, stays, rests}
@@ -86,6 +86,21 @@ module _ (caps : Capacities) (w : World) where
     pub underWay : UnderWay d start before during
     pub ended : endsFor caps (after caps w (before ++ start ∷ during)) d end ≡ true
 
+  -- the write of v that client e started after the calls `earlier` counts as a client's own after
+  -- the calls `before`: it is that client's, and ended among them; or one of them is an accepted
+  -- hand-over to that client, and it counted as the giver's own before that ('writes the giver had
+  -- ended or inherited before the handover count as the receiver's own', document 02, P6)
+  pub data Own (e v : ℕ) (bytes : List ℕ) (earlier : List Call) : ℕ → List Call → Type 0 where
+    own : (before meanwhile : List Call) (finish : Call) (later : List Call)
+        → before ≡ earlier ++ startWrite e v bytes ∷ meanwhile ++ finish ∷ later
+        → EndedBy e (startWrite e v bytes) earlier meanwhile finish
+        → Own e v bytes earlier e before
+    inherited : (giver client : ℕ) (before above below : List Call)
+        → before ≡ above ++ handOver giver client ∷ below
+        → refusal caps (after caps w above .tables) (handOver giver client) ≡ 0
+        → Own e v bytes earlier giver above
+        → Own e v bytes earlier client before
+
   -- the world now, what joined and what was delivered, from the start of a read of s by client d
   -- on, over the calls `during`
   abbrev pub now : ℕ → ℕ → List Call → List Call → World
@@ -151,14 +166,11 @@ module _ (caps : Capacities) (w : World) where
         × (isReplyFor d k reply ≡ true)
         × StoredBefore (after caps w calls .stores) a (answeredAt reply)))
     -- 'no entry is older than a write of that line which the desk itself had ended before starting
-    -- the read'
-    pub own : (v : ℕ) (bytes : List ℕ) (earlier meanwhile : List Call) (finish : Call)
-        (later : List Call)
-        → before ≡ earlier ++ startWrite d v bytes ∷ meanwhile ++ finish ∷ later
-        → EndedBy d (startWrite d v bytes) earlier meanwhile finish
+    -- the read', with those that count as its own after a hand-over 'for reads started after it'
+    pub own : (e v : ℕ) (bytes : List ℕ) (earlier : List Call) → Own e v bytes earlier d before
         → (k : ℕ) → has s k ≡ true → has v k ≡ true
         → ShownOlder s (outputOfRead d s before during end until room) k
-        (nextStamp (after caps w earlier .tables) d) → ⊥
+        (nextStamp (after caps w earlier .tables) e) → ⊥
 
   -- ---- The condition
 

@@ -11,7 +11,7 @@ use Rattle.protocol.specs.declared.Message.{Message}
 use Rattle.protocol.specs.declared.Message.the-variants.{Commit}
 use Rattle.protocol.specs.declared.Answer.{Answer}
 use Rattle.protocol.specs.declared.Answer.the-variants.{Refused, Made, Started, Delivered}
-use Rattle.protocol.specs.declared.Answer.the-variants.{Shown, Cleared}
+use Rattle.protocol.specs.declared.Answer.the-variants.{Shown, Cleared, HandedOver, Compared}
 use Rattle.protocol.specs.Tables.{Tables, Sizes, WritePart, fresh}
 use Rattle.protocol.specs.Message.{isGet, isGot, itemOf}
 use Rattle.protocol.specs.Range.{Capacities}
@@ -173,6 +173,8 @@ outcomeIn (Started n) = 0
 outcomeIn (Delivered kind n outcome) = outcome
 outcomeIn (Shown n) = 0
 outcomeIn (Cleared n) = 0
+outcomeIn (HandedOver giver receiver) = 0
+outcomeIn (Compared n) = 0
 
 -- the call delivers a message of client d
 abbrev pub isDelivery : World → ℕ → Origin → Bool

@@ -18,20 +18,22 @@ use Rattle.protocol.specs.declared.Entry.{Entry}
 use Rattle.protocol.specs.declared.Message.{Message}
 use Rattle.protocol.specs.declared.Message.the-variants.{Prepare, Prepared, Commit, Get, Got}
 use Rattle.protocol.specs.Tables.{Sizes, Tables, Client, ofRead, ofWrite, nothing, initial}
-use Rattle.protocol.specs.Tables.{fresh, resting, put, writerOf, partitionOf}
+use Rattle.protocol.specs.Tables.{fresh, resting, laterOf, put, writerOf, partitionOf}
 use Rattle.protocol.specs.Tables.{withClient, withView, withLatest, withVersions, withMessages}
 use Rattle.protocol.specs.Range.{Capacities, isClient, isItem, isWriting}
 use Rattle.protocol.specs.Steps.{reader, gets, writer, prepares, stored, found, struck, answered}
 use Rattle.protocol.specs.Steps.{endedRead, endedWrite, ended, isLast, prepared, got, offered, seen}
 use Rattle.protocol.specs.Steps.{committed, delivered, joined, messageAt}
 use Rattle.protocol.specs.Clear.{cleared}
-use Rattle.protocol.specs.Calls.{Call, startRead, startWrite, deliver, show, clear, refusal, effect}
+use Rattle.protocol.specs.Calls.{Call, startRead, startWrite, deliver, show, clear, handOver}
+use Rattle.protocol.specs.Calls.{compare, refusal, effect}
 use Rattle.protocol.proofs.Put.{by-cond, put-all, put-other}
 use Rattle.protocol.proofs.Stored.{found-held}
 use Rattle.protocol.proofs.Ranges.Values.{IsClient, MessageInRange}
 use Rattle.protocol.proofs.Ranges.Tables.{InRange}
 use Rattle.protocol.proofs.Refusals.{AcceptedDeliver, Expected, accepted-read, accepted-write}
 use Rattle.protocol.proofs.Refusals.{accepted-deliver, accepted-message, tells-prepared, tells-got}
+use Rattle.protocol.proofs.Refusals.{accepted-hand-over}
 use Rattle.layout.proofs.Masked.{Only, MaskedEnded, MaskedClient, Masked}
 use Rattle.layout.proofs.Parts.{awaits-reply, awaits-answer}
 use Rattle.encoding.proofs.WellFormed.{client-test}
@@ -261,6 +263,11 @@ masked-step caps t (startWrite d s bytes) e m =
 masked-step caps t (deliver i) e m = masked-deliver caps t m i (accepted-deliver caps t i .0 e)
 masked-step caps t (show d output) e m = m
 masked-step caps t clear e m = masked-versions t m (cleared t .versions)
+masked-step caps t (handOver d r) e m =
+    masked-view t m r (λ k. laterOf (t .view r k) (t .view d k))
+    (accepted-hand-over caps t d r .0 e .receiver)
+    (λ k f. rw (m .itemView r k f, m .itemView d k f) refl)
+masked-step caps t (compare d r) e m = m
 
 pub masked-fresh : (z : Sizes) → Masked (fresh z)
 masked-fresh z =

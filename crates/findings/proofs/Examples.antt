@@ -11,13 +11,14 @@ use Rattle.hex.specs.Digit.{digit, pair, hexDigit}
 use Rattle.hex.specs.Line.{lineLength}
 use Rattle.hex.specs.Number.{numberAt, bigEndian}
 use Rattle.hex.specs.Text.{isHex, hexText}
-use Rattle.itemset.specs.Set.{has}
+use Rattle.itemset.specs.Set.{has, insert}
 use Rattle.log.specs.Some.{some, someFrom, firstFrom}
 use Rattle.log.specs.Log.{tooLong, linesOf, frameOf, written, writtenStamp, writeAt}
 use Rattle.log.specs.Log.{writtenValue, shown, shownStamp, shownValue, endOf, writeShaped, shaped}
-use Rattle.log.specs.Log.{readShaped, entriesWhole, reaches, malformed}
+use Rattle.log.specs.Log.{readShaped, handOverShaped, entriesWhole, reaches, malformed}
 use Rattle.log.proofs.Rows.{line, times}
-use Rattle.findings.specs.Findings.{wrote, isUnwritten, behind, fractures, outdates, holdsAt}
+use Rattle.findings.specs.Findings.{wrote, isUnwritten, behind, fractures, withHeir, owners}
+use Rattle.findings.specs.Findings.{outdates, holdsAt}
 use Rattle.findings.specs.Findings.{lowest, judged, checked, verdict, bytesOf, numberOf}
 use Rattle.findings.specs.declared.Verdict.the-variants.{TooLong, Malformed, Judged}
 
@@ -308,6 +309,190 @@ rows =
           ++ line 19 0x2101_0000000000000001_00000000_00_00000000;
       answer = 0x00 ∷ 0x03 ∷ 0x00 ∷ 0x03 ∷ [];
     }
+    -- handed over: desk 1's write is desk 2's own below the hand-over, stays desk 1's, and is
+    -- nobody else's
+    ∷ record {
+      log =
+          line 18 0x2001_0000000000000001_00000001_00000007
+          ++ line 3 0x22_01_02
+          ++ line 19 0x2102_0000000000000001_00000000_00_00000000;
+      answer = 0x00 ∷ 0x03 ∷ 0x00 ∷ 0x03 ∷ [];
+    }
+    ∷ record {
+      log =
+          line 18 0x2001_0000000000000001_00000001_00000007
+          ++ line 3 0x22_01_02
+          ++ line 19 0x2101_0000000000000001_00000000_00_00000000;
+      answer = 0x00 ∷ 0x03 ∷ 0x00 ∷ 0x03 ∷ [];
+    }
+    ∷ record {
+      log =
+          line 18 0x2001_0000000000000001_00000001_00000007
+          ++ line 3 0x22_01_02
+          ++ line 19 0x2103_0000000000000001_00000000_00_00000000;
+      answer = 0x00 ∷ 0x00 ∷ 0x00 ∷ 0x00 ∷ [];
+    }
+    -- not missed: the inherited write shown, or a later one of another desk; another line
+    ∷ record {
+      log =
+          line 18 0x2001_0000000000000001_00000001_00000007
+          ++ line 3 0x22_01_02
+          ++ line 19 0x2102_0000000000000001_00000001_01_00000007;
+      answer = 0x00 ∷ 0x00 ∷ 0x00 ∷ 0x00 ∷ [];
+    }
+    ∷ record {
+      log =
+          line 18 0x2001_0000000000000001_00000001_00000007
+          ++ line 18 0x2003_0000000000000001_00000001_00000008
+          ++ line 3 0x22_01_02
+          ++ line 19 0x2102_0000000000000001_00000001_03_00000008;
+      answer = 0x00 ∷ 0x00 ∷ 0x00 ∷ 0x00 ∷ [];
+    }
+    ∷ record {
+      log =
+          line 18 0x2001_0000000000000002_00000001_00000007
+          ++ line 3 0x22_01_02
+          ++ line 19 0x2102_0000000000000001_00000000_00_00000000;
+      answer = 0x00 ∷ 0x00 ∷ 0x00 ∷ 0x00 ∷ [];
+    }
+    -- the read above the hand-over; the giver's write below it, and another hand-over below that
+    ∷ record {
+      log =
+          line 18 0x2001_0000000000000001_00000001_00000007
+          ++ line 19 0x2102_0000000000000001_00000000_00_00000000
+          ++ line 3 0x22_01_02;
+      answer = 0x00 ∷ 0x00 ∷ 0x00 ∷ 0x00 ∷ [];
+    }
+    ∷ record {
+      log =
+          line 3 0x22_01_02
+          ++ line 18 0x2001_0000000000000001_00000001_00000007
+          ++ line 19 0x2102_0000000000000001_00000000_00_00000000;
+      answer = 0x00 ∷ 0x00 ∷ 0x00 ∷ 0x00 ∷ [];
+    }
+    ∷ record {
+      log =
+          line 3 0x22_01_02
+          ++ line 18 0x2001_0000000000000001_00000001_00000007
+          ++ line 3 0x22_01_02
+          ++ line 19 0x2102_0000000000000001_00000000_00_00000000;
+      answer = 0x00 ∷ 0x03 ∷ 0x00 ∷ 0x04 ∷ [];
+    }
+    -- what the giver wrote below the hand-over isn't missed, what it wrote above is
+    ∷ record {
+      log =
+          line 18 0x2001_0000000000000001_00000001_00000007
+          ++ line 3 0x22_01_02
+          ++ line 18 0x2001_0000000000000001_00000002_00000008
+          ++ line 19 0x2102_0000000000000001_00000001_01_00000007
+          ++ line 19 0x2102_0000000000000001_00000000_00_00000000;
+      answer = 0x00 ∷ 0x03 ∷ 0x00 ∷ 0x05 ∷ [];
+    }
+    -- on and on: from desk 1 to 2 and from 2 to 3; the other way round desk 3 inherits nothing, and
+    -- desk 2 does
+    ∷ record {
+      log =
+          line 18 0x2001_0000000000000001_00000001_00000007
+          ++ line 3 0x22_01_02
+          ++ line 3 0x22_02_03
+          ++ line 19 0x2103_0000000000000001_00000000_00_00000000;
+      answer = 0x00 ∷ 0x03 ∷ 0x00 ∷ 0x04 ∷ [];
+    }
+    ∷ record {
+      log =
+          line 18 0x2001_0000000000000001_00000001_00000007
+          ++ line 3 0x22_02_03
+          ++ line 3 0x22_01_02
+          ++ line 19 0x2103_0000000000000001_00000000_00_00000000
+          ++ line 19 0x2102_0000000000000001_00000000_00_00000000;
+      answer = 0x00 ∷ 0x03 ∷ 0x00 ∷ 0x05 ∷ [];
+    }
+    -- through all eight
+    ∷ record {
+      log =
+          line 18 0x2001_0000000000000001_00000001_00000007
+          ++ line 3 0x22_01_02
+          ++ line 3 0x22_02_03
+          ++ line 3 0x22_03_04
+          ++ line 3 0x22_04_05
+          ++ line 3 0x22_05_06
+          ++ line 3 0x22_06_07
+          ++ line 3 0x22_07_08
+          ++ line 19 0x2108_0000000000000001_00000000_00_00000000;
+      answer = 0x00 ∷ 0x03 ∷ 0x00 ∷ 0x09 ∷ [];
+    }
+    -- the giver inherits nothing from the receiver, until that hands back
+    ∷ record {
+      log =
+          line 18 0x2002_0000000000000001_00000001_00000007
+          ++ line 3 0x22_01_02
+          ++ line 19 0x2101_0000000000000001_00000000_00_00000000;
+      answer = 0x00 ∷ 0x00 ∷ 0x00 ∷ 0x00 ∷ [];
+    }
+    ∷ record {
+      log =
+          line 18 0x2002_0000000000000001_00000001_00000007
+          ++ line 3 0x22_01_02
+          ++ line 19 0x2101_0000000000000001_00000000_00_00000000
+          ++ line 3 0x22_02_01
+          ++ line 19 0x2101_0000000000000001_00000000_00_00000000;
+      answer = 0x00 ∷ 0x03 ∷ 0x00 ∷ 0x05 ∷ [];
+    }
+    -- what the receiver wrote itself stays its own
+    ∷ record {
+      log =
+          line 18 0x2002_0000000000000001_00000001_00000007
+          ++ line 3 0x22_01_02
+          ++ line 19 0x2102_0000000000000001_00000000_00_00000000;
+      answer = 0x00 ∷ 0x03 ∷ 0x00 ∷ 0x03 ∷ [];
+    }
+    -- from two givers: the later write is missed, whoever's it is
+    ∷ record {
+      log =
+          line 18 0x2001_0000000000000001_00000001_00000007
+          ++ line 18 0x2002_0000000000000001_00000001_00000008
+          ++ line 3 0x22_01_03
+          ++ line 3 0x22_02_03
+          ++ line 19 0x2103_0000000000000001_00000001_01_00000007;
+      answer = 0x00 ∷ 0x03 ∷ 0x00 ∷ 0x05 ∷ [];
+    }
+    ∷ record {
+      log =
+          line 18 0x2001_0000000000000001_00000002_00000007
+          ++ line 18 0x2002_0000000000000001_00000001_00000008
+          ++ line 3 0x22_01_03
+          ++ line 3 0x22_02_03
+          ++ line 19 0x2103_0000000000000001_00000001_02_00000008;
+      answer = 0x00 ∷ 0x03 ∷ 0x00 ∷ 0x05 ∷ [];
+    }
+    -- a write and a read whose sets begin with byte 02 hand nothing over to desk 2
+    ∷ record {
+      log =
+          line 18 0x2001_0000000000000001_00000001_00000007
+          ++ line 18 0x2001_0200000000000000_00000002_00000008
+          ++ line 19 0x2101_0200000000000000_00000002_01_00000008
+          ++ line 19 0x2102_0000000000000001_00000000_00_00000000;
+      answer = 0x00 ∷ 0x00 ∷ 0x00 ∷ 0x00 ∷ [];
+    }
+    -- a hand-over shows and writes nothing, and is a line; to oneself it is malformed
+    ∷ record {
+      log =
+          line 3 0x22_01_02;
+      answer = 0x00 ∷ 0x00 ∷ 0x00 ∷ 0x00 ∷ [];
+    }
+    ∷ record {
+      log =
+          line 3 0x22_01_02
+          ++ line 19 0x2102_0000000000000001_00000001_01_00000007;
+      answer = 0x00 ∷ 0x01 ∷ 0x00 ∷ 0x02 ∷ [];
+    }
+    ∷ record {
+      log =
+          line 18 0x2001_0000000000000001_00000001_00000007
+          ++ line 19 0x2101_0000000000000001_00000000_00_00000000
+          ++ line 3 0x22_01_01;
+      answer = 0x0f ∷ 0x00 ∷ 0x03 ∷ [];
+    }
     -- the lowest at the first line at fault: 1 before 2 and 3, 2 before 3; a later line's lower
     -- one doesn't count
     ∷ record {
@@ -392,9 +577,9 @@ unfolding hexText bigEndian hexDigit
     every onesIn
     linesOf frameOf written Rattle.log.specs.Log.numberOf writtenStamp writtenValue shown shownStamp
     shownValue
-    writeAt endOf shaped writeShaped readShaped entriesWhole reaches malformed
-    wrote isUnwritten behind fractures outdates holdsAt lowest firstFrom tooLong judged checked
-    verdict
+    writeAt endOf shaped writeShaped readShaped handOverShaped entriesWhole reaches malformed
+    wrote isUnwritten behind fractures insert withHeir owners outdates holdsAt lowest firstFrom
+    tooLong judged checked verdict
 right r = same (bytesOf (verdict (r .log))) (r .answer)
 
 -- every row of the table

@@ -1,13 +1,12 @@
 -- A finding holds at a line of a well-formed log as the judge computes it if and only if the
 -- published definition does.
-use mathlib.Core.Bool.{Bool, true, false, not, _&&_, _||_}
+use mathlib.Core.Bool.{Bool, true, false, not, _&&_}
 use mathlib.Core.List.{List, []}
-use mathlib.Core.Path.{_≡_, refl, sym, ap, _∙_}
+use mathlib.Core.Path.{_≡_, refl, sym, _∙_}
 use Prim.Native.Nat.{ℕ, _<_}
 use native.Mathlib.Omega.{arith}
 use lib.Dec.{eqb, leb, ltb}
-use lib.ListN.{length, getD, take, length-take}
-use lib.Seq.{getD-take}
+use lib.ListN.{length, getD, take}
 use borrow.Author.Tests.{eqb-true, eqb-false, eq-eqb, ne-eqb, ltb-true, lt-ltb}
 use Rattle.basics.proofs.Cases.{by-test, not-both, and-left, and-right, and-both, or-neither}
 use Rattle.basics.proofs.Cases.{not-true, not-false}
@@ -19,8 +18,9 @@ use Rattle.log.specs.Log.{shownStamp, shownValue, shaped, reaches, malformed, m
 use Rattle.log.proofs.Lines.{frame-bytes}
 use Rattle.log.proofs.Parts.{shown-below, written-part, shaped-number}
 use Rattle.findings.specs.Findings.{wrote, isUnwritten, unwritten, behind, fractures}
-use Rattle.findings.specs.Findings.{fractured, outdates, ownWriteMissed, holdsAt}
+use Rattle.findings.specs.Findings.{fractured, owners, outdates, ownWriteMissed, holdsAt}
 use Rattle.findings.specs.Published.{Unwritten, Fractured, OwnWriteMissed}
+use Rattle.findings.proofs.Owners.{owners-own, own-owners, own-above}
 
 module _ (log : List ℕ) where
   abbrev frames : List (List ℕ)
@@ -182,28 +182,28 @@ module _ (log : List ℕ) where
 
   -- ---- 3 own write missed
 
+  abbrev misses : ℕ → ℕ → ℕ → Bool
+  misses i item j =
+      has (owners frames j i) (clientOf (line i))
+      && outdates item (shownStamp (line i) item) (line j)
+
   pub missed-says : (i : ℕ) → i < length frames → holdsAt ownWriteMissed frames i ≡ true
       → OwnWriteMissed frames i
   unfolding holdsAt outdates
   missed-says i l e =
-      let f = item-at i (λ item. some (outdates (clientOf (line i)) item (shownStamp (line i) item))
-      (take i frames)) e in
+      let f = item-at i (λ item. someFrom i 0 (misses i item)) e in
       let item = f .0 in
       let k = shownStamp (line i) item in
-      let a = some-at (outdates (clientOf (line i)) item k) (take i frames) [] (f .2) in
+      let a = someFrom-at i 0 (misses i item) (f .2) in
       let j = a .0 in
-      let low : j < i = omega (arith, a .1, length-take i frames) in
-      let t : outdates (clientOf (line i)) item k (line j) ≡ true =
-      ap (outdates (clientOf (line i)) item k) (sym (getD-take i frames j [] low)) ∙ a .2 in
-      let rest = and-right (eqb (clientOf (line j)) (clientOf (line i))) _ t in (
+      let mine = has (owners frames j i) (clientOf (line i)) in
+      let rest = and-right mine _ (a .3) in (
         j,
         item,
         writtenStamp (line j),
         k,
-        low,
-        eqb-true (clientOf (line j)) (clientOf (line i))
-            (and-left (eqb (clientOf (line j)) (clientOf (line i))) _ t),
-        (omega arith, and-left (has (written (line j)) item) _ rest, refl),
+        owners-own frames j i (clientOf (line i)) (and-left mine _ (a .3)),
+        (omega (arith, a .2), and-left (has (written (line j)) item) _ rest, refl),
         (l, f .1, refl),
         ltb-true k (writtenStamp (line j))
             (and-right (has (written (line j)) item) _ rest),
@@ -215,12 +215,8 @@ module _ (log : List ℕ) where
       let j = u .0 in
       let item = u .1 in
       let k = shownStamp (line i) item in
-      at-item i (λ item. some (outdates (clientOf (line i)) item (shownStamp (line i) item))
-      (take i frames)) item (u .7 .1)
-      (at-some (outdates (clientOf (line i)) item k) (take i frames) [] j
-      (omega (arith, u .4, u .7 .0, length-take i frames))
-      (ap (outdates (clientOf (line i)) item k) (getD-take i frames j [] (u .4))
-      ∙ and-both (eqb (clientOf (line j)) (clientOf (line i))) _
-      (eq-eqb (clientOf (line j)) (clientOf (line i)) (u .5))
-      (and-both (has (written (line j)) item) _ (u .6 .1)
-      (lt-ltb k (writtenStamp (line j)) (omega (arith, u .6 .2, u .7 .2, u .8))))))
+      at-item i (λ item. someFrom i 0 (misses i item)) item (u .6 .1)
+      (at-someFrom i 0 (misses i item) j (omega arith) (omega (arith, own-above frames j (u .4)))
+      (and-both (has (owners frames j i) (clientOf (line i))) _ (own-owners frames j (u .4))
+      (and-both (has (written (line j)) item) _ (u .5 .1)
+      (lt-ltb k (writtenStamp (line j)) (omega (arith, u .5 .2, u .6 .2, u .7))))))

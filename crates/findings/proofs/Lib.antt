@@ -1,5 +1,6 @@
 -- Laws of the definitions.
 pub mod WellFormed
+pub mod Owners
 pub mod Faults
 pub mod Theorem
 pub mod Examples

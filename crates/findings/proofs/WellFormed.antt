@@ -9,19 +9,22 @@ use native.Mathlib.Omega.{arith}
 use lib.Dec.{eqb, leb}
 use lib.ListN.{length, getD, take, length-take}
 use lib.Seq.{length-take-le, getD-take}
-use borrow.Author.Tests.{eqb-true, eq-eqb, leb-true, leb-false, le-leb}
+use borrow.Author.Tests.{eqb-true, eqb-false, eq-eqb, ne-eqb, leb-true, leb-false, le-leb}
 use Rattle.basics.proofs.Cases.{by-test, not-both, and-left, and-right, and-both, or-cases, or-left}
 use Rattle.basics.proofs.Cases.{or-right, or-neither, not-true, not-false}
 use Rattle.basics.proofs.Lists.{every-at, at-every}
 use Rattle.log.specs.Some.{some}
 use Rattle.log.proofs.Some.{some-at, at-some}
-use Rattle.log.specs.Log.{linesOf, framesOf, kindOf, clientOf, hasRead, hasWrite, isKind, shown}
+use Rattle.log.specs.Log.{linesOf, framesOf, kindOf, clientOf, hasRead, hasWrite, handsOver}
+use Rattle.log.specs.Log.{isKind, receiverOf, shown}
 use Rattle.log.specs.Log.{written, numberOf, isClient, isWhole, endOf, entryNumber, entryWriter}
-use Rattle.log.specs.Log.{entriesWhole, readShaped, writeShaped, shaped, reaches, malformed}
-use Rattle.log.specs.Log.{malformedAt, frameOf, count64}
+use Rattle.log.specs.Log.{entriesWhole, readShaped, writeShaped, handOverShaped, shaped, reaches}
+use Rattle.log.specs.Log.{malformed, malformedAt, frameOf, count64}
 use Rattle.log.proofs.Lines.{frame-at, frame-line, frameOf-text, length-frames}
 use Rattle.log.proofs.Parts.{shaped-kind, shaped-client, shaped-size, shaped-read, shaped-write}
-use Rattle.findings.specs.Published.{IsClient, ReadPart, WritePart, LogFrame, WholeStamp}
+use Rattle.log.proofs.Parts.{shaped-hand-over}
+use Rattle.findings.specs.Published.{IsClient, ReadPart, WritePart, HandOverPart, LogFrame}
+use Rattle.findings.specs.Published.{WholeStamp}
 use Rattle.findings.specs.Published.{Holds, Rises, WellFormed}
 
 pub frame-holds : (log : List ℕ) (i : ℕ) (f : List ℕ) → Holds log i f → getD (framesOf log) i [] ≡ f
@@ -103,7 +106,25 @@ module _ (f : List ℕ) where
       (and-both (leb 1 (written f)) _ (le-leb 1 (written f) (w h .items))
       (le-leb 1 (numberOf f) (w h .number))))
 
-  frame-is : shaped f ≡ true → LogFrame f
+  hand-over-is : handOverShaped f ≡ true → handsOver (kindOf f) ≡ true → HandOverPart f
+  unfolding handOverShaped
+  hand-over-is e h =
+      let t = of-part (handsOver (kindOf f)) _ e h in
+      record {
+        receiver = client-is (receiverOf f) (and-left (isClient (receiverOf f)) _ t);
+        other =
+            eqb-false (receiverOf f) (clientOf f)
+            (not-true (eqb (receiverOf f) (clientOf f))
+            (and-right (isClient (receiverOf f)) _ t));
+      }
+
+  is-hand-over : (handsOver (kindOf f) ≡ true → HandOverPart f) → handOverShaped f ≡ true
+  unfolding handOverShaped
+  is-hand-over p = part-of (handsOver (kindOf f)) _ (λ h.
+      (and-both (isClient (receiverOf f)) _ (is-client (receiverOf f) (p h .receiver))
+      (ap not (ne-eqb (receiverOf f) (clientOf f) (p h .other)))))
+
+  pub frame-is : shaped f ≡ true → LogFrame f
   frame-is e =
       record {
         kind = shaped-kind f e;
@@ -111,6 +132,7 @@ module _ (f : List ℕ) where
         size = eqb-true (length f) (endOf f) (shaped-size f e);
         read = read-is (shaped-read f e);
         write = write-is (shaped-write f e);
+        hand-over = hand-over-is (shaped-hand-over f e);
       }
 
   is-frame : LogFrame f → shaped f ≡ true
@@ -119,7 +141,9 @@ module _ (f : List ℕ) where
       and-both (isKind (kindOf f)) _ (h .kind)
       (and-both (isClient (clientOf f)) _ (is-client (clientOf f) (h .client))
       (and-both (eqb (length f) (endOf f)) _ (eq-eqb (length f) (endOf f) (h .size))
-      (and-both (readShaped f) (writeShaped f) (is-read (h .read)) (is-write (h .write)))))
+      (and-both (readShaped f) _ (is-read (h .read))
+      (and-both (writeShaped f) (handOverShaped f) (is-write (h .write))
+      (is-hand-over (h .hand-over))))))
 
 -- ---- a line
 

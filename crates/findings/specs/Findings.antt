@@ -1,15 +1,16 @@
 -- The three findings, their order, and the verdict on a log (document 01: findings; refusals 15 and
--- 16). A line's number here counts from 0.
+-- 16; document 02, P6: inherited writes). A line's number here counts from 0.
 use mathlib.Core.Bool.{Bool, cond, not, _&&_}
 use mathlib.Core.List.{List, [], _∷_, _++_}
-use Prim.Native.Nat.{ℕ, _+_, _*_}
+use Prim.Native.Nat.{ℕ, zero, suc, _+_, _*_}
 use lib.Dec.{eqb, ltb}
-use lib.ListN.{length, getD, take}
+use lib.ListN.{length, getD}
 use Rattle.hex.specs.Number.{bigEndian}
-use Rattle.itemset.specs.Set.{has}
+use Rattle.itemset.specs.Set.{has, insert}
 use Rattle.log.specs.Some.{some, someFrom}
-use Rattle.log.specs.Log.{tooLong, firstLine, framesOf, clientOf, written, writtenStamp}
-use Rattle.log.specs.Log.{writtenValue, shown, shownStamp, shownValue, malformedAt}
+use Rattle.log.specs.Log.{tooLong, firstLine, framesOf, kindOf, clientOf, handsOver, receiverOf}
+use Rattle.log.specs.Log.{written, writtenStamp, writtenValue, shown, shownStamp, shownValue}
+use Rattle.log.specs.Log.{malformedAt}
 use Rattle.findings.specs.declared.Verdict.{Verdict}
 use Rattle.findings.specs.declared.Verdict.the-variants.{TooLong, Malformed, Judged}
 
@@ -49,16 +50,30 @@ fractured frames i item =
     let r = getD frames i [] in
     some (fractures r item (shownStamp r item)) frames
 
--- w, of that client, wrote the item with a later stamp
-unfoldable pub outdates : ℕ → ℕ → ℕ → List ℕ → Bool
-outdates client item stamp w =
-    eqb (clientOf w) client && (has (written w) item && ltb stamp (writtenStamp w))
+-- clients (desks), and at a hand-over from one of them also the receiver
+unfoldable pub withHeir : ℕ → List ℕ → ℕ
+withHeir clients f =
+    cond (handsOver (kindOf f) && has clients (clientOf f)) (insert clients (receiverOf f)) clients
 
--- 3 own write missed: a write above, by the same client, wrote that item with a later stamp
+-- the clients as whose own line j's write counts at line i: none down to line j; its own client
+-- below it; and whoever takes over from one of them in between
+unfoldable pub owners : List (List ℕ) → ℕ → ℕ → ℕ
+owners frames j zero = 0
+owners frames j (suc i) =
+    let above = owners frames j i in
+    cond (eqb i j) (insert 0 (clientOf (getD frames j []))) (withHeir above (getD frames i []))
+
+-- w wrote the item with a later stamp
+unfoldable pub outdates : ℕ → ℕ → List ℕ → Bool
+outdates item stamp w = has (written w) item && ltb stamp (writtenStamp w)
+
+-- 3 own write missed: a line above, which counts as its client's own, wrote that item with a later
+-- stamp
 abbrev pub ownWriteMissed : List (List ℕ) → ℕ → ℕ → Bool
 ownWriteMissed frames i item =
     let r = getD frames i [] in
-    some (outdates (clientOf r) item (shownStamp r item)) (take i frames)
+    someFrom i 0 (λ j. has (owners frames j i) (clientOf r)
+    && outdates item (shownStamp r item) (getD frames j []))
 
 -- ---- their order
 

@@ -1,6 +1,7 @@
 -- The published definitions as statements about a log, with the lines and items that they speak of:
--- read atomicity and fractured reads (sources 001 and 002), reading one's own writes (source 000),
--- and what a well-formed line is. A line is a transaction; lines and items count from 0.
+-- read atomicity and fractured reads (sources 001 and 002), reading one's own writes (source 000)
+-- and inherited ones (document 02, P6), and what a well-formed line is. A line is a transaction, or
+-- a hand-over; lines and items count from 0.
 use mathlib.Core.Bool.{true}
 use mathlib.Core.List.{List, [], _∷_, _++_}
 use mathlib.Core.Logic.{_⊎_}
@@ -12,8 +13,8 @@ use Rattle.basics.specs.Lists.{counted}
 use Rattle.hex.specs.Bytes.{EachByte}
 use Rattle.hex.specs.Text.{hexText}
 use Rattle.itemset.specs.Set.{has}
-use Rattle.log.specs.Log.{linesOf, framesOf, kindOf, clientOf, hasRead, hasWrite, isKind, shown}
-use Rattle.log.specs.Log.{count64}
+use Rattle.log.specs.Log.{linesOf, framesOf, kindOf, clientOf, hasRead, hasWrite, handsOver}
+use Rattle.log.specs.Log.{isKind, receiverOf, shown, count64}
 use Rattle.log.specs.Log.{entryNumber, entryWriter, shownStamp, shownValue, written, numberOf}
 use Rattle.log.specs.Log.{writtenStamp, writtenValue, endOf}
 use Rattle.findings.specs.declared.Verdict.{Verdict}
@@ -43,6 +44,11 @@ pub record WritePart (f : List ℕ) : Type 0 where
   pub items : 1 ≤ written f
   pub number : 1 ≤ numberOf f
 
+-- what a hand-over has behind the giver: another client
+pub record HandOverPart (f : List ℕ) : Type 0 where
+  pub receiver : IsClient (receiverOf f)
+  pub other : receiverOf f ≡ clientOf f → ⊥
+
 -- a log frame, with the parts that its kind has and nothing behind them
 pub record LogFrame (f : List ℕ) : Type 0 where
   pub kind : isKind (kindOf f) ≡ true
@@ -50,6 +56,7 @@ pub record LogFrame (f : List ℕ) : Type 0 where
   pub size : length f ≡ endOf f
   pub read : hasRead (kindOf f) ≡ true → ReadPart f
   pub write : hasWrite (kindOf f) ≡ true → WritePart f
+  pub hand-over : handsOver (kindOf f) ≡ true → HandOverPart f
 
 -- line i of the log is the digits of frame f and then 0a
 abbrev pub Holds : List ℕ → ℕ → List ℕ → Type 0
@@ -101,11 +108,24 @@ module _ (frames : List (List ℕ)) where
   abbrev pub Fractured : ℕ → Type 0
   Fractured i = (j x y n k : ℕ) × Wrote j x n × Wrote j y n × Reads i x n × Reads i y k × (k < n)
 
-  -- a read that misses an earlier write of its own session: line j above, of the same client, wrote
-  -- the item at n, line i reads it at k, and k < n
+  -- line h hands over from the giver to the receiver
+  abbrev pub HandsOver : ℕ → ℕ → ℕ → Type 0
+  HandsOver h giver receiver =
+      (handsOver (kindOf (getD frames h [])) ≡ true) × (clientOf (getD frames h []) ≡ giver)
+      × (receiverOf (getD frames h []) ≡ receiver)
+
+  -- what line j wrote counts as a client's own at line i: line j stands above and is of that
+  -- client; or a line h above hands over to it, and line j counts as the giver's own at h
+  pub data Own : ℕ → ℕ → ℕ → Type 0 where
+    own : {client i j : ℕ} → j < i → clientOf (getD frames j []) ≡ client → Own client i j
+    inherited : {giver client h i j : ℕ} → h < i → HandsOver h giver client → Own giver h j
+        → Own client i j
+
+  -- a read that misses an earlier write of its own session: line j, which counts as its client's
+  -- own, wrote the item at n, line i reads it at k, and k < n
   abbrev pub OwnWriteMissed : ℕ → Type 0
   OwnWriteMissed i =
-      (j item n k : ℕ) × (j < i) × (clientOf (getD frames j []) ≡ clientOf (getD frames i []))
+      (j item n k : ℕ) × Own (clientOf (getD frames i [])) i j
       × Wrote j item n × Reads i item k × (k < n)
 
   abbrev pub Fault : ℕ → Type 0

@@ -10,8 +10,8 @@ ghost use lib.ListN.{length};
 ghost use lib.Seq.{sets};
 ghost use Rattle.store_frames.specs.Limits.{mostFrame};
 ghost use Rattle.store_frames.specs.StoreFrames.{isEnded, kindOf, isStoreFrame, valuesIn, isWrite};
-ghost use Rattle.store_frames.specs.StoreFrames.{parsed, storeFrameOf, isDecoded, decodedLine};
-ghost use Rattle.store_frames.specs.StoreFrames.{storedBytes};
+ghost use Rattle.store_frames.specs.StoreFrames.{parsedLater, parsed, storeFrameOf, isDecoded};
+ghost use Rattle.store_frames.specs.StoreFrames.{decodedLine, storedBytes};
 
 // The line's last byte is 0a.
 fn is_ended(line: &[u8]) -> bool
@@ -57,6 +57,30 @@ fn is_write(f: &[u8]) -> bool
     is_frame(f, 3, 10 + 4 * values) & (values <= 64)
 }
 
+// The frame of some bytes, of a kind of `40` or greater (document 02).
+fn parse_later(f: &[u8]) -> Parsed
+    ensures { λ r. ⌜ r ≡ parsedLater (now (f .entry)) ⌝ }
+{
+    let length = f.len();
+    if is_frame(f, 0x40, 1) {
+        let frame = StoreFrame::Clear;
+        return Parsed::Frame { frame, length };
+    }
+    if is_frame(f, 0x41, 3) {
+        let giver = hex::number_at(f, 1, 1);
+        let receiver = hex::number_at(f, 2, 1);
+        let frame = StoreFrame::HandOver { giver, receiver };
+        return Parsed::Frame { frame, length };
+    }
+    if is_frame(f, 0x42, 3) {
+        let first = hex::number_at(f, 1, 1);
+        let second = hex::number_at(f, 2, 1);
+        let frame = StoreFrame::Compare { first, second };
+        return Parsed::Frame { frame, length };
+    }
+    Parsed::Malformed
+}
+
 // The frame of some bytes.
 fn parse(f: &[u8]) -> Parsed
     ensures { λ r. ⌜ r ≡ parsed (now (f .entry)) ⌝ }
@@ -95,11 +119,7 @@ fn parse(f: &[u8]) -> Parsed
         let frame = StoreFrame::Show { client };
         return Parsed::Frame { frame, length };
     }
-    if is_frame(f, 0x40, 1) {
-        let frame = StoreFrame::Clear;
-        return Parsed::Frame { frame, length };
-    }
-    Parsed::Malformed
+    parse_later(f)
 }
 
 // Stores the bytes of a line's digits at the front of `bytes`.

@@ -1,18 +1,21 @@
 -- How the verdict follows from what scanning and searching answer.
-use mathlib.Core.Bool.{false}
-use mathlib.Core.List.{List}
-use mathlib.Core.Path.{_≡_, ap}
+use mathlib.Core.Bool.{false, not}
+use mathlib.Core.List.{List, []}
+use mathlib.Core.Path.{_≡_, sym, ap, _∙_, subst}
 use Prim.Native.Nat.{ℕ, _+_, _≤_, _<_}
 use native.Mathlib.Omega.{arith}
 use lib.Dec.{eqb, ltb}
 use lib.ListN.{length, getD}
 use borrow.Author.Tests.{ltb-false, lt-ltb, le-ltb}
-use Rattle.basics.proofs.Cases.{or-neither}
+use Rattle.basics.proofs.Cases.{or-neither, not-false}
 use Rattle.basics.specs.Lists.{counted}
-use Rattle.judge_frames.specs.Cut.{framesIn}
-use Rattle.judge_frames.proofs.Cuts.{length-framesIn}
-use Rattle.log.specs.Log.{tooLong, framesOf}
+use Rattle.judge_frames.specs.Cut.{frameIn, framesIn}
+use Rattle.judge_frames.proofs.Cuts.{length-framesIn, framesIn-at}
+use Rattle.log.specs.Log.{tooLong, framesOf, shaped, malformed, malformedAt}
+use Rattle.log.proofs.Some.{firstFrom-none}
 use Rattle.findings.specs.Findings.{findings, faultAt, lowest, judged, checked}
+use Rattle.findings.proofs.WellFormed.{frame-is}
+use Rattle.judge_findings.specs.Marks.{SmallClients, AllSmall}
 use Rattle.judge_scan.specs.Scan.{Scanning, ScannedOf}
 use Rattle.judge_scan.proofs.Scanning.{scan-start}
 use Rattle.log.specs.Some.{firstFrom}
@@ -41,6 +44,24 @@ pub checked-bad : (log bytes starts : List ℕ) (i : ℕ) → ScannedOf log byte
     → Malformed (i + 1) ≡ checked (framesOf log)
 unfolding checked
 checked-bad log bytes starts i t = rw (t .0, lt-ltb i (length (framesOf log)) (t .1))
+
+-- the clients of well-formed lines are small
+pub lines-small : (log bytes starts : List ℕ) (n : ℕ) → ScannedOf log bytes starts (Lines n)
+    → AllSmall bytes starts n
+unfolding malformed
+lines-small log bytes starts n t j l =
+    let frames = framesOf log in
+    let f = getD frames j [] in
+    let well : malformedAt frames j ≡ false =
+    firstFrom-none (length frames) 0 (malformedAt frames) j (omega arith) (omega (arith, t .1)) in
+    let is = frame-is f (not-false (shaped f) (or-neither (not (shaped f)) _ well .0)) in
+    let same : getD frames j [] ≡ frameIn bytes starts j =
+    ap (λ (fs : List (List ℕ)). getD fs j []) (sym (t .0)) ∙ framesIn-at bytes starts n j l in
+    subst SmallClients same
+    (record {
+      client = omega (arith, is .client .1);
+      receiver = λ h. omega (arith, is .hand-over h .receiver .1);
+    })
 
 -- a log within the limits can be scanned
 pub within-start : (log bytes starts : List ℕ) → tooLong log ≡ false → length bytes ≡ 16384

@@ -6,34 +6,37 @@ use mathlib.Core.Path.{_≡_, refl, sym, ap, ap₂, _∙_}
 use Prim.Native.Nat.{ℕ, _≤_, _<_}
 use native.Mathlib.Omega.{arith}
 use lib.Dec.{ltb}
-use lib.ListN.{length, getD, take}
-use lib.Seq.{length-take-le, getD-take}
-use borrow.Author.Tests.{ltb-true, lt-ltb, ne-eqb}
-use Rattle.basics.proofs.Cases.{and-left, and-right, and-both, test-ext}
+use lib.ListN.{length, getD}
+use borrow.Author.Tests.{ltb-true, ltb-false, ne-eqb}
+use Rattle.basics.proofs.Cases.{by-test, not-both, test-ext}
 use Rattle.itemset.specs.Set.{has}
+use Rattle.itemset.proofs.Laws.{has-empty}
 use Rattle.log.specs.Some.{some, someFrom}
 use Rattle.log.proofs.Some.{some-at, at-some, someFrom-at, at-someFrom, someFrom-or}
 use Rattle.log.proofs.Some.{someFrom-ext}
-use Rattle.findings.specs.Findings.{holdsAt, faultAt, isUnwritten, fractures, outdates}
+use Rattle.findings.specs.Findings.{holdsAt, faultAt, isUnwritten, fractures, owners, outdates}
+use Rattle.findings.proofs.Owners.{owners-none}
 use Rattle.log.specs.Log.{clientOf, shown, shownStamp, shownValue}
 use Rattle.judge_frames.specs.Cut.{frameIn, framesIn}
-use Rattle.judge_frames.proofs.Cuts.{length-framesIn, framesIn-at, framesIn-take}
-use Rattle.judge_findings.specs.Tests.{faultsOf}
+use Rattle.judge_frames.proofs.Cuts.{length-framesIn, framesIn-at}
+use Rattle.judge_findings.specs.Owned.{Owned}
+use Rattle.judge_findings.specs.Tests.{missesAt, faultsOf}
 use Rattle.judge.specs.Search.{findingOf}
 
 module _ (bytes starts : List ℕ) where
-  -- line `write` has line `line` at fault at the item
-  unfoldable pub writeFault : ℕ → ℕ → ℕ → Bool
-  writeFault line item write =
+  -- line `write`, of n, has line `line` at fault at the item
+  unfoldable pub writeFault : ℕ → ℕ → ℕ → ℕ → Bool
+  writeFault n line item write =
       let r = frameIn bytes starts line in
-      faultsOf r (clientOf r) item (shownStamp r item) (frameIn bytes starts write) (ltb write line)
+      faultsOf r (owners (framesIn bytes starts n) write line) (clientOf r) item
+      (shownStamp r item) (frameIn bytes starts write)
 
   -- line `line`, of n, shows the item and is at fault there
   unfoldable pub itemFault : ℕ → ℕ → ℕ → Bool
   itemFault n line item =
       let r = frameIn bytes starts line in
       has (shown r) item && (isUnwritten (framesIn bytes starts n) item (shownStamp r item)
-      (shownValue r item) || someFrom n 0 (writeFault line item))
+      (shownValue r item) || someFrom n 0 (writeFault n line item))
 
 and-ors : (p a b d : Bool) → (p && (a || (b || d))) ≡ ((p && a) || ((p && b) || (p && d)))
 and-ors true a b d = refl
@@ -53,36 +56,20 @@ anywhere p frames =
     at-someFrom (length frames) 0 (λ j. p (getD frames j [])) (f .0) (omega arith)
     (omega (arith, f .1)) (f .2)))
 
-above : (q : List ℕ → Bool) (frames : List (List ℕ)) (line : ℕ) → line ≤ length frames
-    → someFrom (length frames) 0 (λ j. ltb j line && q (getD frames j [])) ≡ some q
-    (take line frames)
-above q frames line l =
-    let size = length-take-le line frames l in
-    test-ext (someFrom (length frames) 0 (λ j. ltb j line && q (getD frames j [])))
-    (some q (take line frames))
+-- a test that no line from `line` on passes
+above : (q : ℕ → Bool) (n line : ℕ) → line ≤ n → ((j : ℕ) → line ≤ j → q j ≡ false)
+    → someFrom n 0 q ≡ someFrom line 0 q
+above q n line l none =
+    test-ext (someFrom n 0 q) (someFrom line 0 q)
     (λ e.
-    let f = someFrom-at (length frames) 0 (λ j. ltb j line && q (getD frames j [])) e in
-    let low = ltb-true (f .0) line
-    (and-left (ltb (f .0) line) (q (getD frames (f .0) [])) (f .3)) in
-    at-some q (take line frames) [] (f .0) (omega arith)
-    (ap q (getD-take line frames (f .0) [] low)
-    ∙ and-right (ltb (f .0) line) (q (getD frames (f .0) [])) (f .3)))
-    (λ e.
-    let f = some-at q (take line frames) [] e in
-    let low : f .0 < line = omega (arith, f .1) in
-    at-someFrom (length frames) 0 (λ j. ltb j line && q (getD frames j [])) (f .0) (omega arith)
-    (omega arith)
-    (and-both (ltb (f .0) line) (q (getD frames (f .0) [])) (lt-ltb (f .0) line low)
-    (ap q (sym (getD-take line frames (f .0) [] low)) ∙ f .2)))
-
--- over the writes: any of them, and those above
-pub writes-search : (p q : List ℕ → Bool) (frames : List (List ℕ)) (line : ℕ) → line ≤ length frames
-    → someFrom (length frames) 0 (λ j. p (getD frames j []) || (ltb j line && q (getD frames j [])))
-    ≡ (some p frames || some q (take line frames))
-writes-search p q frames line l =
-    let n = length frames in
-    someFrom-or n 0 (λ j. p (getD frames j [])) (λ j. ltb j line && q (getD frames j []))
-    ∙ ap₂ _||_ (anywhere p frames) (above q frames line l)
+    let f = someFrom-at n 0 q e in
+    at-someFrom line 0 q (f .0) (omega arith)
+    (by-test (ltb (f .0) line)
+    (λ t. omega (arith, ltb-true (f .0) line t))
+    (λ t. not-both (f .3) (none (f .0) (ltb-false (f .0) line t))))
+    (f .3))
+    (λ e. (let f = someFrom-at line 0 q e in
+    at-someFrom n 0 q (f .0) (omega arith) (omega (arith, f .2)) (f .3)))
 
 -- over the items: each of the three findings
 pub items-search : (p a b d : ℕ → Bool)
@@ -100,39 +87,52 @@ items-search p a b d =
     (someFrom 64 0 (λ k. p k && d k))
 
 -- line i as it stands in the bytes is line i of the frames
-pub fault-search : (bytes starts : List ℕ) (n line : ℕ) → line < n
-    → someFrom 64 0 (itemFault bytes starts n line) ≡ faultAt (framesIn bytes starts n) line
-unfolding itemFault writeFault faultsOf some holdsAt
-fault-search bytes starts n line h =
-    let frames = framesIn bytes starts n in
-    let size = length-framesIn bytes starts n in
-    let r = frameIn bytes starts line in
-    let here : getD frames line [] ≡ r = framesIn-at bytes starts n line h in
-    let writes : (item : ℕ) → someFrom n 0
-    (writeFault bytes starts line item)
-    ≡ (some (fractures r item (shownStamp r item)) frames
-    || some (outdates (clientOf r) item (shownStamp r item)) (take line frames)) =
-    λ item.
-    (someFrom-ext n 0 (writeFault bytes starts line item)
-    (λ j. fractures r item (shownStamp r item) (getD frames j [])
-    || (ltb j line && outdates (clientOf r) item (shownStamp r item) (getD frames j [])))
-    (λ j _ g. rw (framesIn-at bytes starts n j (omega arith)))
-    ∙ ap (λ (m : ℕ). someFrom m 0 (λ j. fractures r item (shownStamp r item) (getD frames j [])
-    || (ltb j line && outdates (clientOf r) item (shownStamp r item) (getD frames j []))))
-    (sym size)
-    ∙ writes-search (fractures r item (shownStamp r item))
-    (outdates (clientOf r) item (shownStamp r item)) frames line (omega arith)) in
-    someFrom-ext 64 0 (itemFault bytes starts n line)
-    (λ item. has (shown r) item && (isUnwritten frames item (shownStamp r item) (shownValue r item)
-    || (some (fractures r item (shownStamp r item)) frames
-    || some (outdates (clientOf r) item (shownStamp r item)) (take line frames))))
-    (λ item _ _. ap (λ (x : Bool). has (shown r) item
-    && (isUnwritten frames item (shownStamp r item) (shownValue r item) || x)) (writes item))
-    ∙ items-search (has (shown r))
-    (λ item. isUnwritten frames item (shownStamp r item) (shownValue r item))
-    (λ item. some (fractures r item (shownStamp r item)) frames)
-    (λ item. some (outdates (clientOf r) item (shownStamp r item)) (take line frames))
-    ∙ rw here
+module _ (bytes starts : List ℕ) (n line : ℕ) (h : line < n) where
+  abbrev frames : List (List ℕ)
+  frames = framesIn bytes starts n
+
+  abbrev r : List ℕ
+  r = frameIn bytes starts line
+
+  abbrev fractured : ℕ → ℕ → Bool
+  fractured item j = fractures r item (shownStamp r item) (getD frames j [])
+
+  abbrev missed : ℕ → ℕ → Bool
+  missed item j =
+      has (owners frames j line) (clientOf r)
+      && outdates item (shownStamp r item) (getD frames j [])
+
+  -- over the writes: any of them, and the client's own
+  writes-search : (item : ℕ) → someFrom n 0 (writeFault bytes starts n line item)
+      ≡ (some (fractures r item (shownStamp r item)) frames || someFrom line 0 (missed item))
+  unfolding writeFault faultsOf missesAt
+  writes-search item =
+      someFrom-ext n 0 (writeFault bytes starts n line item)
+      (λ j. fractured item j || missed item j)
+      (λ j _ g. rw (framesIn-at bytes starts n j (omega arith)))
+      ∙ someFrom-or n 0 (fractured item) (missed item)
+      ∙ ap₂ _||_
+      (ap (λ (m : ℕ). someFrom m 0 (fractured item)) (sym (length-framesIn bytes starts n))
+      ∙ anywhere (fractures r item (shownStamp r item)) frames)
+      (above (missed item) n line (omega arith)
+      (λ j l. rw (owners-none frames j line l, has-empty (clientOf r))))
+
+  pub fault-search : someFrom 64 0 (itemFault bytes starts n line) ≡ faultAt frames line
+  unfolding itemFault some holdsAt
+  fault-search =
+      let here : getD frames line [] ≡ r = framesIn-at bytes starts n line h in
+      someFrom-ext 64 0 (itemFault bytes starts n line)
+      (λ item. has (shown r) item
+      && (isUnwritten frames item (shownStamp r item) (shownValue r item)
+      || (some (fractures r item (shownStamp r item)) frames || someFrom line 0 (missed item))))
+      (λ item _ _. ap (λ (x : Bool). has (shown r) item
+      && (isUnwritten frames item (shownStamp r item) (shownValue r item) || x))
+      (writes-search item))
+      ∙ items-search (has (shown r))
+      (λ item. isUnwritten frames item (shownStamp r item) (shownValue r item))
+      (λ item. some (fractures r item (shownStamp r item)) frames)
+      (λ item. someFrom line 0 (missed item))
+      ∙ rw here
 
 -- ---- one turn of the search
 
@@ -159,15 +159,16 @@ module _ (bytes starts : List ℕ) (n line item : ℕ) (r : List ℕ)
       → is ≡ has items item → is ≡ true
       → stamp ≡ shownStamp r item → value ≡ shownValue r item
       → (un : Bool) → un ≡ isUnwritten (framesIn bytes starts n) item stamp value → un ≡ false
-      → itemFault bytes starts n line item ≡ someFrom n 0 (writeFault bytes starts line item)
+      → itemFault bytes starts n line item ≡ someFrom n 0 (writeFault bytes starts n line item)
   unfolding itemFault
   item-writes items stamp value e is h f s v un u t = rw (← here, ← e, ← h, f, ← s, ← v, ← u, t)
 
-  pub write-fault : (of stamp write : ℕ) (w : List ℕ) → of ≡ clientOf r → stamp ≡ shownStamp r item
-      → w ≡ frameIn bytes starts write
-      → writeFault bytes starts line item write ≡ faultsOf r of item stamp w (ltb write line)
+  pub write-fault : (own of stamp write : ℕ) (w : List ℕ)
+      → own ≡ owners (framesIn bytes starts n) write line → of ≡ clientOf r
+      → stamp ≡ shownStamp r item → w ≡ frameIn bytes starts write
+      → writeFault bytes starts n line item write ≡ faultsOf r own of item stamp w
   unfolding writeFault
-  write-fault of stamp write w o s e = rw (← here, ← o, ← s, ← e)
+  write-fault own of stamp write w o c s e = rw (← here, ← o, ← c, ← s, ← e)
 
 -- ---- the lowest finding at a line
 
@@ -187,20 +188,21 @@ module _ (bytes starts : List ℕ) (n line item : ℕ) (r : List ℕ) (h : line 
       → stamp ≡ shownStamp r item → b ≡ findingOf f (framesIn bytes starts n) line item
   finding-two b stamp t e s = t ∙ rw (e, frame-at, s)
 
-  pub finding-three : (b : Bool) (of stamp : ℕ)
-      → b ≡ some (outdates of item stamp) (framesIn bytes starts line) → (f ≡ 1 → ⊥)
-      → (f ≡ 2 → ⊥) → of ≡ clientOf r → stamp ≡ shownStamp r item
-      → b ≡ findingOf f (framesIn bytes starts n) line item
-  finding-three b of stamp t one two o s =
-      t ∙ rw (
-        ne-eqb f 1 one,
-        ne-eqb f 2 two,
-        frame-at,
-        framesIn-take bytes starts n line
-            (omega arith),
-        o,
-        s,
-      )
+  pub finding-three : (b : Bool) (table : List ℕ) (of stamp : ℕ)
+      → b ≡ someFrom line 0 (λ j. missesAt (getD table j 0) of item stamp (frameIn bytes starts j))
+      → Owned bytes starts n line table → (f ≡ 1 → ⊥) → (f ≡ 2 → ⊥) → of ≡ clientOf r
+      → stamp ≡ shownStamp r item → b ≡ findingOf f (framesIn bytes starts n) line item
+  unfolding missesAt
+  finding-three b table of stamp t owned one two o s =
+      t ∙ rw (ne-eqb f 1 one, ne-eqb f 2 two, frame-at, ← o, ← s)
+      (someFrom-ext line 0
+      (λ j. missesAt (getD table j 0) of item stamp (frameIn bytes starts j))
+      (λ j. has (owners (framesIn bytes starts n) j line) of
+      && outdates item stamp (getD (framesIn bytes starts n) j []))
+      (λ j _ l. rw (
+        owned .held j (omega arith),
+        framesIn-at bytes starts n j (omega arith),
+      )))
 
 -- line i shows an item at which the finding holds
 pub holds-search : (bytes starts : List ℕ) (n line f items : ℕ) → line < n

@@ -16,7 +16,7 @@ ghost use mathlib.Core.Bool.{false};
 ghost use Rattle.log.specs.Log.{tooLong, framesOf};
 ghost use Rattle.judge_scan.specs.Scan.{Scanning};
 ghost use Rattle.findings.specs.Findings.{judged, checked, verdict, numberOf};
-ghost use Rattle.judge_findings.specs.Marks.{Table};
+ghost use Rattle.judge_findings.specs.Marks.{AllSmall, Table};
 ghost use Rattle.findings.specs.Published.{Says};
 
 // Well-formed frames, marked: the first line at fault and there the lowest finding.
@@ -24,10 +24,11 @@ fn judge_marked(bytes: &[u8], starts: &[usize], marks: &[u64], n: usize) -> Verd
     requires { ⌜ Table (now bytes) (now starts) n (now marks) ⌝ }
     ensures { λ r. ⌜ r ≡ judged (framesIn (now (bytes .entry)) (now (starts .entry)) n) ⌝ }
 {
-    let line = first_fault(bytes, starts, marks, n);
+    let mut owners = [0u64; 256];
+    let line = first_fault(bytes, starts, marks, &mut owners, n);
     if line < n {
         Verdict::Judged {
-            finding: lowest(bytes, starts, marks, n, line),
+            finding: lowest(bytes, starts, marks, &owners, n, line),
             line: (line + 1) as u16,
         }
     } else {
@@ -40,7 +41,7 @@ fn judge_marked(bytes: &[u8], starts: &[usize], marks: &[u64], n: usize) -> Verd
 
 // Well-formed frames.
 fn judge_lines(bytes: &[u8], starts: &[usize], n: usize) -> Verdict
-    requires { ⌜ n ≤ 256 ⌝ }
+    requires { ⌜ (n ≤ 256) × AllSmall (now bytes) (now starts) n ⌝ }
     ensures { λ r. ⌜ r ≡ judged (framesIn (now (bytes .entry)) (now (starts .entry)) n) ⌝ }
 {
     let mut marks = [0u64; 256];

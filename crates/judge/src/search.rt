@@ -3,6 +3,7 @@ use judge_findings::faults::faults_at;
 use judge_findings::faults::is_fractured;
 use judge_findings::faults::is_missed;
 use judge_findings::faults::is_unwritten;
+use judge_findings::owners::pass_line;
 use judge_frames::cut::frame;
 use judge_frames::fields::client;
 use judge_frames::fields::shown;
@@ -13,14 +14,25 @@ ghost use Prim.Native.Nat.{_<_};
 ghost use Rattle.judge_frames.specs.Cut.{framesIn};
 ghost use Rattle.findings.specs.Findings.{findings, holdsAt, lowest as lowestOf, faultAt};
 ghost use Rattle.judge_findings.specs.Marks.{Table};
+ghost use Rattle.judge_findings.specs.Owned.{Owned};
 ghost use Rattle.judge.specs.Search.{findingOf};
 ghost use Rattle.log.specs.Some.{firstFrom};
 
-// The first line at fault, counted from 0; `n` where there is none.
-pub fn first_fault(bytes: &[u8], starts: &[usize], marks: &[u64], n: usize) -> usize
-    requires { ⌜ Table (now bytes) (now starts) n (now marks) ⌝ }
+// The first line at fault, counted from 0; `n` where there is none. The owners are then those at
+// that line.
+pub fn first_fault(
+    bytes: &[u8],
+    starts: &[usize],
+    marks: &[u64],
+    owners: &mut [u64],
+    n: usize,
+) -> usize
+    requires { ⌜ Table (now bytes) (now starts) n (now marks)
+        × Owned (now bytes) (now starts) n 0 (now owners) ⌝ }
     ensures { λ r. ⌜ r ≡ firstFrom n 0 (faultAt
         (framesIn (now (bytes .entry)) (now (starts .entry)) n)) ⌝ }
+    ensures { λ r. ⌜ Owned (now (bytes .entry)) (now (starts .entry)) n r
+        (now (owners .exit)) ⌝ }
 {
     let mut found = n;
     let mut i = 0;
@@ -45,7 +57,7 @@ pub fn first_fault(bytes: &[u8], starts: &[usize], marks: &[u64], n: usize) -> u
                 'writes: while j < n {
                     let write = j;
                     j += 1;
-                    if faults_at(bytes, starts, marks, write, line, r, of, item, stamp) {
+                    if faults_at(bytes, starts, marks, owners, write, r, of, item, stamp) {
                         found = line;
                         break 'lines;
                     }
@@ -54,6 +66,7 @@ pub fn first_fault(bytes: &[u8], starts: &[usize], marks: &[u64], n: usize) -> u
                 continue 'shown;
             }
         }
+        pass_line(owners, line, r);
     }
     found
 }
@@ -64,11 +77,13 @@ fn holds(
     bytes: &[u8],
     starts: &[usize],
     marks: &[u64],
+    owners: &[u64],
     n: usize,
     line: usize,
     item: u64,
 ) -> bool
-    requires { ⌜ Table (now bytes) (now starts) n (now marks) × (line < n) ⌝ }
+    requires { ⌜ Table (now bytes) (now starts) n (now marks)
+        × Owned (now bytes) (now starts) n line (now owners) × (line < n) ⌝ }
     ensures { λ b. ⌜ b ≡ findingOf finding (framesIn (now (bytes .entry)) (now (starts .entry)) n)
         line item ⌝ }
 {
@@ -80,7 +95,7 @@ fn holds(
     if finding == 2 {
         return is_fractured(bytes, starts, n, r, item, stamp);
     }
-    is_missed(bytes, starts, line, client(r), item, stamp)
+    is_missed(bytes, starts, owners, line, client(r), item, stamp)
 }
 
 // Line `line` shows an item at which the finding holds.
@@ -89,17 +104,19 @@ fn holds_at(
     bytes: &[u8],
     starts: &[usize],
     marks: &[u64],
+    owners: &[u64],
     n: usize,
     line: usize,
 ) -> bool
-    requires { ⌜ Table (now bytes) (now starts) n (now marks) × (line < n) ⌝ }
+    requires { ⌜ Table (now bytes) (now starts) n (now marks)
+        × Owned (now bytes) (now starts) n line (now owners) × (line < n) ⌝ }
     ensures { λ b. ⌜ b ≡ holdsAt (findingOf finding)
         (framesIn (now (bytes .entry)) (now (starts .entry)) n) line ⌝ }
 {
     let items = shown(frame(bytes, starts, line));
     let mut k = 0;
     while k < 64 {
-        if itemset::has(items, k) & holds(finding, bytes, starts, marks, n, line, k) {
+        if itemset::has(items, k) & holds(finding, bytes, starts, marks, owners, n, line, k) {
             return true;
         }
         k += 1;
@@ -108,18 +125,26 @@ fn holds_at(
 }
 
 // The lowest finding at line `line`; 0 where none holds.
-pub fn lowest(bytes: &[u8], starts: &[usize], marks: &[u64], n: usize, line: usize) -> u8
-    requires { ⌜ Table (now bytes) (now starts) n (now marks) × (line < n) ⌝ }
+pub fn lowest(
+    bytes: &[u8],
+    starts: &[usize],
+    marks: &[u64],
+    owners: &[u64],
+    n: usize,
+    line: usize,
+) -> u8
+    requires { ⌜ Table (now bytes) (now starts) n (now marks)
+        × Owned (now bytes) (now starts) n line (now owners) × (line < n) ⌝ }
     ensures { λ r. ⌜ r ≡ lowestOf findings (framesIn (now (bytes .entry))
         (now (starts .entry)) n) line ⌝ }
 {
-    if holds_at(1, bytes, starts, marks, n, line) {
+    if holds_at(1, bytes, starts, marks, owners, n, line) {
         return 1;
     }
-    if holds_at(2, bytes, starts, marks, n, line) {
+    if holds_at(2, bytes, starts, marks, owners, n, line) {
         return 2;
     }
-    if holds_at(3, bytes, starts, marks, n, line) {
+    if holds_at(3, bytes, starts, marks, owners, n, line) {
         return 3;
     }
     0

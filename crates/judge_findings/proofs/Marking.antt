@@ -1,31 +1,23 @@
 -- What a line's mark rules out, and one more mark.
-use mathlib.Core.Bool.{Bool, true, false, _&&_, _||_}
+use mathlib.Core.Bool.{Bool, true, false, and-false, or-false}
 use mathlib.Core.List.{List}
-use mathlib.Core.Path.{_≡_, refl, sym, ap, _∙_}
+use mathlib.Core.Path.{_≡_, sym, ap, _∙_}
 use Prim.Native.Nat.{ℕ, _+_, _≤_, _<_}
 use native.Mathlib.Omega.{arith}
-use lib.Dec.{eqb, ltb}
+use lib.Dec.{eqb}
 use lib.ListN.{length, getD, set}
 use lib.Seq.{getD-set-same, getD-set-other}
-use borrow.Author.Tests.{eqb-true, eqb-false, ne-eqb, ltb-false, le-ltb}
+use borrow.Author.Tests.{eqb-true, eqb-false, ne-eqb, le-ltb}
 use Rattle.basics.proofs.Cases.{by-test}
 use Rattle.itemset.specs.Set.{has}
 use Rattle.itemset.proofs.Laws.{has-empty}
 use Rattle.judge_frames.specs.Cut.{frameIn}
-use Rattle.log.specs.Log.{clientOf, written, writtenStamp}
+use Rattle.log.specs.Log.{written, writtenStamp}
 use Rattle.findings.specs.Findings.{wrote, fractures, outdates}
-use Rattle.judge_findings.specs.Tests.{faultsOf}
+use Rattle.judge_findings.specs.Tests.{missesAt, faultsOf}
 use Rattle.judge_findings.specs.Marks.{markOf, Marked}
 
 -- ---- what a mark rules out
-
-and-false : (a : Bool) → (a && false) ≡ false
-and-false true = refl
-and-false false = refl
-
-or-none : (a : Bool) → (a || false) ≡ a
-or-none true = refl
-or-none false = refl
 
 not-written : (w : List ℕ) (item : ℕ) → eqb (written w) 0 ≡ true → has (written w) item ≡ false
 not-written w item e = rw (eqb-true (written w) 0 e) (has-empty item)
@@ -45,39 +37,35 @@ module _ (w : List ℕ) (item stamp : ℕ) where
       (λ t. rw (not-written w item t) (and-false (eqb (writtenStamp w) stamp)))
       (λ t. rw (ne-eqb (writtenStamp w) stamp (λ z. h (rw t z))))
 
-  pub mark-outdates : (of : ℕ) → markOf w ≤ stamp → outdates of item stamp w ≡ false
+  mark-outdates : markOf w ≤ stamp → outdates item stamp w ≡ false
   unfolding markOf outdates
-  mark-outdates of h =
+  mark-outdates h =
       by-test (eqb (written w) 0)
-      (λ t. rw (not-written w item t) (and-false (eqb (clientOf w) of)))
-      (λ t. rw (le-ltb stamp (writtenStamp w) (rw t at h), and-false (has (written w) item))
-      (and-false (eqb (clientOf w) of)))
+      (λ t. rw (not-written w item t))
+      (λ t. rw (le-ltb stamp (writtenStamp w) (rw t at h)) (and-false (has (written w) item)))
 
-  module _ (r : List ℕ) (of : ℕ) (above : Bool) where
-    pub faults-equal : markOf w ≡ stamp
-        → fractures r item stamp w ≡ faultsOf r of item stamp w above
-    unfolding faultsOf
-    faults-equal e =
-        rw (mark-outdates of (omega arith), and-false above)
-        (sym (or-none (fractures r item stamp w)))
+  module _ (owners of : ℕ) where
+    mark-misses : markOf w ≤ stamp → missesAt owners of item stamp w ≡ false
+    unfolding missesAt
+    mark-misses h = rw (mark-outdates h) (and-false (has owners of))
 
-    pub faults-later : (markOf w ≡ stamp → ⊥) → above ≡ true
-        → outdates of item stamp w ≡ faultsOf r of item stamp w above
-    unfolding faultsOf
-    faults-later h e = rw (mark-fractures r h, e)
+    module _ (r : List ℕ) where
+      pub faults-equal : markOf w ≡ stamp
+          → fractures r item stamp w ≡ faultsOf r owners of item stamp w
+      unfolding faultsOf
+      faults-equal e =
+          rw (mark-misses (omega arith)) (sym (or-false (fractures r item stamp w)))
 
-    pub faults-none : (mark : ℕ) → mark ≡ markOf w → (mark ≡ stamp → ⊥)
-        → (ltb stamp mark && above) ≡ false → false ≡ faultsOf r of item stamp w above
-    unfolding faultsOf
-    faults-none mark m h e =
-        let differ : markOf w ≡ stamp → ⊥ = λ z. h (m ∙ z) in
-        by-test (ltb stamp mark)
-        (λ t.
-        let below : above ≡ false = rw t at e in
-        rw (mark-fractures r differ, below))
-        (λ t.
-        let low : markOf w ≤ stamp = omega (arith, ltb-false stamp mark t) in
-        rw (mark-fractures r differ, mark-outdates of low, and-false above))
+      pub faults-later : (b : Bool) → b ≡ missesAt owners of item stamp w
+          → (markOf w ≡ stamp → ⊥) → b ≡ faultsOf r owners of item stamp w
+      unfolding faultsOf
+      faults-later b e h = rw (mark-fractures r h) e
+
+      pub faults-none : (mark : ℕ) → mark ≡ markOf w → (mark ≡ stamp → ⊥) → mark ≤ stamp
+          → false ≡ faultsOf r owners of item stamp w
+      unfolding faultsOf
+      faults-none mark m h l =
+          rw (mark-fractures r (λ z. h (m ∙ z)), mark-misses (omega arith))
 
 -- ---- one more mark
 

@@ -12,6 +12,11 @@ unfoldable pub behindAt : List ℕ → ℕ → ℕ → ℕ → ℕ → Bool
 behindAt r items wrote stamp item =
     has items item && (has wrote item && ltb (shownStamp r item) stamp)
 
--- w, above the read r or not, has it at fault at the item
-unfoldable pub faultsOf : List ℕ → ℕ → ℕ → ℕ → List ℕ → Bool → Bool
-faultsOf r of item stamp w above = fractures r item stamp w || (above && outdates of item stamp w)
+-- the client is one of w's owners, and w wrote the item with a later stamp
+unfoldable pub missesAt : ℕ → ℕ → ℕ → ℕ → List ℕ → Bool
+missesAt owners of item stamp w = has owners of && outdates item stamp w
+
+-- w has the client's read r at fault at the item
+unfoldable pub faultsOf : List ℕ → ℕ → ℕ → ℕ → ℕ → List ℕ → Bool
+faultsOf r owners of item stamp w =
+    fractures r item stamp w || missesAt owners of item stamp w

@@ -1,7 +1,6 @@
 // The three findings at one item that a read shows, each a search over the writes of the log
 // (document 01: findings).
 use judge_frames::cut::frame;
-use judge_frames::fields::client;
 use judge_frames::fields::shown;
 use judge_frames::fields::shown_stamp;
 use judge_frames::fields::written;
@@ -9,15 +8,14 @@ use judge_frames::fields::written_stamp;
 use judge_frames::fields::written_value;
 ghost use mathlib.Core.Path.{_≡_};
 ghost use Prim.Native.Nat.{_≤_, _<_};
-ghost use lib.Dec.{ltb};
 ghost use lib.ListN.{length, getD};
 ghost use Rattle.itemset.specs.Set.{has};
 ghost use Rattle.judge_frames.specs.Cut.{frameIn, framesIn};
 ghost use Rattle.findings.specs.Findings.{wrote as wroteBy, isUnwritten, behind as isBehind};
 ghost use Rattle.findings.specs.Findings.{fractures as fracturesAt, outdates as outdatesAt};
 ghost use Rattle.judge_findings.specs.Marks.{markOf, Table};
-ghost use Rattle.judge_findings.specs.Tests.{behindAt, faultsOf};
-ghost use Rattle.log.specs.Some.{some};
+ghost use Rattle.judge_findings.specs.Tests.{behindAt, missesAt, faultsOf};
+ghost use Rattle.log.specs.Some.{some, someFrom};
 
 // `w` wrote the item with that stamp and value.
 fn wrote(w: &[u8], item: u64, stamp: u64, value: u64) -> bool
@@ -139,41 +137,58 @@ pub fn fractures(r: &[u8], item: u64, stamp: u64, w: &[u8]) -> bool
     }
 }
 
-// `w`, of that client, wrote the item with a later stamp.
-pub fn outdates(w: &[u8], of: u64, item: u64, stamp: u64) -> bool
-    ensures { λ r. ⌜ r ≡ outdatesAt of item stamp (now (w .entry)) ⌝ }
+// `w` wrote the item with a later stamp.
+fn outdates(w: &[u8], item: u64, stamp: u64) -> bool
+    ensures { λ r. ⌜ r ≡ outdatesAt item stamp (now (w .entry)) ⌝ }
 {
-    if client(w) == of {
-        itemset::has(written(w), item) & (stamp < written_stamp(w))
+    itemset::has(written(w), item) & (stamp < written_stamp(w))
+}
+
+// Line `write` counts as that client's own, and wrote the item with a later stamp.
+fn misses_at(
+    bytes: &[u8],
+    starts: &[usize],
+    owners: &[u64],
+    write: usize,
+    of: u64,
+    item: u64,
+    stamp: u64,
+) -> bool
+    requires { ⌜ (write ≤ 65536) × (write < length (now owners)) ⌝ }
+    ensures { λ b. ⌜ b ≡ missesAt (getD (now (owners .entry)) write 0) of item stamp
+        (frameIn (now (bytes .entry)) (now (starts .entry)) write) ⌝ }
+{
+    if itemset::has(owners[write], of) {
+        outdates(frame(bytes, starts, write), item, stamp)
     } else {
         false
     }
 }
 
-// Line `write` has the read `r`, line `line`, at fault at the item: fractured, or its own write
+// Line `write` has the read `r` of that client at fault at the item: fractured, or an own write
 // missed.
 pub fn faults_at(
     bytes: &[u8],
     starts: &[usize],
     marks: &[u64],
+    owners: &[u64],
     write: usize,
-    line: usize,
     r: &[u8],
     of: u64,
     item: u64,
     stamp: u64,
 ) -> bool
-    requires { ⌜ (write ≤ 65536) × (write < length (now marks))
+    requires { ⌜ (write ≤ 65536) × (write < length (now marks)) × (write < length (now owners))
         × (getD (now marks) write 0 ≡ markOf (frameIn (now bytes) (now starts) write)) ⌝ }
-    ensures { λ b. ⌜ b ≡ faultsOf (now (r .entry)) of item stamp
-        (frameIn (now (bytes .entry)) (now (starts .entry)) write) (ltb write line) ⌝ }
+    ensures { λ b. ⌜ b ≡ faultsOf (now (r .entry)) (getD (now (owners .entry)) write 0) of item
+        stamp (frameIn (now (bytes .entry)) (now (starts .entry)) write) ⌝ }
 {
     let mark = marks[write];
     if mark == stamp {
         return fractures(r, item, stamp, frame(bytes, starts, write));
     }
-    if (stamp < mark) & (write < line) {
-        outdates(frame(bytes, starts, write), of, item, stamp)
+    if stamp < mark {
+        misses_at(bytes, starts, owners, write, of, item, stamp)
     } else {
         false
     }
@@ -202,15 +217,23 @@ pub fn is_fractured(
     false
 }
 
-// Finding 3, at an item shown with that stamp to that client, of the first `n` lines, those above.
-pub fn is_missed(bytes: &[u8], starts: &[usize], n: usize, of: u64, item: u64, stamp: u64) -> bool
-    requires { ⌜ n ≤ 65536 ⌝ }
-    ensures { λ b. ⌜ b ≡ some (outdatesAt of item stamp)
-        (framesIn (now (bytes .entry)) (now (starts .entry)) n) ⌝ }
+// Finding 3, at an item shown with that stamp to that client, by the first `n` lines, those above.
+pub fn is_missed(
+    bytes: &[u8],
+    starts: &[usize],
+    owners: &[u64],
+    n: usize,
+    of: u64,
+    item: u64,
+    stamp: u64,
+) -> bool
+    requires { ⌜ (n ≤ 65536) × (n ≤ length (now owners)) ⌝ }
+    ensures { λ b. ⌜ b ≡ someFrom n 0 (λ j. missesAt (getD (now (owners .entry)) j 0) of item stamp
+        (frameIn (now (bytes .entry)) (now (starts .entry)) j)) ⌝ }
 {
     let mut j = 0;
     while j < n {
-        if outdates(frame(bytes, starts, j), of, item, stamp) {
+        if misses_at(bytes, starts, owners, j, of, item, stamp) {
             return true;
         }
         j += 1;

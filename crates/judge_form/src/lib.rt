@@ -2,8 +2,10 @@
 use judge_frames::fields::byte;
 use judge_frames::fields::client;
 use judge_frames::fields::frame_end;
+use judge_frames::fields::hands_over;
 use judge_frames::fields::has_read;
 use judge_frames::fields::has_write;
+use judge_frames::fields::receiver;
 use judge_frames::fields::shown;
 use judge_frames::fields::shown_count;
 use judge_frames::fields::word;
@@ -12,7 +14,8 @@ use judge_frames::fields::written;
 ghost use mathlib.Core.Path.{_≡_};
 ghost use Prim.Native.Nat.{_≤_};
 ghost use Rattle.log.specs.Log.{isClient, isWhole, entryNumber, entryWriter, entriesWhole};
-ghost use Rattle.log.specs.Log.{readShaped, writeShaped, shaped as shapedAs, reaches as reachesOf};
+ghost use Rattle.log.specs.Log.{readShaped, writeShaped, handOverShaped, shaped as shapedAs};
+ghost use Rattle.log.specs.Log.{reaches as reachesOf};
 ghost use Rattle.judge_form.specs.Parsed.{parsed};
 
 // What a line's frame parses to.
@@ -84,13 +87,26 @@ fn write_shaped(f: &[u8]) -> bool
     }
 }
 
+// The receiver of a hand-over: a client, and not the giver.
+fn hand_over_shaped(f: &[u8]) -> bool
+    ensures { λ r. ⌜ r ≡ handOverShaped (now (f .entry)) ⌝ }
+{
+    if hands_over(f) {
+        let to = receiver(f);
+        is_client(to) & (to != client(f))
+    } else {
+        true
+    }
+}
+
 // A log frame: its kind, its client, its parts, and nothing behind them.
 fn shaped(f: &[u8]) -> bool
     ensures { λ r. ⌜ r ≡ shapedAs (now (f .entry)) ⌝ }
 {
     let end = frame_end(f);
-    (has_read(f) | has_write(f))
-        & (is_client(client(f)) & ((f.len() == end) & (read_shaped(f) & write_shaped(f))))
+    (has_read(f) | (has_write(f) | hands_over(f)))
+        & (is_client(client(f))
+            & ((f.len() == end) & (read_shaped(f) & (write_shaped(f) & hand_over_shaped(f)))))
 }
 
 pub fn parse(f: &[u8]) -> Parsed

@@ -5,8 +5,8 @@ ghost use Prim.Native.Nat.{_≤_, _<_};
 ghost use lib.ListN.{getD};
 ghost use Rattle.hex.specs.Number.{numberAt};
 ghost use Rattle.itemset.specs.Set.{rank};
-ghost use Rattle.log.specs.Log.{kindOf, clientOf, count64, hasRead, hasWrite, shownStamp};
-ghost use Rattle.log.specs.Log.{shownValue, writeAt, numberOf};
+ghost use Rattle.log.specs.Log.{kindOf, clientOf, count64, hasRead, hasWrite, handsOver};
+ghost use Rattle.log.specs.Log.{receiverOf, shownStamp, shownValue, writeAt, numberOf};
 ghost use Rattle.log.specs.Log.{writtenStamp, writtenValue, endOf, written as writtenItems};
 ghost use Rattle.log.specs.Log.{shown as shownItems};
 
@@ -41,7 +41,7 @@ pub fn word(f: &[u8], at: usize) -> u64
     number(f, at, 4)
 }
 
-// The client (desk) whose frame it is.
+// The client (desk) whose frame it is; of a hand-over the giver.
 pub fn client(f: &[u8]) -> u64
     ensures { λ r. ⌜ r ≡ clientOf (now (f .entry)) ⌝ }
     ensures { λ r. ⌜ r < 256 ⌝ }
@@ -61,6 +61,21 @@ pub fn has_write(f: &[u8]) -> bool
     ensures { λ r. ⌜ r ≡ hasWrite (kindOf (now (f .entry))) ⌝ }
 {
     byte(f, 0) == 0x20
+}
+
+// Whether the frame is a hand-over.
+pub fn hands_over(f: &[u8]) -> bool
+    ensures { λ r. ⌜ r ≡ handsOver (kindOf (now (f .entry))) ⌝ }
+{
+    byte(f, 0) == 0x22
+}
+
+// The client to whom a hand-over gives.
+pub fn receiver(f: &[u8]) -> u64
+    ensures { λ r. ⌜ r ≡ receiverOf (now (f .entry)) ⌝ }
+    ensures { λ r. ⌜ r < 256 ⌝ }
+{
+    byte(f, 2)
 }
 
 // The items that the frame shows; none without a read part.
@@ -170,6 +185,9 @@ pub fn written_value(f: &[u8], item: u64) -> u64
 pub fn frame_end(f: &[u8]) -> usize
     ensures { λ r. ⌜ r ≡ endOf (now (f .entry)) ⌝ }
 {
+    if hands_over(f) {
+        return 3;
+    }
     if has_write(f) {
         write_at(f) + 12 + 4 * written_count(f)
     } else {

@@ -22,7 +22,7 @@ use Rattle.gather.specs.Sized.{sizes}
 use Rattle.block_calls.specs.Calls.{freshRefusalOn, freshAnswerOn, freshAfter, refusalOn, answerOn}
 use Rattle.block_calls.specs.Calls.{blockAfter}
 use Rattle.store_frames.specs.declared.StoreFrame.the-variants.{Fresh, Read, Write, Deliver, Show}
-use Rattle.store_frames.specs.declared.StoreFrame.the-variants.{Clear}
+use Rattle.store_frames.specs.declared.StoreFrame.the-variants.{Clear, HandOver, Compare}
 use Rattle.store_frames.specs.declared.Parsed.{Parsed}
 use Rattle.store_frames.specs.declared.Parsed.the-variants.{Frame, Malformed}
 use Rattle.store_frames.specs.Answers.{answerLine}
@@ -44,6 +44,8 @@ isOther (Frame (Write client s) n) = true
 isOther (Frame (Deliver place) n) = true
 isOther (Frame (Show client) n) = true
 isOther (Frame Clear n) = true
+isOther (Frame (HandOver giver receiver) n) = true
+isOther (Frame (Compare first second) n) = true
 
 module _ (b : List ℕ) (zeros : Zeros b) where
   invalid : validBlock b ≡ false
@@ -67,6 +69,8 @@ module _ (b : List ℕ) (zeros : Zeros b) where
   other-answer f o (Frame (Deliver place) n) e = refused _
   other-answer f o (Frame (Show client) n) e = refused _
   other-answer f o (Frame Clear n) e = refused _
+  other-answer f o (Frame (HandOver giver receiver) n) e = refused _
+  other-answer f o (Frame (Compare first second) n) e = refused _
 
   other-block : (f o : List ℕ) (p : Parsed) → isOther p ≡ true → parsedBlock b f o p ≡ b
   unfolding isOther parsedBlock callBlock
@@ -77,6 +81,8 @@ module _ (b : List ℕ) (zeros : Zeros b) where
   other-block f o (Frame (Deliver place) n) e = kept _
   other-block f o (Frame (Show client) n) e = kept _
   other-block f o (Frame Clear n) e = kept _
+  other-block f o (Frame (HandOver giver receiver) n) e = kept _
+  other-block f o (Frame (Compare first second) n) e = kept _
 
   -- an `01` that isn't accepted changes nothing either
   made-or-kept : (r : ℕ) (x : List ℕ) → (pick r Made (Refused r) ≡ Made → ⊥) → pick r x b ≡ b
@@ -95,6 +101,8 @@ module _ (b : List ℕ) (zeros : Zeros b) where
   unmade-parsed f o (Frame (Deliver place) n) h = kept _
   unmade-parsed f o (Frame (Show client) n) h = kept _
   unmade-parsed f o (Frame Clear n) h = kept _
+  unmade-parsed f o (Frame (HandOver giver receiver) n) h = kept _
+  unmade-parsed f o (Frame (Compare first second) n) h = kept _
 
   unmade-line : (line : List ℕ) → (lineAnswer b line ≡ Made → ⊥) → lineBlock b line ≡ b
   unmade-line line h = unmade-parsed (frameBytes line) blank (storeFrameOf line) h

@@ -7,12 +7,12 @@ use lib.ListN.{replicate}
 use Rattle.protocol.specs.declared.Answer.{Answer}
 use Rattle.protocol.specs.declared.Answer.the-variants.{Refused}
 use Rattle.protocol.specs.LogFrame.{mostLogFrame}
-use Rattle.protocol.specs.Calls.{startRead, startWrite, deliver, show, clear}
+use Rattle.protocol.specs.Calls.{startRead, startWrite, deliver, show, clear, handOver, compare}
 use Rattle.gather.specs.Sized.{sizes}
 use Rattle.block_calls.specs.Calls.{freshAnswerOn, freshAfter, answerOn, outputOn, blockAfter}
 use Rattle.store_frames.specs.declared.StoreFrame.{StoreFrame}
 use Rattle.store_frames.specs.declared.StoreFrame.the-variants.{Fresh, Read, Write, Deliver, Show}
-use Rattle.store_frames.specs.declared.StoreFrame.the-variants.{Clear}
+use Rattle.store_frames.specs.declared.StoreFrame.the-variants.{Clear, HandOver, Compare}
 use Rattle.store_frames.specs.declared.Parsed.{Parsed}
 use Rattle.store_frames.specs.declared.Parsed.the-variants.{Frame, Malformed}
 use Rattle.store_frames.specs.Answers.{answerLine}
@@ -28,6 +28,8 @@ callAnswer b f output (Write client s) = answerOn b (startWrite client s (valueB
 callAnswer b f output (Deliver place) = answerOn b (deliver place)
 callAnswer b f output (Show client) = answerOn b (show client output)
 callAnswer b f output Clear = answerOn b clear
+callAnswer b f output (HandOver giver receiver) = answerOn b (handOver giver receiver)
+callAnswer b f output (Compare first second) = answerOn b (compare first second)
 
 unfoldable pub callBlock : List ℕ → List ℕ → List ℕ → StoreFrame → List ℕ
 callBlock b f output (Fresh clients partitions items) =
@@ -37,6 +39,8 @@ callBlock b f output (Write client s) = blockAfter b (startWrite client s (value
 callBlock b f output (Deliver place) = blockAfter b (deliver place)
 callBlock b f output (Show client) = blockAfter b (show client output)
 callBlock b f output Clear = blockAfter b clear
+callBlock b f output (HandOver giver receiver) = blockAfter b (handOver giver receiver)
+callBlock b f output (Compare first second) = blockAfter b (compare first second)
 
 unfoldable pub callOutput : List ℕ → List ℕ → List ℕ → StoreFrame → List ℕ
 callOutput b f output (Fresh clients partitions items) = output
@@ -45,6 +49,8 @@ callOutput b f output (Write client s) = output
 callOutput b f output (Deliver place) = output
 callOutput b f output (Show client) = outputOn b (show client output)
 callOutput b f output Clear = output
+callOutput b f output (HandOver giver receiver) = output
+callOutput b f output (Compare first second) = output
 
 -- ---- the call of a line, 15 where it is malformed
 

@@ -36,6 +36,8 @@ fn call(b: &mut [u64], frame: StoreFrame, f: &[u8], shown: &mut [u8]) -> Answer
         StoreFrame::Deliver { place } => deliver_call::deliver(b, place),
         StoreFrame::Show { client } => store_calls::show(b, client, shown),
         StoreFrame::Clear => store_calls::clear(b),
+        StoreFrame::HandOver { giver, receiver } => store_calls::hand_over(b, giver, receiver),
+        StoreFrame::Compare { first, second } => store_calls::compare(b, first, second),
     }
 }
 

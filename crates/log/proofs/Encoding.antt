@@ -1,6 +1,6 @@
 -- A log frame's bytes, written from its fields as document 01 has them, give back those fields; and
 -- a well-formed frame is the bytes of its fields.
-use mathlib.Core.Bool.{Bool, true, false, not, _&&_, _||_}
+use mathlib.Core.Bool.{Bool, true, false, not, _&&_, _||_, and-true}
 use mathlib.Core.List.{List, [], _∷_, _++_, append-assoc, append-nil}
 use mathlib.Core.Logic.{⊎-elim}
 use mathlib.Core.Path.{_≡_, refl, sym, ap, ap₂, _∙_}
@@ -22,11 +22,11 @@ use Rattle.itemset.specs.Set.{has, rank, members}
 use Rattle.itemset.proofs.Counts.{rank-all, rank-lt}
 use Rattle.itemset.proofs.Laws.{has-below}
 use Rattle.itemset.proofs.Members.{length-members-rank, members-at, members-rank, members-has}
-use Rattle.log.specs.Log.{count64, stampOf, kindOf, clientOf, hasRead, hasWrite, isClient}
-use Rattle.log.specs.Log.{isWhole}
+use Rattle.log.specs.Log.{count64, stampOf, kindOf, clientOf, hasRead, hasWrite, handsOver}
+use Rattle.log.specs.Log.{receiverOf, isClient, isWhole}
 use Rattle.log.specs.Log.{shown, shownStamp, shownValue, writeAt, written, numberOf}
 use Rattle.log.specs.Log.{writtenValue, endOf, entriesWhole, entryNumber, entryWriter}
-use Rattle.log.specs.Log.{readShaped, writeShaped, shaped}
+use Rattle.log.specs.Log.{readShaped, writeShaped, handOverShaped, shaped}
 use Rattle.log.proofs.Each.{each, length-each, each-at, each-whole}
 use Rattle.log.proofs.Parts.{shaped-size, shaped-read}
 
@@ -47,6 +47,10 @@ pub readFrame : (client set : ℕ) → (number writer value : ℕ → ℕ) → L
 readFrame client set number writer value =
     0x21 ∷ client ∷ bigEndian 8 set
     ++ each (λ item. entry (number item) (writer item) (value item)) (members 64 set)
+
+-- `22` giver, receiver
+pub handOverFrame : (giver receiver : ℕ) → List ℕ
+handOverFrame giver receiver = 0x22 ∷ giver ∷ receiver ∷ []
 
 length-entry : (a b v : ℕ) → length (entry a b v) ≡ 9
 unfolding entry
@@ -164,11 +168,12 @@ module _ (client set number : ℕ) (value : ℕ → ℕ) where
 
     -- well-formed where the client is one, the set nonempty and the number 1 or more
     pub write-shaped : shaped w ≡ (isClient client && (leb 1 set && leb 1 number))
-    unfolding writeFrame shaped readShaped writeShaped
+    unfolding writeFrame shaped readShaped writeShaped handOverShaped
     write-shaped =
         ap₂ (λ (b : Bool) (s : Bool). isClient client && (b && s))
         (eq-eqb (length w) (endOf w) write-size)
-        (ap₂ (λ (s n : ℕ). leb 1 s && leb 1 n) write-written write-number)
+        (and-true (leb 1 (written w) && leb 1 (numberOf w))
+        ∙ ap₂ (λ (s n : ℕ). leb 1 s && leb 1 n) write-written write-number)
 
 -- ---- fields of the bytes of a read
 
@@ -266,7 +271,7 @@ module _ (client set : ℕ) (number writer value : ℕ → ℕ) where
         → ((item : ℕ) → has set item ≡ true → (number item < 2 ^ 32) × (writer item < 256)
         × (isWhole (number item) (writer item) ≡ true))
         → shaped r ≡ true
-    unfolding readFrame shaped readShaped writeShaped entriesWhole
+    unfolding readFrame shaped readShaped writeShaped handOverShaped entriesWhole
     read-shaped is some whole =
         and-both (isClient client) _ is
         (and-both (eqb (length r) (endOf r)) _ (eq-eqb (length r) (endOf r) read-size)
@@ -292,12 +297,52 @@ module _ (client set : ℕ) (number writer value : ℕ → ℕ) where
             ∙ ap₂ isWhole (read-entry-number item e (h .0)) (read-entry-writer item e (h .1))
             ∙ h .2
 
+-- ---- fields of the bytes of a hand-over
+
+module _ (giver receiver : ℕ) where
+  abbrev h : List ℕ
+  h = handOverFrame giver receiver
+
+  pub hand-over-giver : clientOf h ≡ giver
+  unfolding handOverFrame
+  hand-over-giver = refl
+
+  pub hand-over-receiver : receiverOf h ≡ receiver
+  unfolding handOverFrame
+  hand-over-receiver = refl
+
+  -- it shows nothing and writes nothing
+  pub hand-over-shown : shown h ≡ 0
+  unfolding handOverFrame shown
+  hand-over-shown = refl
+
+  pub hand-over-written : written h ≡ 0
+  unfolding handOverFrame written
+  hand-over-written = refl
+
+  pub hand-over-number : numberOf h ≡ 0
+  unfolding handOverFrame numberOf
+  hand-over-number = refl
+
+  -- well-formed where both are clients, and not the same
+  pub hand-over-shaped : shaped h
+      ≡ (isClient giver && (isClient receiver && not (eqb receiver giver)))
+  unfolding handOverFrame shaped readShaped writeShaped handOverShaped endOf
+  hand-over-shaped = refl
+
 -- ---- a well-formed frame is the bytes of its fields
 
 two-bytes : (f : List ℕ) → 2 ≤ length f → f ≡ kindOf f ∷ clientOf f ∷ drop 2 f
 two-bytes [] h = absurd (omega arith)
 two-bytes (a ∷ []) h = absurd (omega arith)
 two-bytes (a ∷ b ∷ s) h = refl
+
+three-bytes : (f : List ℕ) → length f ≡ 3 → f ≡ kindOf f ∷ clientOf f ∷ receiverOf f ∷ []
+three-bytes [] h = absurd (omega arith)
+three-bytes (a ∷ []) h = absurd (omega arith)
+three-bytes (a ∷ b ∷ []) h = absurd (omega arith)
+three-bytes (a ∷ b ∷ c ∷ []) h = refl
+three-bytes (a ∷ b ∷ c ∷ d ∷ s) h = absurd (omega arith)
 
 piece : (f : List ℕ) (n at : ℕ) → EachByte f → at + n ≤ length f
     → drop at f ≡ bigEndian n (numberAt n f at) ++ drop (at + n) f
@@ -330,7 +375,7 @@ module _ (f : List ℕ) (h : EachByte f) (e : shaped f ≡ true) where
 
     long-write : length f ≡ 14 + 4 * count64 (written f)
     unfolding endOf
-    long-write = size ∙ rw (has-write, at-write)
+    long-write = size ∙ rw (ap handsOver kind-write, has-write, at-write)
 
     value-bytes : each (λ item. bigEndian 4 (writtenValue f item)) (members 64 (written f))
         ≡ drop 14 f
@@ -372,7 +417,7 @@ module _ (f : List ℕ) (h : EachByte f) (e : shaped f ≡ true) where
 
     long-read : length f ≡ 10 + 9 * count64 (shown f)
     unfolding endOf writeAt
-    long-read = size ∙ rw (ap hasWrite kind-read, has-read)
+    long-read = size ∙ rw (ap handsOver kind-read, ap hasWrite kind-read, has-read)
 
     -- a writing client is at most 8
     writer-small : (i : ℕ) → i < count64 (shown f) → entryWriter f i < 16
@@ -447,3 +492,14 @@ module _ (f : List ℕ) (h : EachByte f) (e : shaped f ≡ true) where
         ∙ ap₂ (λ (k : ℕ) (l : List ℕ). k ∷ clientOf f ∷ l) kind-read
         (piece f 8 2 h (omega (arith, long-read))
         ∙ ap₂ (λ (s : ℕ) (l : List ℕ). bigEndian 8 s ++ l) (sym set-shown) (sym entries))
+
+  module _ (kind-hand-over : kindOf f ≡ 0x22) where
+    long-hand-over : length f ≡ 3
+    unfolding endOf
+    long-hand-over = size ∙ rw (ap handsOver kind-hand-over)
+
+    pub hand-over-bytes : f ≡ handOverFrame (clientOf f) (receiverOf f)
+    unfolding handOverFrame
+    hand-over-bytes =
+        three-bytes f long-hand-over
+        ∙ ap (λ (k : ℕ). k ∷ clientOf f ∷ receiverOf f ∷ []) kind-hand-over

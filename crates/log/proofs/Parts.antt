@@ -19,7 +19,7 @@ use Rattle.itemset.proofs.Laws.{has-below, has-empty}
 use Rattle.log.specs.Log.{count64, stampOf, kindOf, clientOf, hasRead, hasWrite, isKind}
 use Rattle.log.specs.Log.{isClient}
 use Rattle.log.specs.Log.{shown, written, numberOf, writeAt, endOf, readShaped, writeShaped}
-use Rattle.log.specs.Log.{shaped}
+use Rattle.log.specs.Log.{handOverShaped, shaped}
 
 -- the stamp order: the greater number is later; with equal numbers, the greater client
 pub stamp-order : (n d m e : ℕ) → d < 16 → e < 16 → (stampOf n d < stampOf m e)
@@ -85,12 +85,16 @@ module _ (f : List ℕ) where
   -- what is well-formed of a frame
   module _ (e : shaped f ≡ true) where
     behind-kind : (isClient (clientOf f) && (eqb (length f) (endOf f)
-        && (readShaped f && writeShaped f))) ≡ true
+        && (readShaped f && (writeShaped f && handOverShaped f)))) ≡ true
     unfolding shaped
     behind-kind = and-right (isKind (kindOf f)) _ e
 
-    behind-client : (eqb (length f) (endOf f) && (readShaped f && writeShaped f)) ≡ true
+    behind-client : (eqb (length f) (endOf f)
+        && (readShaped f && (writeShaped f && handOverShaped f))) ≡ true
     behind-client = and-right (isClient (clientOf f)) _ behind-kind
+
+    parts : (readShaped f && (writeShaped f && handOverShaped f)) ≡ true
+    parts = and-right (eqb (length f) (endOf f)) _ behind-client
 
     pub shaped-kind : isKind (kindOf f) ≡ true
     unfolding shaped
@@ -103,12 +107,14 @@ module _ (f : List ℕ) where
     shaped-size = and-left (eqb (length f) (endOf f)) _ behind-client
 
     pub shaped-read : readShaped f ≡ true
-    shaped-read = and-left (readShaped f) (writeShaped f)
-        (and-right (eqb (length f) (endOf f)) _ behind-client)
+    shaped-read = and-left (readShaped f) _ parts
 
     pub shaped-write : writeShaped f ≡ true
-    shaped-write = and-right (readShaped f) (writeShaped f)
-        (and-right (eqb (length f) (endOf f)) _ behind-client)
+    shaped-write = and-left (writeShaped f) (handOverShaped f) (and-right (readShaped f) _ parts)
+
+    pub shaped-hand-over : handOverShaped f ≡ true
+    shaped-hand-over =
+        and-right (writeShaped f) (handOverShaped f) (and-right (readShaped f) _ parts)
 
     -- a write's number is 1 or more
     pub shaped-number : hasWrite (kindOf f) ≡ true → 1 ≤ numberOf f

@@ -14,8 +14,8 @@ use Rattle.hex.specs.Number.{numberAt, bigEndian}
 use Rattle.hex.specs.Text.{isHex, bytesOf, hexText}
 use Rattle.log.specs.Some.{some, firstFrom}
 use Rattle.log.specs.Log.{linesOf, frameOf, framesOf, shown, writeAt, written, numberOf}
-use Rattle.log.specs.Log.{endOf, entriesWhole, readShaped, writeShaped, shaped, reaches}
-use Rattle.log.specs.Log.{malformed, malformedAt, firstLine, tooLong}
+use Rattle.log.specs.Log.{endOf, entriesWhole, readShaped, writeShaped, handOverShaped}
+use Rattle.log.specs.Log.{shaped, reaches, malformed, malformedAt, firstLine, tooLong}
 
 -- a line of n bytes, its digits as one number, most significant first
 unfoldable pub line : ℕ → ℕ → List ℕ
@@ -42,15 +42,47 @@ rows =
       log = line 28 0x2102_0000000000000003_00000001_01_00000007_00000000_00_00000000;
       bad = 0;
     }
-    -- kinds: 1f, 22, a0, a1
+    -- kinds: 1f, 23, a0, a1, a2
     ∷ record { log = line 18 0x1f01_0000000000000001_00000001_00000007; bad = 1 }
-    ∷ record { log = line 18 0x2201_0000000000000001_00000001_00000007; bad = 1 }
+    ∷ record { log = line 18 0x2301_0000000000000001_00000001_00000007; bad = 1 }
+    ∷ record { log = line 3 0x23_01_02; bad = 1 }
     ∷ record { log = line 18 0xa001_0000000000000001_00000001_00000007; bad = 1 }
     ∷ record { log = line 19 0xa101_0000000000000001_00000001_01_00000007; bad = 1 }
+    ∷ record { log = line 3 0xa2_01_02; bad = 1 }
     -- the kind and the client alone
     ∷ record { log = line 2 0x2001; bad = 1 }
     ∷ record { log = line 2 0x2101; bad = 1 }
     ∷ record { log = line 2 0x2201; bad = 1 }
+    ∷ record { log = line 2 0x2301; bad = 1 }
+    -- hand-overs: both ways, the ends of the range; a byte too many, the fields of a write behind
+    ∷ record { log = line 3 0x22_01_02; bad = 0 }
+    ∷ record { log = line 3 0x22_02_01; bad = 0 }
+    ∷ record { log = line 3 0x22_01_08; bad = 0 }
+    ∷ record { log = line 3 0x22_08_01; bad = 0 }
+    ∷ record { log = line 4 0x22_01_02_00; bad = 1 }
+    ∷ record { log = line 18 0x2201_0200000000000001_00000001_00000007; bad = 1 }
+    -- giver or receiver 0, 9, 11 (17); from a client to itself
+    ∷ record { log = line 3 0x22_00_02; bad = 1 }
+    ∷ record { log = line 3 0x22_01_00; bad = 1 }
+    ∷ record { log = line 3 0x22_09_02; bad = 1 }
+    ∷ record { log = line 3 0x22_01_09; bad = 1 }
+    ∷ record { log = line 3 0x22_11_02; bad = 1 }
+    ∷ record { log = line 3 0x22_01_11; bad = 1 }
+    ∷ record { log = line 3 0x22_01_01; bad = 1 }
+    ∷ record { log = line 3 0x22_08_08; bad = 1 }
+    -- it is a line, and the same one may come again
+    ∷ record { log = line 3 0x22_01_02 ++ line 3 0x22_01_02 ++ line 3 0x22_02_02; bad = 3 }
+    -- it has no number: a client's number 1 may stand below it, of giver and of receiver; and it
+    -- hides none above
+    ∷ record {
+      log =
+          line 3 0x22_01_02
+          ++ line 18 0x2001_0000000000000001_00000001_00000007
+          ++ line 18 0x2002_0000000000000001_00000001_00000007
+          ++ line 3 0x22_01_02
+          ++ line 18 0x2001_0000000000000001_00000001_00000007;
+      bad = 5;
+    }
     -- clients 0, 5, 8, 9, 11 (17)
     ∷ record { log = line 18 0x2000_0000000000000001_00000001_00000007; bad = 1 }
     ∷ record { log = line 18 0x2005_0000000000000001_00000001_00000007; bad = 0 }
@@ -180,7 +212,7 @@ rows =
       log =
           line 18 0x2001_0000000000000001_00000001_00000007
           ++ line 18 0x2009_0000000000000001_00000002_00000007
-          ++ line 18 0x2200_0000000000000001_00000002_00000007;
+          ++ line 3 0x22_03_03;
       bad = 2;
     }
     ∷ []
@@ -210,7 +242,7 @@ malformed-rows : all (λ (r : Row). eqb (firstBad (r .log)) (r .bad)) rows ≡ t
 unfolding all rows firstBad line hexText bigEndian hexDigit
     digit pair lineLength numberAt isHex bytesOf some every onesIn firstFrom
     linesOf frameOf shown writeAt written numberOf endOf
-    entriesWhole readShaped writeShaped shaped reaches malformed
+    entriesWhole readShaped writeShaped handOverShaped shaped reaches malformed
 malformed-rows = refl
 
 long-rows : all (λ (r : Limit). Bool·beq (tooLong (r .log)) (r .long)) limits ≡ true

@@ -1,6 +1,6 @@
 -- A log as lines, a line as its frame, a frame as its parts, and which line is malformed (document
--- 01: frames, log frames, refusals 15 and 16). A later kind of frame joins at `hasRead`, `hasWrite`
--- and `isKind`.
+-- 01: frames, log frames, refusals 15 and 16; document 02, P6: hand-overs). A later kind of frame
+-- joins at `hasRead`, `hasWrite`, `isKind`, `endOf` and `shaped`.
 use mathlib.Core.Bool.{Bool, cond, not, _&&_, _||_}
 use mathlib.Core.List.{List, [], _∷_, map}
 use Prim.Native.Nat.{ℕ, _+_, _*_}
@@ -53,20 +53,23 @@ stampOf number client = number * 16 + client
 abbrev pub kindOf : List ℕ → ℕ
 kindOf f = getD f 0 0
 
--- the client (desk) of a frame
+-- the client (desk) of a frame; of a hand-over the giver
 abbrev pub clientOf : List ℕ → ℕ
 clientOf f = getD f 1 0
 
--- which parts a kind has: `20` is a write, `21` a read
+-- which parts a kind has: `20` is a write, `21` a read, `22` a hand-over
 abbrev pub hasRead : ℕ → Bool
 hasRead kind = eqb kind 0x21
 
 abbrev pub hasWrite : ℕ → Bool
 hasWrite kind = eqb kind 0x20
 
+abbrev pub handsOver : ℕ → Bool
+handsOver kind = eqb kind 0x22
+
 -- the kinds of log frames
 abbrev pub isKind : ℕ → Bool
-isKind kind = hasRead kind || hasWrite kind
+isKind kind = hasRead kind || (hasWrite kind || handsOver kind)
 
 -- how many of the 64 items a set has
 abbrev pub count64 : ℕ → ℕ
@@ -121,9 +124,16 @@ valueAt f i = writeAt f + 12 + 4 * i
 unfoldable pub writtenValue : List ℕ → ℕ → ℕ
 writtenValue f item = numberAt 4 f (valueAt f (rank (written f) item))
 
+-- ---- a hand-over: behind the giver the receiver (1)
+
+abbrev pub receiverOf : List ℕ → ℕ
+receiverOf f = getD f 2 0
+
 -- where the frame ends: behind its last part
 unfoldable pub endOf : List ℕ → ℕ
-endOf f = cond (hasWrite (kindOf f)) (valueAt f (count64 (written f))) (writeAt f)
+endOf f =
+    cond (handsOver (kindOf f)) 3
+    (cond (hasWrite (kindOf f)) (valueAt f (count64 (written f))) (writeAt f))
 
 -- ---- what is well-formed
 
@@ -146,11 +156,17 @@ readShaped f = not (hasRead (kindOf f)) || (leb 1 (shown f) && entriesWhole f)
 unfoldable pub writeShaped : List ℕ → Bool
 writeShaped f = not (hasWrite (kindOf f)) || (leb 1 (written f) && leb 1 (numberOf f))
 
+-- the receiver of a hand-over: a client, and not the giver
+unfoldable pub handOverShaped : List ℕ → Bool
+handOverShaped f =
+    not (handsOver (kindOf f))
+    || (isClient (receiverOf f) && not (eqb (receiverOf f) (clientOf f)))
+
 -- a log frame: its kind, its client, its parts, and nothing behind them
 unfoldable pub shaped : List ℕ → Bool
 shaped f =
     isKind (kindOf f) && (isClient (clientOf f)
-    && (eqb (length f) (endOf f) && (readShaped f && writeShaped f)))
+    && (eqb (length f) (endOf f) && (readShaped f && (writeShaped f && handOverShaped f))))
 
 -- w is of that client, with that number or a greater one
 unfoldable pub reaches : ℕ → ℕ → List ℕ → Bool

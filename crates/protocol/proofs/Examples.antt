@@ -8,7 +8,8 @@ use Prim.Native.Nat.{ℕ}
 use lib.Dec.{eqb}
 use lib.ListN.{length, drop, replicate}
 use Rattle.basics.specs.Lists.{all}
-use Rattle.protocol.specs.Calls.{startRead, startWrite, deliver, show, clear}
+use Rattle.protocol.specs.Calls.{startRead, startWrite, deliver, show, clear, handOver}
+use Rattle.protocol.specs.Calls.{compare}
 use Rattle.protocol.proofs.Examples.Table.{Row, freshly, on, onEach, _⇒_, _keeping_}
 use Rattle.protocol.proofs.Examples.Table.{anything, right, messagesAre, entryIs}
 use Rattle.protocol.proofs.Examples.Begin.{sizes, entry, loaded, holding, seeing, ahead}
@@ -16,6 +17,7 @@ use Rattle.protocol.proofs.Examples.Begin.{spent, crowded, strayed}
 use Rattle.protocol.proofs.Examples.Cleared.{clearings}
 use Rattle.protocol.proofs.Examples.Faults.{faults}
 use Rattle.protocol.proofs.Examples.Falls.{falls}
+use Rattle.protocol.proofs.Examples.HandOver.{handOvers}
 use Rattle.protocol.proofs.Examples.Numbers.{numbers}
 use Rattle.protocol.proofs.Examples.Widest.{widest}
 use Rattle.protocol.proofs.Examples.Pinned.{pinned}
@@ -27,6 +29,7 @@ pub mod Numbers
 pub mod Falls
 pub mod Widest
 pub mod Cleared
+pub mod HandOver
 
 -- a value's four bytes, for values below 256
 abbrev value : ℕ → List ℕ
@@ -354,7 +357,8 @@ outOfRange =
     record {
       start = onEach faults;
       lines = startRead 1 1 ⇒ "01" ∷ startWrite 9 0 [] ⇒ "01" ∷ deliver 0 ⇒ "01"
-          ∷ show 1 (room 1) ⇒ "01" keeping "ee" ∷ clear ⇒ "01" ∷ [];
+          ∷ show 1 (room 1) ⇒ "01" keeping "ee" ∷ clear ⇒ "01" ∷ handOver 1 1 ⇒ "01"
+          ∷ compare 9 9 ⇒ "01" ∷ [];
       after = anything;
     }
 
@@ -381,7 +385,7 @@ rows =
     ∷ firstOfSeveral
     ∷ strays
     ∷ outOfRange
-    ∷ numbers ++ (falls ++ (widest ++ (clearings ++ pinned)))
+    ∷ numbers ++ (falls ++ (widest ++ (clearings ++ (handOvers ++ pinned))))
 
 pub examples : all right rows ≡ true
 unfolding all right

@@ -18,6 +18,7 @@ pub mod Load
 pub mod Occupied
 pub mod Commits
 pub mod Known
+pub mod HandOver
 pub mod Kept
 pub mod Sorts
 pub mod Keeps

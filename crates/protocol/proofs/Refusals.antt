@@ -19,9 +19,9 @@ use Rattle.protocol.specs.Tables.{Sizes, Tables, Client, writerOf, Ended
 use Rattle.protocol.specs.Tables.{ofRead, ofWrite, awaitedOf}
 use Rattle.protocol.specs.Range.{Capacities, load, occupied}
 use Rattle.protocol.specs.Steps.{messageAt, greatestOf}
-use Rattle.protocol.specs.Calls.{startRead, startWrite, deliver, show, clear, Test}
-use Rattle.protocol.specs.Calls.{test, first, unexpected, missing, isNothing, refusal}
-use Rattle.protocol.specs.Calls.{freshRefusal, shownFrame}
+use Rattle.protocol.specs.Calls.{startRead, startWrite, deliver, show, clear, handOver}
+use Rattle.protocol.specs.Calls.{compare, Test, test, first, unexpected, missing, isNothing}
+use Rattle.protocol.specs.Calls.{refusal, freshRefusal, shownFrame}
 use Rattle.protocol.proofs.Tells.{tells}
 use Rattle.protocol.proofs.Each.{Each}
 use Rattle.protocol.proofs.Ranges.Values.{SizesInRange, tells-sizes, IsClient}
@@ -176,7 +176,7 @@ pub accepted-message : (caps : Capacities) (t : Tables) (i : ℕ) → AcceptedDe
 accepted-message caps t i a = a .valid .inRange .messages (messageAt t i)
     (in-getD (t .messages) i (Commit 0 0) (a .place))
 
--- ---- Fresh starts, showings and clearings
+-- ---- Fresh starts, showings, clearings, hand-overs and comparisons
 
 pub accepted-fresh : (z : Sizes) → (freshRefusal z ≡ 0) ↔ SizesInRange z
 accepted-fresh z = (
@@ -204,3 +204,36 @@ accepted-show caps t d output = (
 pub accepted-clear : (caps : Capacities) (t : Tables) → (refusal caps t clear ≡ 0) ↔ Valid caps t
 unfolding refusal
 accepted-clear caps t = (λ e. simp tests at e .0, λ v. simp tests (v, first-empty))
+
+-- from client d to client e
+pub record AcceptedHandOver (caps : Capacities) (t : Tables) (d e : ℕ) : Type 0 where
+  pub valid : Valid caps t
+  pub giver : IsClient (t .sizes) d
+  pub receiver : IsClient (t .sizes) e
+  pub other : d ≢ e
+  pub giverIdle : Idle (t .client d)
+  pub receiverIdle : Idle (t .client e)
+
+pub accepted-hand-over : (caps : Capacities) (t : Tables) (d e : ℕ)
+    → (refusal caps t (handOver d e) ≡ 0) ↔ AcceptedHandOver caps t d e
+unfolding refusal
+accepted-hand-over caps t d e = (
+  λ h. let f = simp tests at h in
+      search,
+  λ a. simp tests (search first-empty),
+)
+
+-- busy and equal clients are compared
+pub record AcceptedCompare (caps : Capacities) (t : Tables) (d e : ℕ) : Type 0 where
+  pub valid : Valid caps t
+  pub one : IsClient (t .sizes) d
+  pub other : IsClient (t .sizes) e
+
+pub accepted-compare : (caps : Capacities) (t : Tables) (d e : ℕ)
+    → (refusal caps t (compare d e) ≡ 0) ↔ AcceptedCompare caps t d e
+unfolding refusal
+accepted-compare caps t d e = (
+  λ h. let f = simp tests at h in
+      search,
+  λ a. simp tests (search first-empty),
+)

@@ -7,21 +7,24 @@ use mathlib.Core.Path.{_≡_, refl}
 use Prim.Native.Nat.{ℕ, _≤_, _<_}
 use native.Mathlib.Nat.{le-refl}
 use Rattle.protocol.specs.declared.Answer.{Answer}
-use Rattle.protocol.specs.declared.Answer.the-variants.{Cleared}
+use Rattle.protocol.specs.declared.Answer.the-variants.{Cleared, HandedOver, Compared}
 use Rattle.protocol.specs.declared.Entry.{Entry}
 use Rattle.protocol.specs.declared.Version.{Version}
 use Rattle.protocol.specs.Tables.{Tables, withVersions}
 use Rattle.protocol.specs.Range.{Capacities}
 use Rattle.protocol.specs.Steps.{stored}
 use Rattle.protocol.specs.Clear.{unused, cleared, gone}
-use Rattle.protocol.specs.Calls.{Call, startRead, startWrite, deliver, show, clear, refusal}
-use Rattle.protocol.specs.Calls.{quiet, effects}
+use Rattle.protocol.specs.HandOver.{handedOver, standing}
+use Rattle.protocol.specs.Calls.{Call, startRead, startWrite, deliver, show, clear, handOver}
+use Rattle.protocol.specs.Calls.{compare, refusal, quiet, effects}
 use Rattle.protocol.proofs.Cleared.{cleared-sublist, stored-cleared}
 use Rattle.protocol.proofs.Ranges.Values.{IsClient}
 use Rattle.protocol.proofs.Ranges.Tables.{Valid}
 use Rattle.protocol.proofs.Refusals.{AcceptedStart, AcceptedWrite, AcceptedDeliver}
 use Rattle.protocol.proofs.Refusals.{accepted-read, accepted-write, accepted-deliver}
-use Rattle.protocol.proofs.Refusals.{accepted-show, accepted-clear}
+use Rattle.protocol.proofs.Refusals.{accepted-show, accepted-clear, accepted-hand-over}
+use Rattle.protocol.proofs.Refusals.{accepted-compare}
+use Rattle.protocol.proofs.HandOver.{handed-taken, handed-grows}
 
 -- the tables with other views and stored versions
 abbrev pub aside : Tables → (ℕ → ℕ → Entry) → List Version → Tables
@@ -54,7 +57,22 @@ pub record Apart (t : Tables) (c : Call) : Type 0 where
   pub spares : (s : ℕ) → unused t s ≡ false → (k : ℕ) → stored (t .versions) k s ≡ true
       → stored versions k s ≡ true
 
--- a call that leaves the views alone, and one that does nothing but answer
+-- a hand-over, a call that leaves the views alone, and one that does nothing but answer
+pub handing : (t : Tables) (giver receiver : ℕ) → IsClient (t .sizes) giver
+    → Apart t (handOver giver receiver)
+handing t giver receiver exists =
+    record {
+      view = handedOver t giver receiver .view;
+      versions = t .versions;
+      output = [];
+      answer = HandedOver giver receiver;
+      does = refl;
+      taken = λ d k i l. handed-taken t giver receiver exists d k i;
+      grows = handed-grows t giver receiver;
+      fewer = Sublistᴰ·refl (t .versions);
+      spares = λ s used k h. h;
+    }
+
 pub unseen : (t : Tables) (c : Call) (versions : List Version) (output : List ℕ) (answer : Answer)
     → effects t c ≡ quiet (withVersions t versions) output answer
     → Sublistᴰ versions (t .versions)
@@ -97,3 +115,9 @@ module _ (caps : Capacities) (t : Tables) where
       apart clear (accepted-clear caps t .0 e)
       (unseen t clear (cleared t .versions) [] (Cleared (gone t)) refl (cleared-sublist t)
       (stored-cleared t))
+  sort (handOver giver receiver) e =
+      let a = accepted-hand-over caps t giver receiver .0 e in
+      apart (handOver giver receiver) (a .valid) (handing t giver receiver (a .giver))
+  sort (compare d e) h =
+      apart (compare d e) (accepted-compare caps t d e .0 h .valid)
+      (still t (compare d e) [] (Compared (standing t d e)) refl)

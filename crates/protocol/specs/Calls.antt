@@ -11,7 +11,7 @@ use Rattle.protocol.specs.declared.Message.{Message}
 use Rattle.protocol.specs.declared.Message.the-variants.{Prepare, Prepared, Commit, Get, Got}
 use Rattle.protocol.specs.declared.Answer.{Answer}
 use Rattle.protocol.specs.declared.Answer.the-variants.{Refused, Made, Started, Delivered}
-use Rattle.protocol.specs.declared.Answer.the-variants.{Shown, Cleared}
+use Rattle.protocol.specs.declared.Answer.the-variants.{Shown, Cleared, HandedOver, Compared}
 use Rattle.protocol.specs.Tables.{Sizes, Tables, WritePart, Ended, writerOf}
 use Rattle.protocol.specs.Message.{partsOf, kindOf, isPrepare, isGet, itemOf}
 use Rattle.protocol.specs.Range.{Capacities, valid, sizesInRange, isClient, isIdle, load}
@@ -19,7 +19,8 @@ use Rattle.protocol.specs.Range.{occupied}
 use Rattle.protocol.specs.Steps.{startedRead, startedWrite, deliveredAt, messageAt, stored}
 use Rattle.protocol.specs.Steps.{deliveryOf, gets, prepares, writer, joined, greatestOf}
 use Rattle.protocol.specs.Clear.{cleared, gone}
-use Rattle.protocol.specs.LogFrame.{frame}
+use Rattle.protocol.specs.HandOver.{handedOver, standing}
+use Rattle.protocol.specs.LogFrame.{frame, handOverFrame}
 
 -- The calls that follow a fresh start. A write brings its value bytes, a showing the lent output.
 pub data Call : Type 0 where
@@ -28,6 +29,8 @@ pub data Call : Type 0 where
   deliver : (place : ℕ) → Call
   show : (client : ℕ) (output : List ℕ) → Call
   clear : Call
+  handOver : (giver receiver : ℕ) → Call
+  compare : (first second : ℕ) → Call
 
 -- ---- Refusal table: each call's tests in their order
 
@@ -112,6 +115,19 @@ refusal caps t (show d output) =
     ∷ test 14 (ltb (length output) (length (shownFrame t d)))
     ∷ [])
 refusal caps t clear = first (test 1 (not (valid caps t)) ∷ [])
+-- 'refuses 18 for giver equal to receiver, tested after 3, and 4 if either isn't idle' (P6)
+refusal caps t (handOver giver receiver) =
+    first
+    (test 1 (not (valid caps t))
+    ∷ test 3 (not (isClient (t .sizes) giver && isClient (t .sizes) receiver))
+    ∷ test 18 (eqb giver receiver)
+    ∷ test 4 (not (isIdle (t .client giver) && isIdle (t .client receiver)))
+    ∷ [])
+refusal caps t (compare d e) =
+    first
+    (test 1 (not (valid caps t))
+    ∷ test 3 (not (isClient (t .sizes) d && isClient (t .sizes) e))
+    ∷ [])
 
 -- of a fresh start, a block's length apart; accepted, its tables are `fresh z`
 abbrev pub freshRefusal : Sizes → ℕ
@@ -199,6 +215,9 @@ effects t (deliver i) =
 effects t (show d output) = quiet t (shownFrame t d ++ drop (length (shownFrame t d)) output)
     (Shown (length (shownFrame t d)))
 effects t clear = quiet (cleared t) [] (Cleared (gone t))
+effects t (handOver giver receiver) = quiet (handedOver t giver receiver) []
+    (HandedOver giver receiver)
+effects t (compare d e) = quiet t [] (Compared (standing t d e))
 
 unfoldable pub effect : Tables → Call → Tables
 effect t c = effects t c .tables
@@ -216,6 +235,8 @@ lent (startWrite d s bytes) = []
 lent (deliver i) = []
 lent (show d output) = output
 lent clear = []
+lent (handOver giver receiver) = []
+lent (compare d e) = []
 
 -- What a call gives: its answer, the tables after it, the output after it. A refusal changes
 -- nothing.
@@ -240,7 +261,7 @@ step caps t c =
       output = pick r (written t c) (lent c);
     }
 
--- ---- numbers and bytes for each answer: document 01's, and of a clearing our own
+-- ---- numbers and bytes for each answer: document 01's, and of later calls our own
 
 -- what the exported calls return
 unfoldable pub numberOfAnswer : Answer → ℕ
@@ -250,8 +271,10 @@ numberOfAnswer (Started n) = n * 2 ^ 8
 numberOfAnswer (Delivered kind n outcome) = kind * 2 ^ 8 + n * 2 ^ 16 + outcome * 2 ^ 32
 numberOfAnswer (Shown n) = n * 2 ^ 8
 numberOfAnswer (Cleared n) = n * 2 ^ 8
+numberOfAnswer (HandedOver giver receiver) = 0
+numberOfAnswer (Compared n) = n * 2 ^ 8
 
--- what the driver prints as digits; after a show, the frame's bytes follow
+-- what the driver prints as digits; after a show or a hand-over, the log frame's bytes follow
 unfoldable pub bytesOfAnswer : Answer → List ℕ → List ℕ
 bytesOfAnswer (Refused n) output = bigEndian 1 n
 bytesOfAnswer Made output = 0 ∷ []
@@ -260,3 +283,5 @@ bytesOfAnswer (Delivered kind n outcome) output =
     0 ∷ bigEndian 1 kind ++ bigEndian 2 n ++ bigEndian 1 outcome
 bytesOfAnswer (Shown n) output = 0 ∷ take n output
 bytesOfAnswer (Cleared n) output = 0 ∷ bigEndian 2 n
+bytesOfAnswer (HandedOver giver receiver) output = 0 ∷ handOverFrame giver receiver
+bytesOfAnswer (Compared n) output = 0 ∷ bigEndian 1 n

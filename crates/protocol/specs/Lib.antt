@@ -1,9 +1,10 @@
 -- Document 01 as definitions, in its order: the tables, what a message is, what is in range, the
--- steps, clearing (document 02), showing, the refusals, the calls.
+-- steps, clearing and handing over (document 02), showing, the refusals, the calls.
 pub mod Tables
 pub mod Message
 pub mod Range
 pub mod Steps
 pub mod Clear
+pub mod HandOver
 pub mod LogFrame
 pub mod Calls

@@ -1,5 +1,5 @@
 -- The log frame of an ended transaction (document 01, 'Frames'), which a showing writes: a read
--- part and a write part, either of which may be absent.
+-- part and a write part, either of which may be absent. And that of a hand-over.
 use mathlib.Core.Bool.{cond}
 use mathlib.Core.List.{List, [], _∷_, _++_}
 use Prim.Native.Nat.{ℕ, _+_, _*_}
@@ -47,3 +47,7 @@ frame d e =
 -- the most bytes that one has: a read part of all 64 items
 abbrev pub mostLogFrame : ℕ
 mostLogFrame = 10 + 9 * 64
+
+-- 'A log frame `22` giver, receiver' (document 02, P6)
+abbrev pub handOverFrame : ℕ → ℕ → List ℕ
+handOverFrame giver receiver = 0x22 ∷ bigEndian 1 giver ++ bigEndian 1 receiver

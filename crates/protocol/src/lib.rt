@@ -88,4 +88,11 @@ pub enum Answer {
     Cleared {
         gone: u64,
     },
+    HandedOver {
+        giver: u64,
+        receiver: u64,
+    },
+    Compared {
+        standing: u64,
+    },
 }

@@ -1,12 +1,13 @@
 // The refusal of each call, in the refusal table's order; 0 where the call is accepted.
-ghost use mathlib.Core.Bool.{true, cond, _||_, not};
+ghost use mathlib.Core.Bool.{true, cond, _&&_, _||_, not};
 ghost use mathlib.Core.Path.{_≡_};
 ghost use Prim.Native.Nat.{_≤_, _<_};
 ghost use lib.Dec.{eqb};
 ghost use lib.ListN.{length};
 ghost use Rattle.itemset.specs.Set.{allBelow};
 ghost use Rattle.protocol.specs.Range.{capacities, isClient};
-ghost use Rattle.protocol.specs.Calls.{startRead, startWrite, show, clear, refusal};
+ghost use Rattle.protocol.specs.Calls.{startRead, startWrite, show, clear, handOver, compare};
+ghost use Rattle.protocol.specs.Calls.{refusal};
 ghost use Rattle.layout.specs.Layout.{header, scalars, at, itemsAt, modeAt};
 ghost use Rattle.layout.specs.Decode.{sizesIn, tablesOf, validBlock};
 ghost use Rattle.gather.specs.Sized.{sizes};
@@ -200,4 +201,72 @@ pub fn of_clear(b: &[u64]) -> u64
     ensures { λ r. ⌜ r ≡ refusalOn (now (b .entry)) clear ⌝ }
 {
     if valid_block(b) { 0 } else { 1 }
+}
+
+// Both clients exist.
+fn are_clients(b: &[u64], d: u64, e: u64) -> bool
+    ensures { λ r. ⌜ r ≡ (isClient (sizesIn (now (b .entry))) d
+        && isClient (sizesIn (now (b .entry))) e) ⌝ }
+{
+    is_client(b, d) & is_client(b, e)
+}
+
+// Both are idle.
+fn are_idle(b: &[u64], d: u64, e: u64) -> bool
+    requires { ⌜ (1 ≤ d) × (d ≤ 8) × (1 ≤ e) × (e ≤ 8) ⌝ }
+    ensures { λ r. ⌜ r ≡ (eqb (at (now (b .entry)) scalars (modeAt d)) 0
+        && eqb (at (now (b .entry)) scalars (modeAt e)) 0) ⌝ }
+{
+    (mode(b, d) == 0) & (mode(b, e) == 0)
+}
+
+// A hand-over between clients that exist, on a valid block.
+fn of_clients_hand_over(b: &[u64], giver: u64, receiver: u64) -> u64
+    requires { ⌜ (validBlock (now b) ≡ true) × ((isClient (sizesIn (now b)) giver
+        && isClient (sizesIn (now b)) receiver) ≡ true) ⌝ }
+    ensures { λ r. ⌜ r ≡ refusal capacities (tablesOf (now (b .entry)))
+        (handOver giver receiver) ⌝ }
+{
+    let idle = are_idle(b, giver, receiver);
+    refuse(18, giver == receiver, refuse(4, !idle, 0))
+}
+
+fn of_valid_hand_over(b: &[u64], giver: u64, receiver: u64) -> u64
+    requires { ⌜ validBlock (now b) ≡ true ⌝ }
+    ensures { λ r. ⌜ r ≡ refusal capacities (tablesOf (now (b .entry)))
+        (handOver giver receiver) ⌝ }
+{
+    if are_clients(b, giver, receiver) {
+        of_clients_hand_over(b, giver, receiver)
+    } else {
+        3
+    }
+}
+
+pub fn of_hand_over(b: &[u64], giver: u64, receiver: u64) -> u64
+    ensures { λ r. ⌜ r ≡ refusalOn (now (b .entry)) (handOver giver receiver) ⌝ }
+{
+    if valid_block(b) {
+        of_valid_hand_over(b, giver, receiver)
+    } else {
+        1
+    }
+}
+
+fn of_valid_compare(b: &[u64], first: u64, second: u64) -> u64
+    requires { ⌜ validBlock (now b) ≡ true ⌝ }
+    ensures { λ r. ⌜ r ≡ refusal capacities (tablesOf (now (b .entry))) (compare first second) ⌝ }
+{
+    if are_clients(b, first, second) { 0 } else { 3 }
+}
+
+// Busy and equal clients are compared.
+pub fn of_compare(b: &[u64], first: u64, second: u64) -> u64
+    ensures { λ r. ⌜ r ≡ refusalOn (now (b .entry)) (compare first second) ⌝ }
+{
+    if valid_block(b) {
+        of_valid_compare(b, first, second)
+    } else {
+        1
+    }
 }

@@ -1,9 +1,9 @@
-// The store: six calls on one lent block of words (document 01: fresh, start a read, start a write,
-// deliver, show; document 02: clear), for C. Each returns a number: refused, the refusal; accepted,
-// 0 in the lowest byte and the answer above it (`numberOfAnswer`).
+// The store: eight calls on one lent block of words (document 01: fresh, start a read, start a
+// write, deliver, show; document 02: clear, hand over, compare), for C. Each returns a number:
+// refused, the refusal; accepted, 0 in the lowest byte and the answer above it (`numberOfAnswer`).
 ghost use mathlib.Core.Path.{_≡_};
-ghost use Rattle.protocol.specs.Calls.{startRead, startWrite, deliver, show, clear};
-ghost use Rattle.protocol.specs.Calls.{numberOfAnswer};
+ghost use Rattle.protocol.specs.Calls.{startRead, startWrite, deliver, show, clear, handOver};
+ghost use Rattle.protocol.specs.Calls.{compare, numberOfAnswer};
 ghost use Rattle.layout.specs.Decode.{tablesOf};
 ghost use Rattle.gather.specs.Sized.{sizes};
 ghost use Rattle.block_calls.specs.Calls.{freshAnswerOn, freshAfter, freshTables, answerOn};
@@ -26,6 +26,11 @@ fn number_of(a: Answer) -> u64
         } => kind * 256 + length * 65536 + outcome * 4294967296,
         Answer::Shown { length } => length * 256,
         Answer::Cleared { gone } => gone * 256,
+        Answer::HandedOver {
+            giver: _,
+            receiver: _,
+        } => 0,
+        Answer::Compared { standing } => standing * 256,
     }
 }
 
@@ -95,4 +100,25 @@ pub extern "C" fn koolvent_clear(b: &mut [u64]) -> u64
     ensures tables { λ _. ⌜ tablesOf (now (b .exit)) ≡ tablesAfter (now (b .entry)) clear ⌝ }
 {
     number_of(store_calls::clear(b))
+}
+
+#[no_mangle]
+pub extern "C" fn koolvent_hand_over(b: &mut [u64], giver: u64, receiver: u64) -> u64
+    ensures answer { λ r. ⌜ r ≡ numberOfAnswer
+        (answerOn (now (b .entry)) (handOver giver receiver)) ⌝ }
+    ensures block { λ _. ⌜ now (b .exit) ≡ blockAfter (now (b .entry)) (handOver giver receiver) ⌝ }
+    ensures tables { λ _. ⌜ tablesOf (now (b .exit))
+        ≡ tablesAfter (now (b .entry)) (handOver giver receiver) ⌝ }
+{
+    number_of(store_calls::hand_over(b, giver, receiver))
+}
+
+// The block is lent shared: a comparison doesn't change it.
+#[no_mangle]
+pub extern "C" fn koolvent_compare(b: &[u64], first: u64, second: u64) -> u64
+    ensures answer { λ r. ⌜ r ≡ numberOfAnswer
+        (answerOn (now (b .entry)) (compare first second)) ⌝ }
+    ensures block { λ _. ⌜ now (b .exit) ≡ blockAfter (now (b .entry)) (compare first second) ⌝ }
+{
+    number_of(store_calls::compare(b, first, second))
 }

@@ -1,6 +1,6 @@
 // The calls but a delivery, each with its answer. A refused one changes nothing.
 ghost use mathlib.Core.Path.{_≡_};
-ghost use Rattle.protocol.specs.Calls.{startRead, startWrite, show, clear};
+ghost use Rattle.protocol.specs.Calls.{startRead, startWrite, show, clear, handOver, compare};
 ghost use Rattle.layout.specs.Decode.{tablesOf};
 ghost use Rattle.gather.specs.Sized.{sizes};
 ghost use Rattle.block_calls.specs.Calls.{freshAnswerOn, freshAfter, freshTables, refusalOn};
@@ -128,6 +128,54 @@ pub fn clear(b: &mut [u64]) -> Answer
     let refusal = refusals::of_clear(b);
     if refusal == 0 {
         clear_on(b)
+    } else {
+        Answer::Refused(refusal)
+    }
+}
+
+// A hand-over that is accepted.
+fn hand_over_on(b: &mut [u64], giver: u64, receiver: u64) -> Answer
+    requires { ⌜ refusalOn (now b) (handOver giver receiver) ≡ 0 ⌝ }
+    ensures answer { λ r. ⌜ r ≡ answerOn (now (b .entry)) (handOver giver receiver) ⌝ }
+    ensures block { λ _. ⌜ now (b .exit) ≡ blockAfter (now (b .entry)) (handOver giver receiver) ⌝ }
+{
+    let items = layout::items(b);
+    hand_over::hand_over(b, giver, receiver, items);
+    Answer::HandedOver { giver, receiver }
+}
+
+pub fn hand_over(b: &mut [u64], giver: u64, receiver: u64) -> Answer
+    ensures answer { λ r. ⌜ r ≡ answerOn (now (b .entry)) (handOver giver receiver) ⌝ }
+    ensures block { λ _. ⌜ now (b .exit) ≡ blockAfter (now (b .entry)) (handOver giver receiver) ⌝ }
+    ensures tables { λ _. ⌜ tablesOf (now (b .exit))
+        ≡ tablesAfter (now (b .entry)) (handOver giver receiver) ⌝ }
+{
+    let refusal = refusals::of_hand_over(b, giver, receiver);
+    if refusal == 0 {
+        hand_over_on(b, giver, receiver)
+    } else {
+        Answer::Refused(refusal)
+    }
+}
+
+// A comparison that is accepted.
+fn compare_on(b: &[u64], first: u64, second: u64) -> Answer
+    requires { ⌜ refusalOn (now b) (compare first second) ≡ 0 ⌝ }
+    ensures answer { λ r. ⌜ r ≡ answerOn (now (b .entry)) (compare first second) ⌝ }
+{
+    let items = layout::items(b);
+    let standing = hand_over::compare(b, first, second, items);
+    Answer::Compared { standing }
+}
+
+// The block is lent shared: a comparison doesn't change it.
+pub fn compare(b: &[u64], first: u64, second: u64) -> Answer
+    ensures answer { λ r. ⌜ r ≡ answerOn (now (b .entry)) (compare first second) ⌝ }
+    ensures block { λ _. ⌜ now (b .exit) ≡ blockAfter (now (b .entry)) (compare first second) ⌝ }
+{
+    let refusal = refusals::of_compare(b, first, second);
+    if refusal == 0 {
+        compare_on(b, first, second)
     } else {
         Answer::Refused(refusal)
     }

@@ -11,14 +11,16 @@ use Rattle.hex.specs.Number.{numberAt, bigEndian}
 use Rattle.hex.specs.Text.{isHex, bytesOf, hexText}
 use Rattle.protocol.specs.declared.Answer.{Answer}
 use Rattle.protocol.specs.declared.Answer.the-variants.{Refused, Made, Started, Delivered, Shown}
-use Rattle.protocol.specs.declared.Answer.the-variants.{Cleared}
+use Rattle.protocol.specs.declared.Answer.the-variants.{Cleared, HandedOver, Compared}
 use Rattle.protocol.specs.Calls.{bytesOfAnswer}
 use Rattle.store_frames.specs.declared.StoreFrame.the-variants.{Fresh, Read, Write}
 use Rattle.store_frames.specs.declared.StoreFrame.the-variants.{Deliver, Show, Clear}
+use Rattle.store_frames.specs.declared.StoreFrame.the-variants.{HandOver, Compare}
 use Rattle.store_frames.specs.declared.Parsed.{Parsed}
 use Rattle.store_frames.specs.declared.Parsed.the-variants.{Frame, Malformed}
 use Rattle.store_frames.specs.Answers.{answerLine}
-use Rattle.store_frames.specs.StoreFrames.{frameBytes, parsed, storeFrameOf, valueBytes}
+use Rattle.store_frames.specs.StoreFrames.{frameBytes, parsed, parsedLater, storeFrameOf}
+use Rattle.store_frames.specs.StoreFrames.{valueBytes}
 
 -- the bytes of a text
 bytes : String → List ℕ
@@ -54,6 +56,8 @@ handedOn (Frame (Write client s) n) f = valueBytes f
 handedOn (Frame (Deliver place) n) f = []
 handedOn (Frame (Show client) n) f = []
 handedOn (Frame Clear n) f = []
+handedOn (Frame (HandOver giver receiver) n) f = []
+handedOn (Frame (Compare first second) n) f = []
 
 -- what the definitions give for its line
 reading : Row → Row
@@ -100,11 +104,25 @@ rows =
     -- clear
     ∷ "40\n" ⇒ Frame Clear 1
     ∷ "4000\n" ⇒ Malformed
+    -- hand over: the giver, then the receiver
+    ∷ "410102\n" ⇒ Frame (HandOver 1 2) 3
+    ∷ "41ff00\n" ⇒ Frame (HandOver 255 0) 3
+    ∷ "41\n" ⇒ Malformed
+    ∷ "4101\n" ⇒ Malformed
+    ∷ "41010203\n" ⇒ Malformed
+    -- compare: the first, then the second
+    ∷ "420801\n" ⇒ Frame (Compare 8 1) 3
+    ∷ "420101\n" ⇒ Frame (Compare 1 1) 3
+    ∷ "42\n" ⇒ Malformed
+    ∷ "4208\n" ⇒ Malformed
+    ∷ "42080100\n" ⇒ Malformed
     -- kinds that there aren't, and no byte at all
     ∷ "7f\n" ⇒ Malformed
     ∷ "0002\n" ⇒ Malformed
     ∷ "0602\n" ⇒ Malformed
     ∷ "2102\n" ⇒ Malformed
+    ∷ "220102\n" ⇒ Malformed
+    ∷ "430102\n" ⇒ Malformed
     ∷ "\n" ⇒ Malformed
     ∷ "" ⇒ Malformed
     -- a last line without its 0a
@@ -151,12 +169,16 @@ answers =
     -- of the output, the frame's bytes
     ∷ Shown 2 answered "002102\n"
     ∷ Cleared 258 answered "000102\n"
+    -- the log frame, whatever the output
+    ∷ HandedOver 1 8 answered "00220108\n"
+    ∷ Compared 0 answered "0000\n"
+    ∷ Compared 3 answered "0003\n"
     ∷ []
 
 -- ---- Each line and each answer is as its row says
 
 examples : (map reading rows ≡ rows) × (map answering answers ≡ answers)
-unfolding rows reading handedOn bytes times answers answering frameBytes parsed answerLine
-    bytesOfAnswer
+unfolding rows reading handedOn bytes times answers answering frameBytes parsed parsedLater
+    answerLine bytesOfAnswer
     isHex bytesOf hexText pair digit hexDigit numberAt bigEndian
 examples = (refl, refl)

@@ -11,10 +11,12 @@ use Rattle.basics.proofs.Cases.{by-test, and-left, and-right}
 use Rattle.store_frames.specs.Limits.{mostFrame}
 use Rattle.store_frames.specs.declared.StoreFrame.{StoreFrame}
 use Rattle.store_frames.specs.declared.StoreFrame.the-variants.{Fresh, Read, Write, Deliver}
-use Rattle.store_frames.specs.declared.StoreFrame.the-variants.{Show, Clear}
+use Rattle.store_frames.specs.declared.StoreFrame.the-variants.{Show, Clear, HandOver}
+use Rattle.store_frames.specs.declared.StoreFrame.the-variants.{Compare}
 use Rattle.store_frames.specs.declared.Parsed.{Parsed}
 use Rattle.store_frames.specs.declared.Parsed.the-variants.{Frame, Malformed}
 use Rattle.store_frames.specs.StoreFrames.{kindOf, isStoreFrame, valuesIn, isWrite, parsed}
+use Rattle.store_frames.specs.StoreFrames.{parsedLater}
 
 -- ---- the same numbers make the same frame
 
@@ -53,12 +55,12 @@ isWrite-other f h =
 -- ---- no frame
 
 pub parsed-none : parsed [] ≡ Malformed
-unfolding parsed
+unfolding parsed parsedLater
 parsed-none = refl
 
 -- more bytes than the longest frame has
 pub parsed-long : (f : List ℕ) → mostFrame < length f → parsed f ≡ Malformed
-unfolding parsed
+unfolding parsed parsedLater
 parsed-long f h =
     rw (
       isStoreFrame-other 0x01 4 f (λ e. omega arith),
@@ -69,6 +71,8 @@ parsed-long f h =
           (λ e. omega arith),
       isStoreFrame-other 0x05 2 f (λ e. omega arith),
       isStoreFrame-other 0x40 1 f (λ e. omega arith),
+      isStoreFrame-other 0x41 3 f (λ e. omega arith),
+      isStoreFrame-other 0x42 3 f (λ e. omega arith),
     )
 
 -- ---- a frame: its length is that of the bytes, and a write has ten bytes before its values
@@ -80,10 +84,20 @@ Headed f (Write client s) = 10 ≤ length f
 Headed f (Deliver place) = Unit
 Headed f (Show client) = Unit
 Headed f Clear = Unit
+Headed f (HandOver giver receiver) = Unit
+Headed f (Compare first second) = Unit
 
 abbrev Sized : List ℕ → Parsed → Type 0
 Sized f Malformed = Unit
 Sized f (Frame g n) = (n ≡ length f) × Headed f g
+
+later-sized : (f : List ℕ) → Sized f (parsedLater f)
+unfolding parsedLater
+later-sized f =
+    by-test (isStoreFrame 0x40 1 f) (λ a. rw a (refl, tt))
+    (λ a. by-test (isStoreFrame 0x41 3 f) (λ b. rw (a, b) (refl, tt))
+    (λ b. by-test (isStoreFrame 0x42 3 f) (λ c. rw (a, b, c) (refl, tt))
+    (λ c. rw (a, b, c) tt)))
 
 parsed-sized : (f : List ℕ) → Sized f (parsed f)
 unfolding parsed
@@ -93,8 +107,7 @@ parsed-sized f =
     (λ b. by-test (isWrite f) (λ c. rw (a, b, c) (refl, isWrite-length f c .0))
     (λ c. by-test (isStoreFrame 0x04 3 f) (λ d. rw (a, b, c, d) (refl, tt))
     (λ d. by-test (isStoreFrame 0x05 2 f) (λ e. rw (a, b, c, d, e) (refl, tt))
-    (λ e. by-test (isStoreFrame 0x40 1 f) (λ g. rw (a, b, c, d, e, g) (refl, tt))
-    (λ g. rw (a, b, c, d, e, g) tt))))))
+    (λ e. rw (a, b, c, d, e) (later-sized f))))))
 
 pub parsed-length : (f : List ℕ) (g : StoreFrame) (n : ℕ) → Frame g n ≡ parsed f → n ≡ length f
 parsed-length f g n e = subst (Sized f) (sym e) (parsed-sized f) .0

@@ -12,7 +12,8 @@ use Rattle.hex.proofs.Stores.{sets-join}
 use Rattle.hex.specs.Text.{hexText}
 use Rattle.hex.proofs.Text.{length-hexText}
 use Rattle.protocol.specs.declared.Answer.the-variants.{Refused, Made, Started, Delivered, Shown}
-use Rattle.protocol.specs.declared.Answer.the-variants.{Cleared}
+use Rattle.protocol.specs.declared.Answer.the-variants.{Cleared, HandedOver, Compared}
+use Rattle.protocol.specs.LogFrame.{handOverFrame}
 use Rattle.protocol.specs.Calls.{bytesOfAnswer}
 use Rattle.store_frames.specs.Answers.{lineOf, answerLine}
 
@@ -93,6 +94,35 @@ pub answer-cleared : (n : ℕ) (output : List ℕ)
     → lineOf (bigEndian 3 (n % 65536)) ≡ answerLine (Cleared n) output
 unfolding answerLine bytesOfAnswer
 answer-cleared n output = ap lineOf (started-bytes n)
+
+handed-over-bytes : (giver receiver : ℕ)
+    → bigEndian 4 (2228224 + giver % 256 * 256 + receiver % 256) ≡ 0 ∷ handOverFrame giver receiver
+unfolding bigEndian
+handed-over-bytes giver receiver =
+    let x = 2228224 + giver % 256 * 256 + receiver % 256 in
+    let status : x / 256 / 256 / 256 % 256 ≡ 0 = omega arith in
+    let kind : x / 256 / 256 % 256 ≡ 0x22 = omega arith in
+    let mid : x / 256 % 256 ≡ giver % 256 = omega arith in
+    let low : x % 256 ≡ receiver % 256 = omega arith in
+    rw (status, kind, mid, low)
+
+pub answer-handed-over : (giver receiver : ℕ) (output : List ℕ)
+    → lineOf (bigEndian 4 (2228224 + giver % 256 * 256 + receiver % 256)) ≡ answerLine
+    (HandedOver giver receiver) output
+unfolding answerLine bytesOfAnswer
+answer-handed-over giver receiver output = ap lineOf (handed-over-bytes giver receiver)
+
+compared-bytes : (n : ℕ) → bigEndian 2 (n % 256) ≡ 0 ∷ bigEndian 1 n
+unfolding bigEndian
+compared-bytes n =
+    let high : n % 256 / 256 % 256 ≡ 0 = omega arith in
+    let low : n % 256 % 256 ≡ n % 256 = omega arith in
+    rw (high, low)
+
+pub answer-compared : (n : ℕ) (output : List ℕ)
+    → lineOf (bigEndian 2 (n % 256)) ≡ answerLine (Compared n) output
+unfolding answerLine bytesOfAnswer
+answer-compared n output = ap lineOf (compared-bytes n)
 
 -- what one line is written as, another that is the same is
 pub written : {r : ℕ} (out : List ℕ) {after l m : List ℕ} → l ≡ m → (r ≡ length l)

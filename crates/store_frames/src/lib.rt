@@ -33,6 +33,14 @@ pub enum StoreFrame {
         client: u64,
     },
     Clear,
+    HandOver {
+        giver: u64,
+        receiver: u64,
+    },
+    Compare {
+        first: u64,
+        second: u64,
+    },
 }
 
 // What a line parses to.

@@ -3,6 +3,7 @@
 use super::log;
 use super::refusals::refused;
 use super::words::count;
+use crate::answer::{AHEAD, BEHIND, NEITHER, SAME};
 use crate::call::Call;
 use crate::frames::hex::from_line;
 use crate::frames::log::LogFrame;
@@ -36,8 +37,26 @@ fn accepted(frame: &Call, bytes: &[u8]) -> Option<String> {
             Some(format!("{} went", count(gone.into(), "version")))
         }
         (Call::Show { .. }, [0, frame @ ..]) => {
-            LogFrame::parse(frame).ok().map(|frame| log::sentence(&frame))
+            let frame = LogFrame::parse(frame).ok().filter(|frame| frame.receiver.is_none())?;
+            Some(log::sentence(&frame))
         }
+        (Call::HandOver { giver, receiver }, [0, frame @ ..]) => {
+            let frame = LogFrame::parse(frame).ok()?;
+            let named = (frame.client.into(), frame.receiver.map(u64::from));
+            (named == (*giver, Some(*receiver))).then(|| log::sentence(&frame))
+        }
+        (Call::Compare { first, second }, [0, standing]) => stands(*standing, *first, *second),
+        _ => None,
+    }
+}
+
+/// How the first client's view stands to the second's.
+fn stands(standing: u8, first: u64, second: u64) -> Option<String> {
+    match standing.into() {
+        SAME => Some("they are the same".to_owned()),
+        BEHIND => Some(format!("client {first} is behind client {second}")),
+        AHEAD => Some(format!("client {first} is ahead of client {second}")),
+        NEITHER => Some("each has an entry later than the other's".to_owned()),
         _ => None,
     }
 }

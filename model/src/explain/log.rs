@@ -59,7 +59,9 @@ pub fn sentence(frame: &LogFrame) -> String {
     let wrote = frame.write.as_ref().map(|WritePart { set, number, values }| {
         format!("write number {number} of client {client}: {}", valued(*set, values))
     });
-    let parts: Vec<String> = shown.into_iter().chain(wrote).collect();
+    let handed_over =
+        frame.receiver.map(|receiver| format!("client {client} hands over to client {receiver}"));
+    let parts: Vec<String> = shown.into_iter().chain(wrote).chain(handed_over).collect();
     parts.join("; ")
 }
 

@@ -1,6 +1,6 @@
 //! The refusals of documents 01 and 02 in words.
 
-const WORDS: [&str; 17] = [
+const WORDS: [&str; 18] = [
     "the block is too short or damaged, or no fresh start was accepted yet",
     "sizes outside 1 to 8 clients, 1 to 8 partitions and 1 to 64 items",
     "no such client",
@@ -18,6 +18,7 @@ const WORDS: [&str; 17] = [
     "malformed",
     "over 32,768 bytes or over 256 line ends",
     "a write of more than 12 items",
+    "a hand-over of a client to itself",
 ];
 
 /// The sentence of a refusal's number, if it is one.

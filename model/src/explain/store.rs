@@ -22,6 +22,12 @@ pub fn sentence(call: &Call) -> String {
         Call::Deliver { place } => format!("the message at place {place} is delivered"),
         Call::Show { client, .. } => format!("client {client} is asked what it ended last"),
         Call::Clear => "old versions are cleared away".to_owned(),
+        Call::HandOver { giver, receiver } => {
+            format!("client {giver} is to hand over to client {receiver}")
+        }
+        Call::Compare { first, second } => {
+            format!("client {first}'s view is compared with client {second}'s")
+        }
     }
 }
 

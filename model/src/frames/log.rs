@@ -1,12 +1,15 @@
-//! Log frames: what a client wrote and what a client was shown.
+//! Log frames: what a client wrote, what a client was shown, and who handed over to whom.
 
 use super::hex::{number, to_hex};
 use crate::set::items;
 use crate::stamp::Stamp;
 
-/// Kind bytes of frames, in words, and whether each has a read part and a write part.
-const KINDS: [(u8, &str, bool, bool); 2] =
-    [(0x20, "write", false, true), (0x21, "read", true, false)];
+/// Kind bytes of frames, in words, and whether each has a read part, a write part and a receiver.
+const KINDS: [(u8, &str, [bool; 3]); 3] = [
+    (0x20, "write", [false, true, false]),
+    (0x21, "read", [true, false, false]),
+    (0x22, "hand-over", [false, false, true]),
+];
 
 /// What a read shows of one item: the number and client (the writing desk) of its stamp, and its
 /// value.
@@ -22,13 +25,15 @@ impl Shown {
     pub const INITIAL: Shown = Shown { number: 0, client: 0, value: 0 };
 }
 
-/// A log frame: what a client was shown and what it wrote, of which its kind has one. A client is
-/// document 01's desk.
+/// A log frame: what a client was shown, what it wrote, or to whom it handed over, of which its
+/// kind has one. A client is document 01's desk.
 #[derive(Clone, Debug, PartialEq, Eq)]
 pub struct LogFrame {
+    /// Of a hand-over, the giver.
     pub client: u8,
     pub read: Option<ReadPart>,
     pub write: Option<WritePart>,
+    pub receiver: Option<u8>,
 }
 
 /// In `21`: set, then per line number, writing desk, value. A set holds item k (document 01's line
@@ -58,18 +63,24 @@ pub struct Entry {
 impl LogFrame {
     /// A frame `20`.
     pub fn of_write(client: u8, set: u64, number: u32, values: Vec<u32>) -> LogFrame {
-        LogFrame { client, read: None, write: Some(WritePart { set, number, values }) }
+        let write = Some(WritePart { set, number, values });
+        LogFrame { client, read: None, write, receiver: None }
     }
 
     /// A frame `21`.
     pub fn of_read(client: u8, set: u64, shown: Vec<Shown>) -> LogFrame {
-        LogFrame { client, read: Some(ReadPart { set, shown }), write: None }
+        LogFrame { client, read: Some(ReadPart { set, shown }), write: None, receiver: None }
+    }
+
+    /// A frame `22`.
+    pub fn of_hand_over(giver: u8, receiver: u8) -> LogFrame {
+        LogFrame { client: giver, read: None, write: None, receiver: Some(receiver) }
     }
 
     /// The frame's bytes, most significant byte first.
     pub fn bytes(&self) -> Vec<u8> {
-        let parts = (self.read.is_some(), self.write.is_some());
-        let kind = KINDS.iter().find(|(_, _, read, write)| (*read, *write) == parts);
+        let parts = [self.read.is_some(), self.write.is_some(), self.receiver.is_some()];
+        let kind = KINDS.iter().find(|(_, _, has)| *has == parts);
         let mut bytes = vec![kind.expect("a frame with a part").0, self.client];
         if let Some(read) = &self.read {
             bytes.extend(read.set.to_be_bytes());
@@ -84,6 +95,7 @@ impl LogFrame {
             bytes.extend(write.number.to_be_bytes());
             bytes.extend(write.values.iter().flat_map(|value| value.to_be_bytes()));
         }
+        bytes.extend(self.receiver);
         bytes
     }
 
@@ -91,11 +103,11 @@ impl LogFrame {
     /// what is wrong. Whether its client, set and numbers will do is for the judge.
     pub fn parse(bytes: &[u8]) -> Result<LogFrame, String> {
         let first = bytes.first().copied().unwrap_or_default();
-        let Some((_, name, read, write)) = KINDS.iter().find(|(kind, ..)| *kind == first) else {
+        let Some((_, name, has)) = KINDS.iter().find(|(kind, ..)| *kind == first) else {
             return Err(format!("unknown kind {first:02x}"));
         };
         let mut rest = Rest(&bytes[1..]);
-        let frame = rest.frame(*read, *write).filter(|_| rest.0.is_empty());
+        let frame = rest.frame(*has).filter(|_| rest.0.is_empty());
         frame.ok_or_else(|| wrong_length(name, bytes))
     }
 
@@ -138,11 +150,12 @@ impl<'a> Rest<'a> {
         Some(taken)
     }
 
-    fn frame(&mut self, read: bool, write: bool) -> Option<LogFrame> {
+    fn frame(&mut self, [read, write, receiver]: [bool; 3]) -> Option<LogFrame> {
         let client = self.take(1)?[0];
         let read = if read { Some(self.read_part()?) } else { None };
         let write = if write { Some(self.write_part()?) } else { None };
-        Some(LogFrame { client, read, write })
+        let receiver = if receiver { Some(self.take(1)?[0]) } else { None };
+        Some(LogFrame { client, read, write, receiver })
     }
 
     fn read_part(&mut self) -> Option<ReadPart> {
@@ -165,6 +178,9 @@ impl<'a> Rest<'a> {
 
 fn wrong_length(name: &str, bytes: &[u8]) -> String {
     let length = bytes.len();
+    if name == "hand-over" {
+        return format!("wrong length: a hand-over has 3 bytes, this {length}");
+    }
     let Some(set) = bytes.get(2..10) else {
         return format!("wrong length: {length}, too short for a client and a set");
     };

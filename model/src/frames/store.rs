@@ -38,12 +38,20 @@ pub fn parse(line: &[u8]) -> Result<Call, String> {
             return Ok(Call::Show { client, output });
         }
         [0x40] => return Ok(Call::Clear),
+        [0x41, giver, receiver] => {
+            return Ok(Call::HandOver { giver: giver.into(), receiver: receiver.into() })
+        }
+        [0x42, first, second] => {
+            return Ok(Call::Compare { first: first.into(), second: second.into() })
+        }
         [1, ..] => "a fresh start has 4 bytes",
         [2, ..] => "a read has 10 bytes",
         [3, ..] => "a write has 10 bytes and 4 for each of at most 64 values",
         [4, ..] => "a delivery has 3 bytes",
         [5, ..] => "a showing has 2 bytes",
         [0x40, ..] => "a clearing has 1 byte",
+        [0x41, ..] => "a hand-over has 3 bytes",
+        [0x42, ..] => "a comparison has 3 bytes",
         _ => return Err(format!("unknown kind {:02x}", bytes[0])),
     };
     Err(format!("wrong length: {right}, this {}", bytes.len()))

@@ -1,6 +1,7 @@
-//! Logs with the verdicts that document 01 gives them, worked out by hand from its text.
+//! Logs with the verdicts that documents 01 and 02 give them, worked out by hand from their text.
 
 mod fractured;
+mod inherited;
 mod limits;
 mod malformed_fields;
 mod malformed_text;
@@ -35,6 +36,7 @@ pub fn findings() -> Vec<Example> {
     let mut findings = unwritten::examples();
     findings.extend(fractured::examples());
     findings.extend(own_write_missed::examples());
+    findings.extend(inherited::examples());
     findings.extend(precedence::examples());
     findings
 }
@@ -83,4 +85,9 @@ fn read(client: u8, set: u64, shown: &[(u32, u8, u32)]) -> String {
         .map(|(number, writer, value)| format!("{number:08x}{writer:02x}{value:08x}"))
         .collect();
     format!("21{client:02x}{set:016x}{shown}\n")
+}
+
+/// A line `22`: giver, receiver.
+fn hand_over(giver: u8, receiver: u8) -> String {
+    format!("22{giver:02x}{receiver:02x}\n")
 }

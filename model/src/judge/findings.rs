@@ -3,6 +3,7 @@
 
 use crate::frames::log::{Entry, LogFrame};
 use crate::stamp::Stamp;
+use std::collections::BTreeMap;
 
 /// What of the read at this place of the log, counted from 0, has the fault, in words; nothing
 /// where none of it has.
@@ -58,26 +59,54 @@ pub fn fractured(log: &[LogFrame], place: usize) -> Option<String> {
     None
 }
 
-/// Finding 3: a write above, by the same client, wrote a shown item with a later stamp.
+/// Finding 3: a write above, by the same client or taken over by it, wrote a shown item with a
+/// later stamp.
 pub fn own_write_missed(log: &[LogFrame], place: usize) -> Option<String> {
-    let client = log[place].client;
+    let own = own_writes(log, place);
     for entry in log[place].shown() {
-        for (line, write) in (1..).zip(&log[..place]) {
-            if write.client != client {
-                continue;
-            }
-            for own in write.written() {
-                if own.item == entry.item && entry.stamp < own.stamp {
-                    let (source, number) = (source(&entry), own.stamp.number);
+        for (line, way) in &own {
+            for wrote in log[*line].written() {
+                if wrote.item == entry.item && entry.stamp < wrote.stamp {
+                    let who = whose(log, place, *line, way);
+                    let (source, number, line) = (source(&entry), wrote.stamp.number, line + 1);
                     return Some(format!(
-                        "{source}, and client {client} itself wrote it later: \
-                         write number {number}, log line {line}"
+                        "{source}, and {who} wrote it later: write number {number}, log line {line}"
                     ));
                 }
             }
         }
     }
     None
+}
+
+/// The writes above this place that count as its client's own, by their places, each with the
+/// hand-overs that made it so, the uppermost first. Going up, whoever hands over to a client that
+/// counts, counts from there on: what it writes below the hand-over doesn't.
+fn own_writes(log: &[LogFrame], place: usize) -> Vec<(usize, Vec<usize>)> {
+    let mut ways: BTreeMap<u8, Vec<usize>> = BTreeMap::from([(log[place].client, Vec::new())]);
+    let mut own = Vec::new();
+    for (line, frame) in log[..place].iter().enumerate().rev() {
+        let way = ways.get(&frame.client);
+        own.extend(way.filter(|_| frame.write.is_some()).map(|way| (line, way.clone())));
+        if let Some(way) = frame.receiver.and_then(|receiver| ways.get(&receiver)) {
+            let longer = [&[line], &way[..]].concat();
+            ways.entry(frame.client).or_insert(longer);
+        }
+    }
+    own.reverse();
+    own
+}
+
+/// The client of the write at this line, and how the write became the reading client's own.
+fn whose(log: &[LogFrame], place: usize, line: usize, way: &[usize]) -> String {
+    let (reader, writer) = (log[place].client, log[line].client);
+    let lines: Vec<String> = way.iter().map(|line| (line + 1).to_string()).collect();
+    let by = match &lines[..] {
+        [] => return format!("client {reader} itself"),
+        [one] => format!("the hand-over of log line {one}"),
+        [most @ .., last] => format!("the hand-overs of log lines {} and {last}", most.join(", ")),
+    };
+    format!("client {writer}, whose writes came to client {reader} by {by},")
 }
 
 /// An item and the write that it is shown from.

@@ -27,6 +27,15 @@ fn wrong_field(frame: &LogFrame, above: &[Result<LogFrame, String>]) -> Option<S
     if !is_client(client.into()) {
         return Some(format!("client {client}, and clients are 1 to 8"));
     }
+    match frame.receiver {
+        Some(receiver) if !is_client(receiver.into()) => {
+            return Some(format!("receiver {receiver}, and clients are 1 to 8"));
+        }
+        Some(receiver) if receiver == client => {
+            return Some(format!("client {client} hands over to itself"));
+        }
+        _ => (),
+    }
     let read_set = frame.read.as_ref().map(|read| read.set);
     let write_set = frame.write.as_ref().map(|write| write.set);
     if [read_set, write_set].contains(&Some(0)) {

@@ -10,11 +10,12 @@ pub fn store_fresh(words: &mut [u64], sizes: Sizes) {
     store_fields(words, &Tables::fresh(sizes));
 }
 
-/// The block of an accepted start, delivery or clearing that left these tables; `delivered` is the
-/// place of the message that was taken out. Later messages move up with all their words, those that
-/// join have 0 in the words that their kind doesn't use, a got's value is written for its item also
-/// where its read ends, and any other word that is no field of the tables keeps its value: so do
-/// those of versions past their new count.
+/// The block of an accepted start, delivery, clearing or hand-over that left these tables;
+/// `delivered` is the place of the message that was taken out. Later messages move up with all
+/// their words, those that join have 0 in the words that their kind doesn't use, a got's value is
+/// written for its item also where its read ends, and any other word that is no field of the tables
+/// keeps its value: so do those of versions past their new count, and of a view's items that don't
+/// exist.
 pub fn store_step(words: &mut [u64], delivered: Option<usize>, after: &Tables) {
     let mut messages = words[places::MESSAGES] as usize;
     if let Some(place) = delivered {

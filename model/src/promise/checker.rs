@@ -29,13 +29,13 @@ impl Checker {
             }
             _ if !self.begun => return Err(Clause::Fresh),
             (Call::Read { client, set }, Answer::Started { .. }) => {
-                self.history.start_read(place, *client, *set);
+                self.history.start_read(*client, *set);
             }
             (Call::Write { client, set, values }, Answer::Started { .. }) => {
                 clauses::write_is_later_than_all_shown_before(&self.history, *client)?;
                 let taken = self.history.places_taken() + size(*set);
                 self.summary.served += usize::from(taken > VERSION_CAPACITY);
-                self.history.start_write(place, *client, *set, values);
+                self.history.start_write(*client, *set, values);
             }
             (Call::Write { set, .. }, _) => {
                 clauses::freed_places_serve(&self.history, *set, answer)?;
@@ -47,7 +47,11 @@ impl Checker {
                 self.history.clear(gone);
                 self.summary.gone += gone;
             }
-            (Call::Fresh { .. } | Call::Read { .. }, _) => (),
+            (Call::HandOver { giver, receiver }, Answer::HandedOver { .. }) => {
+                self.history.hand_over(*giver, *receiver);
+            }
+            (Call::Fresh { .. } | Call::Read { .. } | Call::HandOver { .. }, _)
+            | (Call::Compare { .. }, _) => (),
         }
         clauses::length_is_that_of_the_list(&self.history, answer)?;
         clauses::one_message_for_each_awaited_item(&self.history)?;
@@ -83,17 +87,26 @@ impl Checker {
         let written = frame.shown().into_iter().filter(|entry| entry.stamp != Stamp::INITIAL);
         summary.reads_shown += usize::from(frame.read.is_some());
         summary.written_entries_shown += written.count();
-        match self.history.last_ended(client).map(|last| &last.part) {
-            Some(Part::Write(write)) => {
+        let Some(last) = self.history.last_ended(client) else {
+            return;
+        };
+        match &last.part {
+            Part::Write(write) => {
                 summary.corrections += usize::from(![0, client].contains(&write.after.client));
             }
-            Some(Part::Read(read)) => {
+            Part::Read(read) => {
                 let again = frame.shown().into_iter().filter(|entry| {
                     read.after.get(&entry.item).is_some_and(|before| *before != Stamp::INITIAL)
                 });
                 summary.shown_again += again.count();
+                let by_others = frame.shown().into_iter().filter(|entry| {
+                    let own = self.history.own_writes(last);
+                    let wrote = own.filter(|(_, write)| write.value(entry.item).is_some());
+                    let latest = wrote.max_by_key(|(_, write)| write.stamp);
+                    latest.is_some_and(|(of, _)| of.client != client)
+                });
+                summary.taken_over += by_others.count();
             }
-            None => (),
         }
     }
 

@@ -102,9 +102,12 @@ pub(super) fn length_is_that_of_the_list(history: &History, answer: Answer) -> R
         Answer::Started { messages } | Answer::Delivered { messages, .. } => {
             holds(messages == history.messages.len() as u64, Clause::Length)
         }
-        Answer::Refused(_) | Answer::Fresh | Answer::Shown { .. } | Answer::Cleared { .. } => {
-            Ok(())
-        }
+        Answer::Refused(_)
+        | Answer::Fresh
+        | Answer::Shown { .. }
+        | Answer::Cleared { .. }
+        | Answer::HandedOver { .. }
+        | Answer::Compared { .. } => Ok(()),
     }
 }
 

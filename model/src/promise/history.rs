@@ -2,14 +2,15 @@
 //!
 //! A message is of the client whose start put it there, or of the same client as the message whose
 //! delivery did. With the labels go the numbers that make a write's: a client learns a number by
-//! writing, and by a got, which has that of its item's latest write when the get was delivered. The
-//! number of a got's version its client knew already, since it asked for it.
+//! writing, by a hand-over, and by a got, which has that of its item's latest write when the get was
+//! delivered. The number of a got's version its client knew already, since it asked for it. And with
+//! them go the writes that count as each client's own.
 
 use crate::frames::hex;
 use crate::frames::log::LogFrame;
 use crate::set::{items, size};
 use crate::stamp::Stamp;
-use std::collections::BTreeMap;
+use std::collections::{BTreeMap, BTreeSet};
 
 /// The kinds of message, with their numbers.
 #[derive(Clone, Copy, Debug, PartialEq, Eq)]
@@ -85,13 +86,15 @@ pub(super) enum Part {
     Write(Write),
 }
 
-/// A read or write from its accepted start, with the events of its start and end.
+/// A read or write from its accepted start, with the event of its end.
 #[derive(Clone, Debug)]
 pub(super) struct Transaction {
     pub(super) client: u64,
     pub(super) set: u64,
-    pub(super) started: usize,
     pub(super) ended: Option<usize>,
+    /// The writes that counted as its client's own at its start, by their places among the
+    /// transactions.
+    own: BTreeSet<usize>,
     pub(super) part: Part,
 }
 
@@ -101,6 +104,9 @@ pub(super) struct History {
     partitions: u64,
     pub(super) messages: Vec<Label>,
     pub(super) transactions: Vec<Transaction>,
+    /// By client: the writes that count as its own, those that it has ended and those that it was
+    /// handed, by their places among the transactions.
+    own: BTreeMap<u64, BTreeSet<usize>>,
     /// By item: the greatest number of a write of it whose commit at its partition was delivered.
     committed: BTreeMap<u64, u64>,
     /// By client: the greatest number that it has written or learnt of.
@@ -123,10 +129,10 @@ impl History {
     }
 
     /// An accepted read start: one get per item joins.
-    pub(super) fn start_read(&mut self, event: usize, client: u64, set: u64) {
+    pub(super) fn start_read(&mut self, client: u64, set: u64) {
         let after = self.read.get(&client).cloned().unwrap_or_default();
         let read = Read { after, ..Read::default() };
-        self.start(event, client, set, Part::Read(read), Kind::Get);
+        self.start(client, set, Part::Read(read), Kind::Get);
         let joined = size(set) as usize;
         for read in self.running_reads_mut(client) {
             read.requests += joined;
@@ -134,7 +140,7 @@ impl History {
     }
 
     /// An accepted write start: one prepare per item joins.
-    pub(super) fn start_write(&mut self, event: usize, client: u64, set: u64, values: &[u8]) {
+    pub(super) fn start_write(&mut self, client: u64, set: u64, values: &[u8]) {
         let items: Vec<u64> = items(set).collect();
         let values = values.chunks_exact(4).map(|value| hex::number(value) as u32);
         let write = Write {
@@ -147,7 +153,7 @@ impl History {
         };
         self.learn(client, write.stamp.number);
         self.freed = self.freed.saturating_sub(size(set));
-        self.start(event, client, set, Part::Write(write), Kind::Prepare);
+        self.start(client, set, Part::Write(write), Kind::Prepare);
     }
 
     /// The stamp of the client's next write: 1 more than the greatest number that it knows.
@@ -165,9 +171,10 @@ impl History {
         *known = number.max(*known);
     }
 
-    fn start(&mut self, event: usize, client: u64, set: u64, part: Part, kind: Kind) {
+    fn start(&mut self, client: u64, set: u64, part: Part, kind: Kind) {
         let transaction = self.transactions.len();
-        self.transactions.push(Transaction { client, set, started: event, ended: None, part });
+        let own = self.own.get(&client).cloned().unwrap_or_default();
+        self.transactions.push(Transaction { client, set, ended: None, own, part });
         for item in items(set) {
             let label = Label { kind, client, item, transaction, answered: 0, latest: 0 };
             self.messages.push(label);
@@ -241,17 +248,41 @@ impl History {
         self.freed = self.freed.max(gone);
     }
 
+    /// An accepted hand-over: the receiver learns of all that the giver knows of, and what counts as
+    /// the giver's own counts as the receiver's.
+    pub(super) fn hand_over(&mut self, giver: u64, receiver: u64) {
+        let known = self.known.get(&giver).copied().unwrap_or_default();
+        self.learn(receiver, known);
+        let own = self.own.get(&giver).cloned().unwrap_or_default();
+        self.own.entry(receiver).or_default().extend(own);
+    }
+
+    /// The writes that counted as the client's own at the start of its transaction.
+    pub(super) fn own_writes<'a>(
+        &'a self,
+        of: &'a Transaction,
+    ) -> impl Iterator<Item = (&'a Transaction, &'a Write)> {
+        let own = of.own.iter().map(|place| &self.transactions[*place]);
+        own.filter_map(|of| match &of.part {
+            Part::Write(write) => Some((of, write)),
+            Part::Read(_) => None,
+        })
+    }
+
     /// Places that prepares delivered and in flight would take if no version had gone.
     pub(super) fn places_taken(&self) -> u64 {
         let prepares = self.messages.iter().filter(|label| label.kind == Kind::Prepare);
         self.stored + prepares.count() as u64
     }
 
-    /// A delivery of the client's message reported an end.
+    /// A delivery of the client's message reported an end: what it wrote is its own from then on.
     pub(super) fn end(&mut self, event: usize, client: u64) {
-        let running = self.transactions.iter_mut();
-        for transaction in running.filter(|of| of.client == client && of.ended.is_none()) {
-            transaction.ended = Some(event);
+        let running = self.transactions.iter_mut().enumerate();
+        for (place, of) in running.filter(|(_, of)| of.client == client && of.ended.is_none()) {
+            of.ended = Some(event);
+            if let Part::Write(_) = of.part {
+                self.own.entry(client).or_default().insert(place);
+            }
         }
     }
 

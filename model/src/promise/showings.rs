@@ -44,9 +44,7 @@ pub(super) fn check(
             for (entry, write) in &writes {
                 stored_before_the_answer(write, read, entry)?;
             }
-            for entry in &entries {
-                no_own_write_is_missed(history, last, entry)?;
-            }
+            no_own_write_is_missed(history, last, &entries)?;
             for entry in &entries {
                 never_falls(read, entry)?;
             }
@@ -146,23 +144,21 @@ fn stored_before_the_answer(write: &Write, read: &Read, entry: &Entry) -> Result
     }
 }
 
-/// No entry is older than a write of that item which the client itself had ended before starting
-/// the read.
+/// No entry is older than a write of that item which counts as the client's own at the read's
+/// start.
 fn no_own_write_is_missed(
     history: &History,
     read: &Transaction,
-    entry: &Entry,
+    entries: &[Entry],
 ) -> Result<(), Clause> {
-    let missed = history.writes().any(|(of, write)| {
-        of.client == read.client
-            && of.ended.is_some_and(|ended| ended < read.started)
-            && write.value(entry.item).is_some()
-            && entry.stamp < write.stamp
+    let own: Vec<&Write> = history.own_writes(read).map(|(_, write)| write).collect();
+    let missed = entries.iter().find(|entry| {
+        let wrote = own.iter().filter(|write| write.value(entry.item).is_some());
+        wrote.into_iter().any(|write| entry.stamp < write.stamp)
     });
-    if missed {
-        Err(Clause::OwnWriteMissed { item: entry.item })
-    } else {
-        Ok(())
+    match missed {
+        Some(entry) => Err(Clause::OwnWriteMissed { item: entry.item }),
+        None => Ok(()),
     }
 }
 

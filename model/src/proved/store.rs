@@ -30,6 +30,9 @@ mod library {
             room: usize,
         ) -> u64;
         pub fn koolvent_clear(block: *mut u64, length: usize) -> u64;
+        pub fn koolvent_hand_over(block: *mut u64, length: usize, giver: u64, receiver: u64)
+            -> u64;
+        pub fn koolvent_compare(block: *const u64, length: usize, first: u64, second: u64) -> u64;
     }
 }
 
@@ -70,5 +73,15 @@ impl Calls for Proved {
     #[inline]
     fn clear(&self, block: &mut [u64]) -> u64 {
         unsafe { library::koolvent_clear(block.as_mut_ptr(), block.len()) }
+    }
+
+    #[inline]
+    fn hand_over(&self, block: &mut [u64], giver: u64, receiver: u64) -> u64 {
+        unsafe { library::koolvent_hand_over(block.as_mut_ptr(), block.len(), giver, receiver) }
+    }
+
+    #[inline]
+    fn compare(&self, block: &[u64], first: u64, second: u64) -> u64 {
+        unsafe { library::koolvent_compare(block.as_ptr(), block.len(), first, second) }
     }
 }

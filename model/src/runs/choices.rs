@@ -45,9 +45,7 @@ impl Runner<'_, '_> {
     }
 
     pub(super) fn start(&mut self) {
-        let idle: Vec<u64> = (1..=self.sizes.clients)
-            .filter(|client| self.run.store.tables.client(*client).mode == IDLE)
-            .collect();
+        let idle = self.idle_clients();
         if idle.is_empty() {
             return self.deliver_next();
         }
@@ -65,6 +63,30 @@ impl Runner<'_, '_> {
         } else {
             self.call(Call::Read { client, set });
         }
+    }
+
+    /// Mostly between two clients that are idle.
+    pub(super) fn hand_over(&mut self) {
+        let mut clients: Vec<u64> = (1..=self.sizes.clients).collect();
+        if self.random.percent(80) {
+            clients = self.idle_clients();
+        }
+        if clients.len() < 2 {
+            return;
+        }
+        let giver = clients.swap_remove(self.random.place(clients.len()));
+        let receiver = self.random.pick(&clients);
+        self.call(Call::HandOver { giver, receiver });
+    }
+
+    pub(super) fn compare(&mut self) {
+        let [first, second] = [(); 2].map(|()| self.random.between(1, self.sizes.clients));
+        self.call(Call::Compare { first, second });
+    }
+
+    fn idle_clients(&self) -> Vec<u64> {
+        let tables = &self.run.store.tables;
+        (1..=self.sizes.clients).filter(|client| tables.client(*client).mode == IDLE).collect()
     }
 
     fn write(&mut self, client: u64, set: u64) -> Call {
@@ -121,7 +143,7 @@ impl Runner<'_, '_> {
         let nobody = self.random.pick(&[0, beyond, 256 + client, 1 << 63, u64::MAX]);
         let set = self.some_set();
         let past_the_end = self.run.store.tables.messages.len() as u64;
-        let call = match self.random.below(12) {
+        let call = match self.random.below(17) {
             0 => Call::Read { client: nobody, set },
             1 => Call::Show { client: nobody, output: vec![1; 600] },
             2 => Call::Read { client, set },
@@ -131,14 +153,22 @@ impl Runner<'_, '_> {
             6 => Call::Deliver { place: past_the_end },
             7 => Call::Deliver { place: u64::MAX },
             8 => Call::Show { client, output: vec![2; self.random.below(20) as usize] },
-            9 => {
+            9 | 16 => {
                 let wider = set | self.some_set();
                 self.write(client, wider)
             }
             10 => {
                 Call::Fresh { long_enough: true, clients: 1, partitions: (1 << 32) + 1, items: 1 }
             }
-            _ => Call::Fresh { long_enough: false, clients: 1, partitions: 1, items: 1 },
+            11 => Call::Fresh { long_enough: false, clients: 1, partitions: 1, items: 1 },
+            12 => Call::HandOver { giver: client, receiver: nobody },
+            13 => Call::HandOver { giver: nobody, receiver: self.random.pick(&[client, nobody]) },
+            14 => Call::HandOver { giver: client, receiver: client },
+            _ => {
+                let (first, second) =
+                    self.random.pick(&[(client, nobody), (nobody, client), (nobody, nobody)]);
+                Call::Compare { first, second }
+            }
         };
         self.call(call);
     }

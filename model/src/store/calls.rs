@@ -23,6 +23,8 @@ impl Store {
             Call::Deliver { place } => self.deliver(*place),
             Call::Show { client, .. } => self.show(*client, output),
             Call::Clear => self.clear(),
+            Call::HandOver { giver, receiver } => self.hand_over(*giver, *receiver),
+            Call::Compare { first, second } => self.compare(*first, *second),
         }
     }
 
@@ -120,6 +122,27 @@ impl Store {
         let kept = self.tables.versions.len() as u64;
         let gone = if self.has(Fault::AnswersWhatStays) { kept } else { before - kept };
         Answer::Cleared { gone }
+    }
+
+    /// The receiver takes over what the giver has seen.
+    pub fn hand_over(&mut self, giver: u64, receiver: u64) -> Answer {
+        let refusal = refusals::hand_over(&self.tables, giver, receiver);
+        let refusal = self.spoilt_hand_over(refusal, giver, receiver);
+        if let Some(refusal) = self.spoilt(refusal, 0) {
+            return Answer::Refused(refusal);
+        }
+        self.step_hand_over(giver, receiver);
+        Answer::HandedOver { giver, receiver }
+    }
+
+    /// Tells how the first client's view stands to the second's.
+    pub fn compare(&self, first: u64, second: u64) -> Answer {
+        let refusal = refusals::compare(&self.tables, first, second);
+        let refusal = self.spoilt_comparison(refusal, first, second);
+        if let Some(refusal) = self.spoilt(refusal, 0) {
+            return Answer::Refused(refusal);
+        }
+        Answer::Compared { standing: self.standing(first, second) }
     }
 
     fn started(&self) -> Answer {

@@ -77,6 +77,42 @@ pub enum Fault {
     ClearingWaits,
     /// A clearing answers how many versions stay.
     AnswersWhatStays,
+    /// A hand-over is accepted and does nothing.
+    NothingHandedOver,
+    /// A hand-over puts the giver's entries in place of the receiver's.
+    ReceiverReplaced,
+    /// A hand-over raises the giver's entries too.
+    GiverRaised,
+    /// A hand-over gives the receiver the stamps, and leaves it its sets.
+    HandedStampsAlone,
+    /// With equal stamps a hand-over gives the receiver the giver's set.
+    TieTakesGivers,
+    /// A hand-over gives the receiver the giver's count, if that is greater.
+    CountHandedOver,
+    /// Of a hand-over 4 is tested before 18.
+    IdleBeforeEqual,
+    /// Of a hand-over 18 is tested before 3.
+    EqualBeforeClient,
+    /// A busy client hands over.
+    BusyGiver,
+    /// A busy client takes over.
+    BusyReceiver,
+    /// A client hands over to itself.
+    HandsOverToItself,
+    /// A comparison of a busy client is refused by 4.
+    ComparesIdle,
+    /// A comparison of a client with itself is refused by 18.
+    ComparesTwo,
+    /// A comparison answers ahead for behind, and behind for ahead.
+    AheadIsBehind,
+    /// A comparison answers behind where one entry is earlier, whatever the others.
+    NeitherIsBehind,
+    /// A comparison looks at the numbers of stamps alone.
+    ComparesNumbers,
+    /// A comparison looks at sets where stamps are equal.
+    ComparesSets,
+    /// A comparison leaves out what the second client knows no write of.
+    ComparesKnown,
 }
 
 /// Whether no client has a transaction under way.

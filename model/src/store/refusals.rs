@@ -76,6 +76,25 @@ pub(super) fn clear(tables: &Tables) -> Option<u64> {
     first(&[(1, &|| !is_usable(tables))])
 }
 
+/// Both exist, they are two, and both are idle.
+pub(super) fn hand_over(tables: &Tables, giver: u64, receiver: u64) -> Option<u64> {
+    let is_idle = |client| tables.client(client).mode == IDLE;
+    first(&[
+        (1, &|| !is_usable(tables)),
+        (3, &|| !(tables.has_client(giver) && tables.has_client(receiver))),
+        (18, &|| giver == receiver),
+        (4, &|| !(is_idle(giver) && is_idle(receiver))),
+    ])
+}
+
+/// Both exist; they may be busy, and they may be one.
+pub(super) fn compare(tables: &Tables, one: u64, other: u64) -> Option<u64> {
+    first(&[
+        (1, &|| !is_usable(tables)),
+        (3, &|| !(tables.has_client(one) && tables.has_client(other))),
+    ])
+}
+
 /// A prepare of an item and stamp already stored; a prepared whose client isn't writing, a got
 /// whose client isn't reading, or either not awaited with that item and stamp.
 fn is_unwanted(tables: &Tables, message: &Message) -> bool {

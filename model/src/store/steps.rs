@@ -145,7 +145,7 @@ impl Store {
     }
 
     /// The view entry becomes the later of itself and this one; with equal stamps it stays.
-    fn see(&mut self, client: u64, item: u64, entry: Entry) {
+    pub(super) fn see(&mut self, client: u64, item: u64, entry: Entry) {
         let present = self.tables.view(client)[item as usize];
         if self.is_later(entry.stamp, present.stamp) {
             self.tables.view_mut(client)[item as usize] = entry;
@@ -217,7 +217,7 @@ impl Store {
     }
 
     /// Whether the stamp is later than the one already there.
-    fn is_later(&self, stamp: Stamp, present: Stamp) -> bool {
+    pub(super) fn is_later(&self, stamp: Stamp, present: Stamp) -> bool {
         if self.has(Fault::ClientsBeforeNumbers) {
             return (stamp.client, stamp.number) > (present.client, present.number);
         }

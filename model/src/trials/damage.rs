@@ -40,7 +40,9 @@ pub fn damaged_blocks(
         let mut chooser =
             Chooser { random, tables: tables.as_ref().unwrap_or(&busy.tables), damaged: place };
         let [read, write] = [chooser.read(), chooser.write()];
-        for call in [read, write, chooser.deliver(), chooser.show(), Call::Clear] {
+        let [hand_over, compare] = [chooser.hand_over(), chooser.compare()];
+        let others = [chooser.deliver(), chooser.show(), Call::Clear, hand_over, compare];
+        for call in [read, write].into_iter().chain(others) {
             let answer = match &tables {
                 Some(_) => agree(served, &words, &call),
                 None => refused(served, &words, &call, 1),

@@ -16,7 +16,7 @@ const FAR: [u64; 6] = [1 << 32, (1 << 32) + 1, 1 << 61, 1 << 63, (1 << 63) + 1, 
 /// Each call at every edge, on a copy of the block.
 pub fn edges(served: &dyn Calls, busy: &Busy, met: &mut Met) -> Result<(), Difference> {
     lengths(served, busy, met)?;
-    let calls = [sizes(), reads(busy), writes(busy), deliveries(busy), showings(busy)];
+    let calls = [sizes(), reads(busy), writes(busy), deliveries(busy), showings(busy), pairs(busy)];
     for call in calls.concat().into_iter().chain([Call::Clear]) {
         met.count(&call, agree(served, &busy.words, &call)?);
     }
@@ -34,6 +34,8 @@ fn lengths(served: &dyn Calls, busy: &Busy, met: &mut Met) -> Result<(), Differe
         Call::Deliver { place: 0 },
         Call::Show { client: 1, output: vec![1; 600] },
         Call::Clear,
+        Call::HandOver { giver: 1, receiver: 2 },
+        Call::Compare { first: 1, second: 1 },
     ];
     let mut words = busy.words.clone();
     words.resize(NEEDED + 70, 5);
@@ -127,4 +129,20 @@ fn showings(busy: &Busy) -> Vec<Call> {
         }
     }
     calls
+}
+
+/// Hand-overs and comparisons of all clients near the edge with each other, and of each far one
+/// with itself and with one that exists.
+fn pairs(busy: &Busy) -> Vec<Call> {
+    let near = 0..=busy.tables.sizes.clients + 1;
+    let each = near.clone().flat_map(|one| near.clone().map(move |other| (one, other)));
+    let far = clients(busy).into_iter().filter(|client| !near.contains(client));
+    let pairs = each.chain(far.flat_map(|far| [(far, 1), (1, far), (far, far)]));
+    let calls = |(one, other)| {
+        [
+            Call::HandOver { giver: one, receiver: other },
+            Call::Compare { first: one, second: other },
+        ]
+    };
+    pairs.flat_map(calls).collect()
 }

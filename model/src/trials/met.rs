@@ -7,7 +7,7 @@ use crate::call::Call;
 pub struct Met {
     pub calls: usize,
     /// By refusal.
-    pub refused: [usize; 18],
+    pub refused: [usize; 19],
     pub fresh: usize,
     pub reads: usize,
     pub writes: usize,
@@ -20,6 +20,9 @@ pub struct Met {
     /// Versions that went, and those that stayed, where a trial counts these.
     pub gone: u64,
     pub stayed: u64,
+    pub handed_over: usize,
+    /// By how the first view stands to the second.
+    pub compared: [usize; 4],
 }
 
 impl Met {
@@ -47,6 +50,8 @@ impl Met {
                 self.cleared += 1;
                 self.gone += answer >> 8;
             }
+            Call::HandOver { .. } => self.handed_over += 1,
+            Call::Compare { .. } => self.compared[(answer >> 8) as usize] += 1,
         }
     }
 
@@ -59,7 +64,8 @@ impl Met {
 
     /// The least of the counts of accepted calls, by call, kind of message and end.
     pub fn rarest_accepted(&self) -> usize {
-        let calls = [self.fresh, self.reads, self.writes, self.shown, self.cleared];
+        let others = [self.cleared, self.handed_over, self.compared.iter().sum()];
+        let calls = [&[self.fresh, self.reads, self.writes, self.shown], &others[..]].concat();
         let ends = [self.reads_ended, self.writes_ended];
         let all = calls.iter().chain(&ends).chain(&self.delivered[1..]);
         *all.min().expect("there are some")

@@ -21,6 +21,7 @@ pub struct Runs {
     pub corrections: usize,
     pub shown_again: usize,
     pub served: usize,
+    pub taken_over: usize,
     pub greatest_load: u64,
     pub most_versions: usize,
 }
@@ -65,6 +66,7 @@ fn random_run(
     runs.corrections += summary.corrections;
     runs.shown_again += summary.shown_again;
     runs.served += summary.served;
+    runs.taken_over += summary.taken_over;
     runs.greatest_load = runs.greatest_load.max(run.greatest_load);
     runs.most_versions = runs.most_versions.max(run.most_versions);
     Ok(())

@@ -76,6 +76,7 @@ fn every_refusal_is_said() {
         ("0f", "refused by 15: malformed"),
         ("10", "refused by 16: over 32,768 bytes or over 256 line ends"),
         ("11", "refused by 17: a write of more than 12 items"),
+        ("12", "refused by 18: a hand-over of a client to itself"),
     ];
     for (answer, sentence) in refusals {
         let expected = format!("the message at place 2 is delivered: {sentence}");
@@ -94,10 +95,19 @@ fn bytes_that_answer_no_such_frame_are_told() {
         ("040000", "0001000203"),
         ("0502", "00"),
         ("0502", "002102"),
-        ("0502", "12"),
+        ("0502", "13"),
+        ("0502", "00220201"),
         ("06", "00"),
         ("40", "00"),
         ("40", "00000000"),
+        ("410102", "00"),
+        ("410102", "002201"),
+        ("410102", "00220201"),
+        ("410102", "0021020000000000000001000000000000000000"),
+        ("420102", "00"),
+        ("420102", "0004"),
+        ("420102", "000000"),
+        ("43", "00"),
     ];
     for (frame, answer) in others {
         let said = said(frame, answer);
@@ -114,6 +124,28 @@ fn a_clearing_is_said_with_how_many_went() {
     let refused =
         "refused by 1: the block is too short or damaged, or no fresh start was accepted yet";
     assert_eq!(said("40", "01"), format!("{asked}: {refused}"));
+}
+
+#[test]
+fn a_hand_over_is_said_with_who_takes_over() {
+    let asked = "client 1 is to hand over to client 2";
+    assert_eq!(said("410102", "00220102"), format!("{asked}: client 1 hands over to client 2"));
+    assert_eq!(said("410102", "04"), format!("{asked}: refused by 4: the client isn't idle"));
+}
+
+#[test]
+fn a_comparison_is_said_with_how_the_first_stands_to_the_second() {
+    let asked = "client 1's view is compared with client 8's";
+    let standings = [
+        ("0000", "they are the same"),
+        ("0001", "client 1 is behind client 8"),
+        ("0002", "client 1 is ahead of client 8"),
+        ("0003", "each has an entry later than the other's"),
+        ("03", "refused by 3: no such client"),
+    ];
+    for (answer, sentence) in standings {
+        assert_eq!(said("420108", answer), format!("{asked}: {sentence}"));
+    }
 }
 
 #[test]

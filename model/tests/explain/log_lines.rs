@@ -28,6 +28,11 @@ log line 4: client 8 shows item 0 from write number 2147483648 of client 8, valu
 }
 
 #[test]
+fn a_hand_over() {
+    assert_lines("220108\n", "log line 1: client 1 hands over to client 8\n");
+}
+
+#[test]
 fn an_initial_item_with_a_value() {
     assert_lines(
         "21020000000000000001000000000000000005\n",

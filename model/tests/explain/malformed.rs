@@ -53,7 +53,10 @@ fn the_kind_and_length_of_a_store_frame() {
         ("0400", "wrong length: a delivery has 3 bytes, this 2"),
         ("05", "wrong length: a showing has 2 bytes, this 1"),
         ("4000", "wrong length: a clearing has 1 byte, this 2"),
-        ("41", "unknown kind 41"),
+        ("41", "wrong length: a hand-over has 3 bytes, this 1"),
+        ("41010203", "wrong length: a hand-over has 3 bytes, this 4"),
+        ("4201", "wrong length: a comparison has 3 bytes, this 2"),
+        ("43", "unknown kind 43"),
         (
             "0301000000000000000100000007ff",
             "wrong length: a write has 10 bytes and 4 for each of at most 64 values, this 15",
@@ -73,7 +76,9 @@ fn the_kind_and_length_of_a_store_frame() {
 #[test]
 fn the_kind_and_length_of_a_log_line() {
     let lines = [
-        ("22010000000000000001", "unknown kind 22"),
+        ("23010000000000000001", "unknown kind 23"),
+        ("22010000000000000001", "wrong length: a hand-over has 3 bytes, this 10"),
+        ("2201", "wrong length: a hand-over has 3 bytes, this 2"),
         ("1f", "unknown kind 1f"),
         ("20", "wrong length: 1, too short for a client and a set"),
         ("210200000000000001", "wrong length: 9, too short for a client and a set"),
@@ -99,6 +104,9 @@ fn the_fields_of_a_log_line() {
     let lines = [
         ("2000000000000000000100000001000000a9\n".to_owned(), "client 0, and clients are 1 to 8"),
         ("21090000000000000001000000000000000000\n".to_owned(), "client 9, and clients are 1 to 8"),
+        ("220001\n".to_owned(), "client 0, and clients are 1 to 8"),
+        ("220109\n".to_owned(), "receiver 9, and clients are 1 to 8"),
+        ("220202\n".to_owned(), "client 2 hands over to itself"),
         ("2001000000000000000000000001\n".to_owned(), "its set is empty"),
         ("21010000000000000000\n".to_owned(), "its set is empty"),
         (

@@ -76,6 +76,37 @@ fn own_write_missed() {
 }
 
 #[test]
+fn a_write_that_was_taken_over_missed() {
+    let initial = "21030000000000000001000000000000000000\n";
+    let cases = [
+        (
+            [WRITE, "220103\n", initial].concat(),
+            "00030003",
+            "log line 3 misses an own write: it shows item 0 initial, and client 1, whose writes \
+             came to client 3 by the hand-over of log line 2, wrote it later: write number 1, log \
+             line 1",
+        ),
+        (
+            [WRITE, "220102\n", "220203\n", initial].concat(),
+            "00030004",
+            "log line 4 misses an own write: it shows item 0 initial, and client 1, whose writes \
+             came to client 3 by the hand-overs of log lines 2 and 3, wrote it later: write number \
+             1, log line 1",
+        ),
+        (
+            ["220203\n", WRITE, "220104\n", "220402\n", "220203\n", initial].concat(),
+            "00030006",
+            "log line 6 misses an own write: it shows item 0 initial, and client 1, whose writes \
+             came to client 3 by the hand-overs of log lines 3, 4 and 5, wrote it later: write \
+             number 1, log line 2",
+        ),
+    ];
+    for (text, verdict, sentence) in cases {
+        assert_eq!(said(&text, verdict), format!("verdict: {sentence}"));
+    }
+}
+
+#[test]
 fn malformed() {
     assert_eq!(
         said(&[WRITE, "2A\n"].concat(), "0f0002"),

@@ -1,7 +1,7 @@
 //! Verdicts on every small log, on every log with one byte spoiled, and on every log cut off, as
 //! counted and found by hand.
 
-use koolvent_model::judge::generate::every_small_log;
+use koolvent_model::judge::generate::{every_small_log, every_small_log_with_hand_overs};
 use koolvent_model::judge::{examples, judge, Verdict};
 
 /// How often each sort of verdict was met.
@@ -48,10 +48,35 @@ fn every_small_log_by_what_was_counted() {
     assert_eq!(tally.clean, 10 * 73 * 9 - tally.own_write_missed);
 }
 
+/// Counted by hand. There are 3 writers, 36 pairs of hand-overs, 3 readers, 2 entries and 24
+/// orders. A read that shows the write is clean, wherever the write stands. One that shows the
+/// initial entry misses the write if that stands above it, in 12 of the orders, and is the reader's
+/// own: with no hand-over between them, in 6 orders, for 36 pairs the writer's; with one, in 4
+/// orders, for each of the 6 that the other may be, of the 6 that it may be all for the writer and
+/// 2 for its receivers; with both, in 2 orders, for 36 the writer's and for 12 each of the two
+/// others': 6 pairs whose first is to it from the writer, 5 more whose second is, and one by way of
+/// the third.
+#[test]
+fn every_small_log_with_hand_overs_by_what_was_counted() {
+    let logs = every_small_log_with_hand_overs();
+    assert_eq!(logs.len(), 3 * 36 * 3 * 2 * 24);
+    let mut tally = Tally::default();
+    for log in &logs {
+        tally.count(judge(log));
+    }
+    let missed = 3 * (6 * 36 + 4 * 6 * (6 + 2) + 2 * (36 + 2 * 12));
+    assert_eq!(tally.own_write_missed, missed);
+    assert_eq!(tally.clean, logs.len() - missed);
+}
+
 /// Short well-formed logs with several frames.
 fn good_logs() -> Vec<Vec<u8>> {
-    let names =
-        ["session", "clean read above a fault", "equal numbers, sibling of a greater client"];
+    let names = [
+        "session",
+        "clean read above a fault",
+        "equal numbers, sibling of a greater client",
+        "chain in order",
+    ];
     let logs: Vec<Vec<u8>> = examples::all()
         .into_iter()
         .filter(|example| names.contains(&example.name))

@@ -6,6 +6,7 @@ use koolvent_model::judge::generate::random_log;
 use koolvent_model::judge::{examples, judge, judge_by, Verdict};
 use koolvent_model::random::Random;
 use koolvent_model::stamp::Stamp;
+use std::collections::BTreeSet;
 
 /// The names of the examples to which a judge gives a wrong verdict.
 fn mistaken(judge: &dyn Fn(&[u8]) -> Verdict) -> Vec<&'static str> {
@@ -166,6 +167,175 @@ fn writes_of_any_client_counted_as_own_are_caught() {
     }
     let wrong = judge_with([unwritten, fractured, of_any_client]);
     assert_caught(&wrong, "both initial to another client");
+}
+
+/// Finding 3 with another reading of what counts as a client's own: at this line of the log, what
+/// the writes at these lines wrote.
+fn missed_by(log: &[LogFrame], place: usize, own: impl Fn(usize) -> bool) -> Option<String> {
+    let own: Vec<_> =
+        (0..log.len()).filter(|line| own(*line)).flat_map(|line| log[line].written()).collect();
+    let fault = log[place]
+        .shown()
+        .iter()
+        .any(|entry| own.iter().any(|own| own.item == entry.item && entry.stamp < own.stamp));
+    fault.then(String::new)
+}
+
+/// Whether a line hands over from one client to another.
+fn hands_over(log: &[LogFrame], line: usize, giver: u8, receiver: u8) -> bool {
+    (log[line].client, log[line].receiver) == (giver, Some(receiver))
+}
+
+#[test]
+fn hand_overs_that_count_for_nothing_are_caught() {
+    fn itself_alone(log: &[LogFrame], place: usize) -> Option<String> {
+        missed_by(log, place, |line| line < place && log[line].client == log[place].client)
+    }
+    let wrong = judge_with([unwritten, fractured, itself_alone]);
+    assert_caught(&wrong, "giver's write missed");
+}
+
+#[test]
+fn inheritance_not_handed_on_is_caught() {
+    fn from_givers_alone(log: &[LogFrame], place: usize) -> Option<String> {
+        let reader = log[place].client;
+        missed_by(log, place, |line| {
+            let writer = log[line].client;
+            let taken = |below: usize| hands_over(log, below, writer, reader);
+            line < place && (writer == reader || (line..place).any(taken))
+        })
+    }
+    let wrong = judge_with([unwritten, fractured, from_givers_alone]);
+    assert_caught(&wrong, "chain in order");
+}
+
+#[test]
+fn writes_below_the_hand_over_counted_are_caught() {
+    fn wherever_it_stands(log: &[LogFrame], place: usize) -> Option<String> {
+        let mut counted = vec![log[place].client];
+        for frame in log[..place].iter().rev() {
+            if frame.receiver.is_some_and(|receiver| counted.contains(&receiver)) {
+                counted.push(frame.client);
+            }
+        }
+        missed_by(log, place, |line| line < place && counted.contains(&log[line].client))
+    }
+    let wrong = judge_with([unwritten, fractured, wherever_it_stands]);
+    assert_caught(&wrong, "giver's write below the hand-over");
+    assert_caught(&wrong, "giver's later write below the hand-over");
+}
+
+#[test]
+fn hand_overs_in_any_order_are_caught() {
+    fn in_any_order(log: &[LogFrame], place: usize) -> Option<String> {
+        let mut counted = vec![log[place].client];
+        for _ in 0..8 {
+            for frame in &log[..place] {
+                if frame.receiver.is_some_and(|receiver| counted.contains(&receiver)) {
+                    counted.push(frame.client);
+                }
+            }
+            counted.sort();
+            counted.dedup();
+        }
+        missed_by(log, place, |line| line < place && counted.contains(&log[line].client))
+    }
+    let wrong = judge_with([unwritten, fractured, in_any_order]);
+    assert_caught(&wrong, "chain out of order");
+}
+
+/// Finding 3 by a walk from the top, in which a hand-over changes what counts for whom.
+fn missed_after(
+    log: &[LogFrame],
+    place: usize,
+    hand_over: impl Fn(&mut [BTreeSet<usize>; 9], usize, usize),
+) -> Option<String> {
+    let mut own: [BTreeSet<usize>; 9] = Default::default();
+    for (line, frame) in log[..place].iter().enumerate() {
+        match frame.receiver {
+            Some(receiver) => hand_over(&mut own, frame.client.into(), receiver.into()),
+            None => {
+                own[usize::from(frame.client)].insert(line);
+            }
+        }
+    }
+    missed_by(log, place, |line| own[usize::from(log[place].client)].contains(&line))
+}
+
+/// What counts for one client counts for another too.
+fn hand(own: &mut [BTreeSet<usize>; 9], from: usize, to: usize) {
+    let given = own[from].clone();
+    own[to].extend(given);
+}
+
+/// The model's judge goes up from the read; from the top the same is found.
+#[test]
+fn hand_overs_from_the_top_are_not_caught() {
+    fn forward(log: &[LogFrame], place: usize) -> Option<String> {
+        missed_after(log, place, hand)
+    }
+    let same = judge_with([unwritten, fractured, forward]);
+    assert_eq!(mistaken(&same), Vec::<&str>::new());
+    let mut random = Random::new(6);
+    for log in (0..10_000).map(|_| random_log(&mut random)) {
+        assert_eq!(same(&log), judge(&log));
+    }
+}
+
+#[test]
+fn hand_overs_to_the_giver_are_caught() {
+    fn other_way(log: &[LogFrame], place: usize) -> Option<String> {
+        missed_after(log, place, |own, giver, receiver| hand(own, receiver, giver))
+    }
+    let wrong = judge_with([unwritten, fractured, other_way]);
+    assert_caught(&wrong, "receiver's write missed by the giver");
+}
+
+#[test]
+fn a_giver_that_loses_what_it_hands_over_is_caught() {
+    fn moved(log: &[LogFrame], place: usize) -> Option<String> {
+        missed_after(log, place, |own, giver, receiver| {
+            let given = std::mem::take(&mut own[giver]);
+            own[receiver].extend(given);
+        })
+    }
+    let wrong = judge_with([unwritten, fractured, moved]);
+    assert_caught(&wrong, "giver's write missed by the giver");
+}
+
+#[test]
+fn a_receiver_that_loses_its_own_is_caught() {
+    fn replaced(log: &[LogFrame], place: usize) -> Option<String> {
+        missed_after(log, place, |own, giver, receiver| own[receiver] = own[giver].clone())
+    }
+    let wrong = judge_with([unwritten, fractured, replaced]);
+    assert_caught(&wrong, "receiver's own write missed");
+}
+
+#[test]
+fn hand_overs_not_counted_as_lines_are_caught() {
+    let without = |log: &[u8]| {
+        let lines = log.split_inclusive(|byte| *byte == b'\n');
+        match judge(log) {
+            Verdict::Judged { finding, line } => {
+                let above = lines.take(line).filter(|line| line.starts_with(b"22"));
+                Verdict::Judged { finding, line: line - above.count() }
+            }
+            other => other,
+        }
+    };
+    assert_caught(&without, "giver's write missed");
+}
+
+#[test]
+fn a_hand_over_to_oneself_taken_is_caught() {
+    let lax = |log: &[u8]| {
+        let lines = log.split_inclusive(|byte| *byte == b'\n');
+        let to_oneself =
+            |line: &[u8]| line.len() == 7 && line.starts_with(b"22") && line[2..4] == line[4..6];
+        judge(&lines.filter(|line| !to_oneself(line)).collect::<Vec<_>>().concat())
+    };
+    assert_caught(&lax, "hand-over to the giver itself");
 }
 
 #[test]

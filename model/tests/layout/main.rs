@@ -1,5 +1,6 @@
 //! The tables as words of a block.
 
 mod clearing;
+mod hand_over;
 mod laws;
 mod session;

@@ -1,7 +1,9 @@
-//! The exported call. Its logs are more than 50,000: 45,360 small ones and 40,000 random ones
+//! The exported call. Its logs are more than 100,000: 60,912 small ones and 40,000 random ones
 //! alone.
 
-use koolvent_model::judge::generate::{every_small_log, random_log, random_long_log, spoil};
+use koolvent_model::judge::generate::{
+    every_small_log, every_small_log_with_hand_overs, random_log, random_long_log, spoil,
+};
 use koolvent_model::judge::{examples, judge, Verdict};
 use koolvent_model::proved;
 use koolvent_model::random::Random;
@@ -98,6 +100,17 @@ fn every_small_log_of_two_writes_and_a_read() {
     }
     tally.assert_met(&[Sort::Malformed, Sort::CLEAN], 1_000);
     tally.assert_met(&FINDINGS, 500);
+}
+
+#[test]
+fn every_small_log_of_a_write_two_hand_overs_and_a_read() {
+    let logs = every_small_log_with_hand_overs();
+    assert_eq!(logs.len(), 15_552);
+    let mut tally = Tally::default();
+    for log in &logs {
+        tally.count(agreed(log));
+    }
+    tally.assert_met(&[Sort::CLEAN, Sort::Finding(3)], 1_000);
 }
 
 #[test]

@@ -26,7 +26,7 @@ fn small_blocks() {
     assert_eq!(damaged.blocks, 130_000);
     assert!(damaged.valid >= 30_000, "{damaged:?}");
     assert!(damaged.met.rarest_accepted() >= 500, "{damaged:?}");
-    damaged.met.assert_refused(&[1, 2, 3, 4, 5, 6, 7, 10, 11, 12, 13, 14], 20);
+    damaged.met.assert_refused(&[1, 2, 3, 4, 5, 6, 7, 10, 11, 12, 13, 14, 18], 20);
 }
 
 #[test]
@@ -36,7 +36,7 @@ fn blocks_of_any_size() {
     assert_eq!(damaged.blocks, 50_000);
     assert!(damaged.valid >= 15_000, "{damaged:?}");
     assert!(damaged.met.rarest_accepted() >= 200, "{damaged:?}");
-    damaged.met.assert_refused(&[1, 2, 3, 4, 5, 6, 8, 10, 11, 12, 13, 14, 17], 50);
+    damaged.met.assert_refused(&[1, 2, 3, 4, 5, 6, 8, 10, 11, 12, 13, 14, 17, 18], 50);
 }
 
 #[test]
@@ -46,7 +46,7 @@ fn crowded_blocks() {
     assert_eq!(damaged.blocks, 25_000);
     assert!(damaged.valid >= 5_000, "{damaged:?}");
     assert!(damaged.met.rarest_accepted() >= 50, "{damaged:?}");
-    damaged.met.assert_refused(&[1, 2, 3, 4, 5, 6, 8, 9, 10, 11, 12, 14, 17], 10);
+    damaged.met.assert_refused(&[1, 2, 3, 4, 5, 6, 8, 9, 10, 11, 12, 14, 17, 18], 10);
     // Every client has ended something, so that a damage alone leaves one that has not.
     damaged.met.assert_refused(&[13], 3);
 }
@@ -57,5 +57,5 @@ fn blocks_unlike_any_that_calls_leave() {
     assert_eq!(damaged.blocks, 50_000);
     assert!(damaged.valid >= 10_000, "{damaged:?}");
     assert!(damaged.met.rarest_accepted() >= 150, "{damaged:?}");
-    damaged.met.assert_refused(&[1, 2, 3, 4, 5, 6, 7, 8, 9, 10, 11, 12, 13, 14, 17], 100);
+    damaged.met.assert_refused(&[1, 2, 3, 4, 5, 6, 7, 8, 9, 10, 11, 12, 13, 14, 17, 18], 100);
 }

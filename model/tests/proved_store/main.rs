@@ -1,8 +1,9 @@
-//! The proved store held against the model: random runs, damaged blocks, clearings, and numbers,
-//! lengths and rooms at their edges.
+//! The proved store held against the model: random runs, damaged blocks, clearings, hand-overs, and
+//! numbers, lengths and rooms at their edges.
 
 mod clearings;
 mod damages;
 mod edges;
+mod hand_overs;
 mod range;
 mod runs;

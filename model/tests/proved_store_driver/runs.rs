@@ -26,6 +26,8 @@ fn line(call: &Call) -> Option<String> {
         }
         Call::Show { client, .. } => vec![5, byte(*client)?],
         Call::Clear => vec![0x40],
+        Call::HandOver { giver, receiver } => vec![0x41, byte(*giver)?, byte(*receiver)?],
+        Call::Compare { first, second } => vec![0x42, byte(*first)?, byte(*second)?],
     };
     Some(to_hex(&frame))
 }

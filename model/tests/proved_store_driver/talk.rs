@@ -67,10 +67,12 @@ impl Drop for Talk {
     }
 }
 
-/// A write and a read of two items, a showing, clearings, and lines that are refused.
-const LINES: [&str; 20] = [
+/// A write and a read of two items, showings, clearings, a hand-over, comparisons, and lines that
+/// are refused.
+const LINES: [&str; 26] = [
     "0501",
     "40",
+    "410102",
     "01020202",
     "030100000000000000030000000700000008",
     "040000",
@@ -87,6 +89,11 @@ const LINES: [&str; 20] = [
     "040002",
     "40",
     "0501",
+    "420201",
+    "410102",
+    "410101",
+    "420201",
+    "41010",
     "0G",
     "400",
 ];

@@ -1,6 +1,6 @@
 //! Answers as bytes and as numbers.
 
-use koolvent_model::answer::{Answer, READ_ENDED, WRITE_ENDED};
+use koolvent_model::answer::{Answer, BEHIND, NEITHER, READ_ENDED, WRITE_ENDED};
 use koolvent_model::call::Call;
 
 #[test]
@@ -50,6 +50,35 @@ fn a_clearing_gives_how_many_went() {
     assert_eq!(Answer::of(&Call::Clear, 1), Some(Answer::Refused(1)));
     for number in [2, 4, 9, 12, 1 << 24] {
         assert_eq!(Answer::of(&Call::Clear, number), None);
+    }
+}
+
+#[test]
+fn a_hand_over_gives_its_log_frame_and_the_number_0() {
+    let answer = Answer::HandedOver { giver: 8, receiver: 1 };
+    assert_eq!(answer.bytes(&[]), [0, 0x22, 8, 1]);
+    assert_eq!(answer.number(), 0);
+    let call = Call::HandOver { giver: 8, receiver: 1 };
+    assert_eq!(Answer::of(&call, 0), Some(answer));
+    for refusal in [1, 3, 4, 18] {
+        assert_eq!(Answer::of(&call, refusal), Some(Answer::Refused(refusal)));
+    }
+    for number in [2, 5, 9, 13, 17, 1 << 8] {
+        assert_eq!(Answer::of(&call, number), None);
+    }
+}
+
+#[test]
+fn a_comparison_gives_how_the_first_stands_to_the_second() {
+    let answer = Answer::Compared { standing: NEITHER };
+    assert_eq!((answer.bytes(&[]), answer.number()), (vec![0, 3], 0x0300));
+    let call = Call::Compare { first: 2, second: 2 };
+    assert_eq!(Answer::of(&call, 0x0100), Some(Answer::Compared { standing: BEHIND }));
+    for refusal in [1, 3] {
+        assert_eq!(Answer::of(&call, refusal), Some(Answer::Refused(refusal)));
+    }
+    for number in [2, 4, 18, 0x0400, 0x01_0000] {
+        assert_eq!(Answer::of(&call, number), None);
     }
 }
 

@@ -16,7 +16,7 @@ fn a_last_line_without_its_end_is_15() {
 
 #[test]
 fn other_lines_are_15_and_the_next_line_goes_on() {
-    let others: [&[u8]; 20] = [
+    let others: [&[u8]; 26] = [
         b"",
         b"\r",
         b"01020202\r",
@@ -37,6 +37,12 @@ fn other_lines_are_15_and_the_next_line_goes_on() {
         b"400",
         b"3f",
         b"41",
+        b"4101",
+        b"41010200",
+        b"42",
+        b"4201",
+        b"42010200",
+        b"43",
     ];
     for line in others {
         let input = [b"01020202\n", line, b"\n0501\n"].concat();
@@ -59,6 +65,10 @@ fn well_formed_frames_before_an_accepted_fresh_are_1() {
         "0501",
         "0500",
         "40",
+        "410102",
+        "410000",
+        "420102",
+        "42ffff",
     ];
     for frame in frames {
         let input = format!("{frame}\n01090101\n{frame}\n01010101\n");
@@ -188,6 +198,47 @@ fn a_clearing_answers_how_many_versions_went() {
         ("0301000000000000000100000006\n040000\n", "000001\n0001000100\n"),
         ("40\n040000\n040000\n", "000000\n0002000102\n0003000000\n"),
         ("40\n", "000001\n"),
+    ];
+    let (input, output): (Vec<&str>, Vec<&str>) = steps.into_iter().unzip();
+    assert_eq!(run(input.concat().as_bytes()), output.concat());
+}
+
+/// Client 1 writes item 0, and its commit stays in flight, so that client 2 is behind. A busy
+/// client neither gives nor takes; then client 2 takes over, is as far as client 1, and reads the
+/// write.
+#[test]
+fn a_hand_over_answers_its_log_frame_and_a_comparison_how_they_stand() {
+    let steps = [
+        ("01030101\n", "00\n"),
+        ("0301000000000000000100000005\n", "000001\n"),
+        ("410102\n410201\n410101\n410109\n420101\n", "04\n04\n12\n03\n0000\n"),
+        ("040000\n040000\n", "0001000100\n0002000102\n"),
+        ("420102\n420201\n420203\n", "0002\n0001\n0000\n"),
+        ("410102\n", "00220102\n"),
+        ("420102\n420203\n", "0000\n0002\n"),
+        ("02020000000000000001\n", "000002\n"),
+        ("410203\n410302\n410202\n420202\n", "04\n04\n12\n0000\n"),
+        (
+            "040001\n040001\n0502\n",
+            "0004000200\n0005000101\n0021020000000000000001000000010100000005\n",
+        ),
+        ("0303000000000000000100000006\n040001\n040001\n", "000002\n0001000200\n0002000202\n"),
+        ("420302\n", "0002\n"),
+        ("410302\n420302\n", "00220302\n0000\n"),
+    ];
+    let (input, output): (Vec<&str>, Vec<&str>) = steps.into_iter().unzip();
+    assert_eq!(run(input.concat().as_bytes()), output.concat());
+}
+
+/// Client 1 has written item 0 and client 3 item 1, each unknown to the others.
+#[test]
+fn two_that_each_know_of_a_write_are_neither() {
+    let steps = [
+        ("01030102\n", "00\n"),
+        ("0301000000000000000100000005\n040000\n040000\n", "000001\n0001000100\n0002000102\n"),
+        ("0303000000000000000200000006\n040001\n040001\n", "000002\n0001000200\n0002000202\n"),
+        ("420103\n420301\n420102\n420203\n", "0003\n0003\n0002\n0001\n"),
+        ("410103\n420103\n420301\n", "00220103\n0001\n0002\n"),
     ];
     let (input, output): (Vec<&str>, Vec<&str>) = steps.into_iter().unzip();
     assert_eq!(run(input.concat().as_bytes()), output.concat());

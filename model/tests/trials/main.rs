@@ -12,6 +12,7 @@ use koolvent_model::runs::Sort;
 use koolvent_model::trials::clearings::clearings;
 use koolvent_model::trials::damage::{damaged_blocks, Damaged};
 use koolvent_model::trials::edges::edges;
+use koolvent_model::trials::hand_overs::hand_overs;
 use koolvent_model::trials::range::{every_field, random_words, Judged, Valid};
 use koolvent_model::trials::runs::{random_runs, Runs};
 use koolvent_model::trials::{brimming, Busy, Difference, Met};
@@ -61,6 +62,13 @@ fn edge_calls(served: &dyn Calls) -> Result<Met, Difference> {
 fn cleared(served: &dyn Calls) -> Result<Met, Difference> {
     let mut met = Met::default();
     clearings(served, 0..300, &mut met)?;
+    Ok(met)
+}
+
+/// Hand-overs and comparisons on blocks whose views stand to each other in every way.
+fn handed_over(served: &dyn Calls) -> Result<Met, Difference> {
+    let mut met = Met::default();
+    hand_overs(served, 0..300, &mut met)?;
     Ok(met)
 }
 

@@ -7,7 +7,9 @@ use koolvent_model::layout::is_valid;
 fn runs_meet_every_call_and_most_refusals() {
     let runs = crate::runs(&Modelled::default()).expect("the model's own answers");
     assert!(runs.met.rarest_accepted() >= 100, "{runs:?}");
-    runs.met.assert_refused(&[1, 2, 3, 4, 5, 6, 8, 9, 10, 13, 14, 17], 1);
+    runs.met.assert_refused(&[1, 2, 3, 4, 5, 6, 8, 9, 10, 13, 14, 17, 18], 1);
+    assert!(runs.met.compared.iter().all(|times| *times >= 50), "{runs:?}");
+    assert!(runs.taken_over >= 100, "{runs:?}");
     assert!(runs.longest >= 3_000, "{runs:?}");
     assert!(runs.corrections >= 50, "{runs:?}");
     assert!(runs.shown_again >= 200, "{runs:?}");
@@ -18,7 +20,7 @@ fn runs_meet_every_call_and_most_refusals() {
 fn damages_meet_every_call_and_refusal() {
     let damaged = crate::damages(&Modelled::default()).expect("the model's own answers");
     assert!(damaged.met.rarest_accepted() >= 30, "{damaged:?}");
-    damaged.met.assert_refused(&[1, 2, 3, 4, 5, 6, 7, 8, 10, 11, 12, 13, 14, 17], 1);
+    damaged.met.assert_refused(&[1, 2, 3, 4, 5, 6, 7, 8, 10, 11, 12, 13, 14, 17, 18], 1);
     assert!(damaged.valid >= 1_000, "{damaged:?}");
 }
 
@@ -26,7 +28,7 @@ fn damages_meet_every_call_and_refusal() {
 fn edges_meet_starts_deliveries_and_their_refusals() {
     let met = crate::edge_calls(&Modelled::default()).expect("the model's own answers");
     assert!(met.reads.min(met.writes).min(met.shown).min(met.cleared) >= 10, "{met:?}");
-    met.assert_refused(&[1, 2, 3, 4, 5, 6, 7, 8, 9, 10, 13, 14, 17], 1);
+    met.assert_refused(&[1, 2, 3, 4, 5, 6, 7, 8, 9, 10, 13, 14, 17, 18], 1);
 }
 
 #[test]
@@ -34,6 +36,14 @@ fn clearings_meet_versions_that_go_and_that_stay() {
     let met = crate::cleared(&Modelled::default()).expect("the model's own answers");
     assert!(met.cleared >= 700 && met.gone.min(met.stayed) >= 1_500, "{met:?}");
     met.assert_refused(&[1], 50);
+}
+
+#[test]
+fn hand_overs_meet_views_that_stand_to_each_other_in_every_way() {
+    let met = crate::handed_over(&Modelled::default()).expect("the model's own answers");
+    assert!(met.handed_over >= 500, "{met:?}");
+    assert!(met.compared.iter().all(|times| *times >= 100), "{met:?}");
+    met.assert_refused(&[1, 4, 18], 50);
 }
 
 #[test]

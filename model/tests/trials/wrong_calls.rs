@@ -1,7 +1,7 @@
 //! Wrong stores on blocks, each caught by a trial.
 
 use crate::wrong_store::Wrong;
-use crate::{cleared, damages, edge_calls, runs};
+use crate::{cleared, damages, edge_calls, handed_over, runs};
 use koolvent_model::block::Modelled;
 use koolvent_model::store::fault::Fault;
 
@@ -173,6 +173,57 @@ fn clearings_catch_a_write_under_way_forgotten_once_its_prepares_are_delivered()
 fn clearings_catch_wrong_words() {
     for wrong in [Wrong::ClearsFreedPlaces, Wrong::AbsentEntriesSpare, Wrong::MarksARefusal] {
         assert!(cleared(&wrong).is_err(), "{wrong:?}");
+    }
+}
+
+/// Those that hand over or compare otherwise than document 02, P6.
+#[test]
+fn runs_and_hand_overs_catch_every_wrong_hand_over_and_comparison() {
+    for fault in [
+        Fault::NothingHandedOver,
+        Fault::ReceiverReplaced,
+        Fault::GiverRaised,
+        Fault::HandedStampsAlone,
+        Fault::CountHandedOver,
+        Fault::IdleBeforeEqual,
+        Fault::BusyGiver,
+        Fault::BusyReceiver,
+        Fault::HandsOverToItself,
+        Fault::ComparesIdle,
+        Fault::ComparesTwo,
+        Fault::AheadIsBehind,
+        Fault::NeitherIsBehind,
+        Fault::ComparesNumbers,
+        Fault::ComparesKnown,
+    ] {
+        let wrong = Modelled { fault: Some(fault) };
+        assert!(runs(&wrong).is_err(), "{fault:?}");
+        assert!(handed_over(&wrong).is_err(), "{fault:?}");
+    }
+}
+
+/// In runs all copies of a stamp's set agree; other blocks have ties whose sets differ.
+#[test]
+fn hand_overs_and_edges_catch_sets_that_count_at_a_tie() {
+    for fault in [Fault::TieTakesGivers, Fault::ComparesSets] {
+        let wrong = Modelled { fault: Some(fault) };
+        assert!(runs(&wrong).is_ok(), "{fault:?}");
+        assert!(handed_over(&wrong).is_err(), "{fault:?}");
+        assert!(edge_calls(&wrong).is_err(), "{fault:?}");
+    }
+}
+
+#[test]
+fn runs_and_edges_catch_18_tested_before_3() {
+    let wrong = Modelled { fault: Some(Fault::EqualBeforeClient) };
+    assert!(runs(&wrong).is_err());
+    assert!(edge_calls(&wrong).is_err());
+}
+
+#[test]
+fn hand_overs_catch_wrong_words() {
+    for wrong in [Wrong::HandsOverAbsentItems, Wrong::ComparesAbsentItems, Wrong::MarksARefusal] {
+        assert!(handed_over(&wrong).is_err(), "{wrong:?}");
     }
 }
 

@@ -48,6 +48,10 @@ pub enum Wrong {
     /// A clearing spares what is named in the view or latest of a client or item that doesn't
     /// exist.
     AbsentEntriesSpare,
+    /// A hand-over gives the receiver the giver's words of items that don't exist too.
+    HandsOverAbsentItems,
+    /// A comparison looks at items that don't exist too.
+    ComparesAbsentItems,
 }
 
 impl Wrong {
@@ -163,6 +167,12 @@ fn absent_entries(block: &[u64]) -> Vec<usize> {
     latest.chain(views.map(|(client, item)| places::view(client, item))).collect()
 }
 
+/// Where the view of a client lies for items that the block doesn't have.
+fn absent_items(block: &[u64], client: u64) -> Range<usize> {
+    let items = block[places::ITEMS] as usize;
+    places::view(client as usize, items)..places::view(client as usize, 64)
+}
+
 impl Calls for Wrong {
     fn fresh(&self, block: &mut [u64], clients: u64, partitions: u64, items: u64) -> u64 {
         let size = |size: u64| match self {
@@ -227,6 +237,26 @@ impl Calls for Wrong {
         let answer = self.made(block, |block| MODEL.clear(block));
         if answer & 0xff == 0 {
             self.spoil_clearing(&before, block);
+        }
+        answer
+    }
+
+    fn hand_over(&self, block: &mut [u64], giver: u64, receiver: u64) -> u64 {
+        let [giver, receiver] = [giver, receiver].map(|client| self.client(client));
+        let answer = self.made(block, |block| MODEL.hand_over(block, giver, receiver));
+        if *self == Wrong::HandsOverAbsentItems && answer == 0 {
+            let [from, to] = [giver, receiver].map(|client| absent_items(block, client));
+            block.copy_within(from, to.start);
+        }
+        answer
+    }
+
+    fn compare(&self, block: &[u64], first: u64, second: u64) -> u64 {
+        let [first, second] = [first, second].map(|client| self.client(client));
+        let answer = MODEL.compare(block, first, second);
+        if *self == Wrong::ComparesAbsentItems && answer == 0 {
+            let [one, other] = [first, second].map(|client| absent_items(block, client));
+            return u64::from(block[one] != block[other]) << 8;
         }
         answer
     }

@@ -9,7 +9,8 @@ use Rattle.protocol.specs.declared.Answer.{Answer}
 use Rattle.store_frames.specs.Answers.{lineOf, answerLine}
 use Rattle.store_frames.proofs.Writing.{length-take-most, answer-refused, answer-made}
 use Rattle.store_frames.proofs.Writing.{answer-started, answer-delivered, answer-shown}
-use Rattle.store_frames.proofs.Writing.{answer-cleared, written}
+use Rattle.store_frames.proofs.Writing.{answer-cleared, answer-handed-over}
+use Rattle.store_frames.proofs.Writing.{answer-compared, written}
 use Rattle.answer_writer.proofs.put_into.Statement.{statement}
 use Rattle.answer_writer.proofs.put_into.Tie as tie
 
@@ -69,6 +70,27 @@ enum-known-a-5 c = search needs
 
 put-line-requires-5 : tie.Need-put-line-requires-5
 put-line-requires-5 c κs = search needs
+
+enum-known-a-6 : tie.Need-enum-known-a-6
+enum-known-a-6 c = search needs
+
+mul-put-line-3 : tie.Need-mul-put-line-3
+mul-put-line-3 c = search needs
+
+add-put-line-3 : tie.Need-add-put-line-3
+add-put-line-3 c = search needs
+
+add-put-line-4 : tie.Need-add-put-line-4
+add-put-line-4 c = search needs
+
+put-line-requires-6 : tie.Need-put-line-requires-6
+put-line-requires-6 c κs = search needs
+
+enum-known-a-7 : tie.Need-enum-known-a-7
+enum-known-a-7 c = search needs
+
+put-line-requires-7 : tie.Need-put-line-requires-7
+put-line-requires-7 c κs = search needs
 
 same-length : tie.Need-same-length
 same-length c = search needs
@@ -144,6 +166,30 @@ returns-6 c =
     ∙ sym (ap answer (c .before .before .before .before .before .a5 .given .1)))
     (c .before .before .put-line5 .ensures)
 
+same-length-7 : tie.Need-same-length-7
+same-length-7 c = search needs
+
+returns-7 : tie.Need-returns-7
+returns-7 c =
+    let a = c .before .before .before .before .before .before .before .before .before .args in
+    let answer : Answer → List ℕ = λ x. answerLine x (a .shown .now) in
+    written (a .out .now)
+    (answer-handed-over _ _ (a .shown .now)
+    ∙ sym (ap answer (c .before .before .before .before .before .a6 .given .1)))
+    (c .before .before .put-line6 .ensures)
+
+same-length-8 : tie.Need-same-length-8
+same-length-8 c = search needs
+
+returns-8 : tie.Need-returns-8
+returns-8 c =
+    let a = c .before .before .before .before .before .before .before .before .before .args in
+    let answer : Answer → List ℕ = λ x. answerLine x (a .shown .now) in
+    written (a .out .now)
+    (answer-compared _ (a .shown .now)
+    ∙ sym (ap answer (c .before .before .before .before .before .a7 .given .1)))
+    (c .before .before .put-line7 .ensures)
+
 pub put-into-spec : {M : Type 1} → statement M
 put-into-spec =
     tie.close
@@ -165,6 +211,13 @@ put-into-spec =
     put-shown-requires
     enum-known-a-5
     put-line-requires-5
+    enum-known-a-6
+    mul-put-line-3
+    add-put-line-3
+    add-put-line-4
+    put-line-requires-6
+    enum-known-a-7
+    put-line-requires-7
     same-length
     returns
     same-length-2
@@ -176,4 +229,8 @@ put-into-spec =
     same-length-5
     returns-5
     same-length-6
-    returns-6)
+    returns-6
+    same-length-7
+    returns-7
+    same-length-8
+    returns-8)

@@ -24,10 +24,11 @@ use Rattle.protocol.specs.Range.{total, load, occupied}
 use Rattle.protocol.specs.Steps.{nextStamp, greatestIn, choice, stored, found, delivered}
 use Rattle.protocol.specs.Steps.{joined, touches}
 use Rattle.protocol.specs.Clear.{mentions, unused}
+use Rattle.protocol.specs.HandOver.{standing}
 use Rattle.protocol.specs.LogFrame.{listed, readBytes, writeBytes, frame}
-use Rattle.protocol.specs.Calls.{Call, startRead, startWrite, deliver, show, clear, first}
-use Rattle.protocol.specs.Calls.{refusal, unexpected, missing, isNothing, outcomeOf, effect}
-use Rattle.protocol.specs.Calls.{reply, written, lent, step, numberOfAnswer}
+use Rattle.protocol.specs.Calls.{Call, startRead, startWrite, deliver, show, clear, handOver}
+use Rattle.protocol.specs.Calls.{compare, first, refusal, unexpected, missing, isNothing}
+use Rattle.protocol.specs.Calls.{outcomeOf, effect, reply, written, lent, step, numberOfAnswer}
 use Rattle.condition3.specs.World.{World, Labelled, begin, accepts, next, after, joining}
 use Rattle.condition3.specs.World.{leaving, staying, begun, withoutAll, storing, joiningOver}
 use Rattle.condition3.specs.World.{leavingOver, isRequest, isReply, isReplyFor, isReadMessage}
@@ -64,6 +65,10 @@ refusedAmong = deliver 1 ∷ startRead 2 1 ∷ deliver 9 ∷ deliver 1 ∷ deliv
 -- and with two clearings
 abbrev clearedAmong : List Call
 clearedAmong = deliver 1 ∷ clear ∷ deliver 1 ∷ clear ∷ deliver 1 ∷ []
+
+-- with a comparison, and a hand-over to the reader, which is refused
+abbrev comparedAmong : List Call
+comparedAmong = deliver 1 ∷ compare 2 1 ∷ deliver 1 ∷ handOver 1 2 ∷ deliver 1 ∷ []
 
 module _ (before meanwhile : List Call) where
   -- what joins, what is delivered, and the world after the read's end
@@ -117,7 +122,7 @@ showing =
 
 -- Calls count from 0. The write starts with call 0, and its prepares are delivered by 1 and 2. The
 -- second read starts with call 12; its gets are delivered by 13 and 14, which are the times of the
--- answers. A refused call takes its time, and so does a clearing.
+-- answers. A refused call takes its time, and so does any other.
 abbrev times : Bool
 times =
     let v = after capacities w between in
@@ -133,6 +138,7 @@ times =
     && same (map answeredAt (leaves between during)) (12 ∷ 12 ∷ 13 ∷ 14 ∷ [])
     && same (map answeredAt (leaves between refusedAmong)) (12 ∷ 12 ∷ 13 ∷ 16 ∷ [])
     && same (map answeredAt (leaves between clearedAmong)) (12 ∷ 12 ∷ 13 ∷ 15 ∷ [])
+    && same (map answeredAt (leaves between comparedAmong)) (12 ∷ 12 ∷ 13 ∷ 15 ∷ [])
 
 -- After its showing client 2, which has written nothing, starts a write of item 0: since it was
 -- shown number 1, its number is 2, and so its own showing says; a third write's is 3.
@@ -256,6 +262,7 @@ rows =
     ∷ whole between during
     ∷ whole between refusedAmong
     ∷ whole between clearedAmong
+    ∷ whole between comparedAmong
     ∷ resting written-first during
     ∷ resting between refusedAmong
     ∷ oneEach
@@ -274,9 +281,9 @@ unfolding next after joining leaving staying begun withoutAll storing joiningOve
     outcomeIn delivers stays startsFor rests step refusal first unexpected missing isNothing effect
     reply written lent outcomeOf valid inRange sizesInRange stampInRange entryInRange versionInRange
     messageInRange isKind endedInRange clientInRange readPartInRange writePartInRange load arrived
-    total occupied greatestIn choice stored found delivered joined touches mentions unused listed
-    readBytes writeBytes frame numberOfAnswer every all counted without dropped has upto remove ones
-    onesIn bigEndian numberAt
+    total occupied greatestIn choice stored found delivered joined touches mentions unused standing
+    listed readBytes writeBytes frame numberOfAnswer every all counted without dropped has upto
+    remove ones onesIn bigEndian numberAt
 spans = refl
 
 -- ---- A tie: both writes have number 1

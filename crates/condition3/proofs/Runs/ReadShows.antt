@@ -18,12 +18,12 @@ use Rattle.itemset.proofs.Laws.{has-empty, has-below}
 use Rattle.protocol.specs.Tables.{Sizes, Ended, rested, numberOf, writerOf}
 use Rattle.protocol.specs.Range.{Capacities}
 use Rattle.protocol.specs.Steps.{greatestIn, choice, nextStamp}
-use Rattle.protocol.specs.Calls.{Call, startRead, startWrite, show, step, written}
-use Rattle.condition3.specs.World.{World, Labelled, Write, Store, leaving, begun, moved, next}
+use Rattle.protocol.specs.Calls.{Call, startRead, show, step, written}
+use Rattle.condition3.specs.World.{World, Labelled, Write, Store, leaving, begun, moved}
 use Rattle.condition3.specs.World.{after, isReplyFor, stays, rests}
 use Rattle.condition3.specs.Condition3.{UnderWay, EndedBy, StoredBefore, answeredAt, came}
 use Rattle.condition3.specs.Condition3.{shownNumber, shownWriter, shownValue, Initial}
-use Rattle.condition3.specs.Condition3.{ShownWith, ShownOlder, Shows}
+use Rattle.condition3.specs.Condition3.{ShownWith, ShownOlder, Own, Shows}
 use Rattle.protocol.proofs.Stored.{choice-own}
 use Rattle.protocol.proofs.Known.{greatest-le, choice-number}
 use Rattle.protocol.proofs.Ranges.Values.{IsClient}
@@ -36,8 +36,7 @@ use Rattle.condition3.proofs.Runs.Run.{longer-view, after-known, after-
 use Rattle.condition3.proofs.Runs.ReadSpan.{Answer}
 use Rattle.condition3.proofs.Runs.ReadStep.{Finished, wasRead}
 use Rattle.condition3.proofs.Runs.Spans.{at-rest, rest-stays}
-use Rattle.condition3.proofs.Runs.WriteSpan.{Seen}
-use Rattle.condition3.proofs.Runs.WriteShows.{ended-write}
+use Rattle.condition3.proofs.Runs.Own.{own-seen}
 use Rattle.condition3.proofs.Runs.Shows.{answer-is, head-is, number-is, writer-is, value-is}
 use Rattle.condition3.proofs.Runs.ReadCounts.{after-start, after-span, asked, left, finished}
 use Rattle.condition3.proofs.Runs.ReadCounts.{left-all}
@@ -286,34 +285,15 @@ module _ (caps : Capacities) (w : World) (inv : Inv caps w) (d s : ℕ) (before 
       subst (λ (y : World). stamps k ≤ y .tables .view d k .stamp) (sym shown-is)
       (le-trans (answer k m .seen) (after-view caps (moved v end) until d k))
 
-  -- ---- no entry is older than an own write that had ended before
+  -- ---- no entry is older than a write that counted as its client's own before
 
-  -- the view at the read's start has all that it had right after an earlier call
-  at-start : (earlier : List Call) (finish : Call) (later : List Call)
-      → before ≡ earlier ++ finish ∷ later → (k : ℕ)
-      → next caps (after caps w earlier) finish .tables .view d k .stamp ≤ w₁ .tables .view d
-      k .stamp
-  unfolding after
-  at-start earlier finish later split k =
-      subst (λ (y : World). next caps
-      (after caps w earlier) finish .tables .view d k .stamp ≤ y .tables .view d k .stamp)
-      (sym (ap (after caps w) split ∙ after-append caps w earlier (finish ∷ later)))
-      (after-view caps (next caps (after caps w earlier) finish) later d k)
-
-  own : (z : ℕ) (bytes : List ℕ) (earlier meanwhile : List Call) (finish : Call) (later : List Call)
-      → before ≡ earlier ++ startWrite d z bytes ∷ meanwhile ++ finish ∷ later
-      → EndedBy caps w d (startWrite d z bytes) earlier meanwhile finish
+  own : (o z : ℕ) (bytes : List ℕ) (earlier : List Call) → Own caps w o z bytes earlier d before
       → (k : ℕ) → has s k ≡ true → has z k ≡ true
-      → ShownOlder s output k (nextStamp (after caps w earlier .tables) d) → ⊥
-  own z bytes earlier meanwhile finish later split o k m h older =
-      let c = startWrite d z bytes in
-      let stamp = nextStamp (after caps w earlier .tables) d in
-      let seen : Seen d z stamp (next caps (after caps w (earlier ++ c ∷ meanwhile)) finish) =
-      ended-write caps w inv d z bytes earlier meanwhile finish o .seen in
-      let now : stamp ≤ w₁ .tables .view d k .stamp =
-      le-trans (seen k h) (at-start (earlier ++ c ∷ meanwhile) finish later split k) in
+      → ShownOlder s output k (nextStamp (after caps w earlier .tables) o) → ⊥
+  own o z bytes earlier counts k m h older =
+      let stamp = nextStamp (after caps w earlier .tables) o in
       let less : stamps k < stamp = shown-older k m stamp older in
-      omega (arith, shown-ge k m)
+      omega (arith, own-seen caps w inv o z bytes earlier counts k h, shown-ge k m)
 
   -- ---- its client's later writes are later than all it shows
 

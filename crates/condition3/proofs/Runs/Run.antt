@@ -111,6 +111,14 @@ longer-view caps w xs ys =
     subst (λ (v : World). ViewGrows (after caps w xs .tables) (v .tables))
     (sym (after-append caps w xs ys)) (after-view caps (after caps w xs) ys)
 
+-- and since any call of it
+pub since-view : (caps : Capacities) (w : World) (xs : List Call) (c : Call) (ys : List Call)
+    → ViewGrows (next caps (after caps w xs) c .tables) (after caps w (xs ++ c ∷ ys) .tables)
+unfolding after
+since-view caps w xs c ys =
+    subst (λ (v : World). ViewGrows (next caps (after caps w xs) c .tables) (v .tables))
+    (sym (after-append caps w xs (c ∷ ys))) (after-view caps (next caps (after caps w xs) c) ys)
+
 -- ---- counts only rise
 
 abbrev pub CountsRise : Tables → Tables → Type 0

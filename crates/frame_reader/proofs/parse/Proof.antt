@@ -168,38 +168,22 @@ returns-5 c =
     (length (third .before .before .before .before .before .before .before .args .f .now)))
     (c .number-at9 .ensures))
 
-is-frame-requires-5 : tie.Need-is-frame-requires-5
-is-frame-requires-5 c κs = search needs
+parse-later-requires : tie.Need-parse-later-requires
+parse-later-requires c κs = search needs
 
 returns-6 : tie.Need-returns-6
 unfolding parsed
 returns-6 c =
-    let third = c .before .before .before .before .before .before in
+    let third = c .before .before .before .before .before in
     rw (
       sym (third .before .before .before .before .before .is-frame .ensures)
           ∙ third .before .before .before .before .if1 .left,
       sym (third .before .before .before .is-frame2 .ensures) ∙ third .before .before .if2 .left,
       sym (third .before .is-write .ensures) ∙ third .if3 .left,
-      sym (c .before .before .before .before .before .is-frame3 .ensures)
-          ∙ c .before .before .before .before .if4 .left,
-      sym (c .before .before .before .is-frame4 .ensures) ∙ c .before .before .if5 .left,
-      sym (c .before .is-frame5 .ensures) ∙ c .if6 .taken,
-    )
-
-returns-7 : tie.Need-returns-7
-unfolding parsed
-returns-7 c =
-    let third = c .before .before .before .before .before .before in
-    rw (
-      sym (third .before .before .before .before .before .is-frame .ensures)
-          ∙ third .before .before .before .before .if1 .left,
-      sym (third .before .before .before .is-frame2 .ensures) ∙ third .before .before .if2 .left,
-      sym (third .before .is-write .ensures) ∙ third .if3 .left,
-      sym (c .before .before .before .before .before .is-frame3 .ensures)
-          ∙ c .before .before .before .before .if4 .left,
-      sym (c .before .before .before .is-frame4 .ensures) ∙ c .before .before .if5 .left,
-      sym (c .before .is-frame5 .ensures) ∙ c .if6 .left,
-    )
+      sym (c .before .before .before .before .is-frame3 .ensures)
+          ∙ c .before .before .before .if4 .left,
+      sym (c .before .before .is-frame4 .ensures) ∙ c .before .if5 .left,
+    ) (c .parse-later .ensures)
 
 pub parse-spec : {M : Type 1} → statement M
 parse-spec =
@@ -224,6 +208,5 @@ parse-spec =
     is-frame-requires-4
     number-at-requires-9
     returns-5
-    is-frame-requires-5
-    returns-6
-    returns-7)
+    parse-later-requires
+    returns-6)

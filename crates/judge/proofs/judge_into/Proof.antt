@@ -2,7 +2,7 @@
 use mathlib.Core.List.{[]}
 use mathlib.Core.Path.{subst, _∙_}
 use native.Mathlib.Omega.{arith}
-use Rattle.judge.proofs.Answer.{checked-lines, checked-bad}
+use Rattle.judge.proofs.Answer.{checked-lines, checked-bad, lines-small}
 use Rattle.judge_scan.specs.Scan.{ScannedOf}
 use Rattle.judge_scan.specs.declared.Scanned.{Scanned}
 use Rattle.judge_scan.specs.declared.Scanned.the-variants.{Lines, Bad}
@@ -35,7 +35,9 @@ enum-known-scanned : tie.Need-enum-known-scanned
 enum-known-scanned c = search needs
 
 judge-lines-requires : tie.Need-judge-lines-requires
-judge-lines-requires c κs = lines (c .before .before .before) .3
+judge-lines-requires c κs =
+    let t = lines (c .before .before .before) in
+    (t .3, lines-small _ _ _ _ t)
 
 enum-known-scanned-2 : tie.Need-enum-known-scanned-2
 enum-known-scanned-2 c = search needs

@@ -1,33 +1,55 @@
--- `judge::judge_marked` meets its contract.
+-- `judge::judge_marked` meets its contract: no line is anybody's own above the first line.
+use Rattle.judge_findings.proofs.Owning.{owned-first}
 use Rattle.judge.proofs.Answer.{judged-fault, judged-clean}
 use borrow.Author.Needs.{needs}
 use Rattle.judge.proofs.judge_marked.Statement.{statement}
 use Rattle.judge.proofs.judge_marked.Tie as tie
 
+slice-aggregate-first-fault : tie.Need-slice-aggregate-first-fault
+slice-aggregate-first-fault c = search needs
+
 first-fault-requires : tie.Need-first-fault-requires
-first-fault-requires c κs = search needs
+first-fault-requires c κs =
+    let s = c .before .before .before .before in
+    let a = s .args in
+    (s .pre, owned-first (a .bytes .now) (a .starts .now) (a .n) 256 (s .pre .few))
+
+slice-aggregate-lowest : tie.Need-slice-aggregate-lowest
+slice-aggregate-lowest c = search needs
 
 lowest-requires : tie.Need-lowest-requires
 lowest-requires c κs = search needs
 
-add-t9 : tie.Need-add-t9
-add-t9 c = search needs
+add-t14 : tie.Need-add-t14
+add-t14 c = search needs
 
-cast-t10 : tie.Need-cast-t10
-cast-t10 c = search needs
+cast-t15 : tie.Need-cast-t15
+cast-t15 c = search needs
 
 returns : tie.Need-returns
 returns c =
-    let a = c .before .before .before .before .before .before .args in
-    judged-fault (a .bytes .now) (a .starts .now) (a .n) (c .before .before .first-fault .result)
-    (c .before .before .first-fault .ensures) _ (c .before .if1 .taken) (c .lowest .ensures)
+    let t = c .before .before in
+    let f = t .before .before in
+    let a = f .before .before .before .before .before .args in
+    judged-fault (a .bytes .now) (a .starts .now) (a .n) (f .first-fault .result)
+    (f .first-fault .ensures .0) _ (t .if1 .taken) (c .lowest .ensures)
 
 returns-2 : tie.Need-returns-2
 returns-2 c =
-    let a = c .before .before .before .before .before .args in
-    judged-clean (a .bytes .now) (a .starts .now) (a .n) (c .before .first-fault .result)
-    (c .before .first-fault .ensures) (c .if1 .left)
+    let f = c .before .before in
+    let a = f .before .before .before .before .before .args in
+    judged-clean (a .bytes .now) (a .starts .now) (a .n) (f .first-fault .result)
+    (f .first-fault .ensures .0) (c .if1 .left)
 
 pub judge-marked-spec : {M : Type 1} → statement M
 judge-marked-spec =
-    tie.close (tie.spec first-fault-requires lowest-requires add-t9 cast-t10 returns returns-2)
+    tie.close
+    (tie.spec
+    slice-aggregate-first-fault
+    first-fault-requires
+    slice-aggregate-lowest
+    lowest-requires
+    add-t14
+    cast-t15
+    returns
+    returns-2)

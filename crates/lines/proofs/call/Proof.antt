@@ -79,6 +79,18 @@ enum-told c = search needs
 clear-requires : tie.Need-clear-requires
 clear-requires c κs = search needs
 
+enum-known-frame-6 : tie.Need-enum-known-frame-6
+enum-known-frame-6 c = search needs
+
+hand-over-requires : tie.Need-hand-over-requires
+hand-over-requires c κs = search needs
+
+enum-known-frame-7 : tie.Need-enum-known-frame-7
+enum-known-frame-7 c = search needs
+
+compare-requires : tie.Need-compare-requires
+compare-requires c κs = search needs
+
 same-length : tie.Need-same-length
 same-length c = search needs
 
@@ -202,6 +214,44 @@ returns-6 c =
       ),
     )
 
+same-length-8 : tie.Need-same-length-8
+same-length-8 c = search needs
+
+returns-7 : tie.Need-returns-7
+unfolding callAnswer callBlock callOutput
+returns-7 c =
+    let arm = c .before .before .before .before .before in
+    let a = arm .before .before .before .before .before .args in
+    let b = a .b .now in
+    let f = a .f .now in
+    let o = a .shown .now in
+    let told = arm .frame6 .given .1 in (
+      c .before .before .hand-over .ensures .0 ∙ sym (ap (callAnswer b f o) told),
+      (
+        c .before .before .hand-over .ensures .1 .0 ∙ sym (ap (callBlock b f o) told),
+        sym (ap (callOutput b f o) told),
+      ),
+    )
+
+same-length-9 : tie.Need-same-length-9
+same-length-9 c = search needs
+
+returns-8 : tie.Need-returns-8
+unfolding callAnswer callBlock callOutput
+returns-8 c =
+    let arm = c .before .before .before in
+    let a = arm .before .before .before .before .before .args in
+    let b = a .b .now in
+    let f = a .f .now in
+    let o = a .shown .now in
+    let told = arm .frame7 .given .1 in (
+      c .compare .ensures .0 ∙ sym (ap (callAnswer b f o) told),
+      (
+        c .compare .ensures .1 ∙ sym (ap (callBlock b f o) told),
+        sym (ap (callOutput b f o) told),
+      ),
+    )
+
 pub call-spec : {M : Type 1} → statement M
 call-spec =
     tie.close
@@ -221,6 +271,10 @@ call-spec =
     show-requires
     enum-told
     clear-requires
+    enum-known-frame-6
+    hand-over-requires
+    enum-known-frame-7
+    compare-requires
     same-length
     returns
     same-length-2
@@ -233,4 +287,8 @@ call-spec =
     same-length-6
     returns-5
     same-length-7
-    returns-6)
+    returns-6
+    same-length-8
+    returns-7
+    same-length-9
+    returns-8)

@@ -16,7 +16,7 @@ use Rattle.protocol.specs.declared.Message.{Message}
 use Rattle.protocol.specs.declared.Message.the-variants.{Prepare, Prepared, Commit, Get, Got}
 use Rattle.protocol.specs.declared.Answer.{Answer}
 use Rattle.protocol.specs.declared.Answer.the-variants.{Refused, Made, Started, Delivered}
-use Rattle.protocol.specs.declared.Answer.the-variants.{Shown, Cleared}
+use Rattle.protocol.specs.declared.Answer.the-variants.{Shown, Cleared, HandedOver, Compared}
 use Rattle.protocol.specs.declared.Version.{Version}
 use Rattle.protocol.specs.declared.Entry.{Entry}
 use Rattle.protocol.specs.Tables.{Sizes, Tables, isKind, fresh, numberOf, writerOf}
@@ -27,6 +27,7 @@ use Rattle.protocol.specs.Range.{total, load, occupied}
 use Rattle.protocol.specs.Steps.{greatestIn, choice, stored, found, delivered, joined}
 use Rattle.protocol.specs.Steps.{touches}
 use Rattle.protocol.specs.Clear.{mentions, unused}
+use Rattle.protocol.specs.HandOver.{standing}
 use Rattle.protocol.specs.LogFrame.{listed, readBytes, writeBytes, frame}
 use Rattle.protocol.specs.Calls.{Call, Given, first, refusal, freshAnswer, unexpected}
 use Rattle.protocol.specs.Calls.{missing, isNothing, outcomeOf, effect, reply, written, lent}
@@ -70,9 +71,9 @@ unfoldable pub given : Tables → Call → Given
 unfolding step refusal first unexpected missing isNothing effect reply written lent outcomeOf valid
     inRange sizesInRange stampInRange entryInRange versionInRange messageInRange isKind
     endedInRange clientInRange readPartInRange writePartInRange load arrived total occupied
-    greatestIn choice stored found delivered joined touches mentions unused listed readBytes
-    writeBytes frame every all counted without dropped has upto remove ones onesIn bigEndian
-    numberAt
+    greatestIn choice stored found delivered joined touches mentions unused standing listed
+    readBytes writeBytes frame every all counted without dropped has upto remove ones onesIn
+    bigEndian numberAt
 given t c = step capacities t c
 
 unfoldable pub made : Sizes → Answer
@@ -95,6 +96,8 @@ framed (Started n) = 0
 framed (Delivered kind n outcome) = 0
 framed (Shown n) = n
 framed (Cleared n) = 0
+framed (HandedOver giver receiver) = 0
+framed (Compared n) = 0
 
 -- ---- A row is right
 

@@ -6,6 +6,7 @@ use native.Mathlib.Omega.{arith}
 use borrow.Author.Needs.{needs}
 use Rattle.protocol.specs.Calls.{numberOfAnswer}
 use Rattle.block_calls.proofs.Fits.{fits-started, fits-delivered, fits-shown, fits-cleared}
+use Rattle.block_calls.proofs.Fits.{fits-compared}
 use Rattle.store.proofs.number_of.Statement.{statement}
 use Rattle.store.proofs.number_of.Tie as tie
 
@@ -70,6 +71,18 @@ mul-result-6 c =
     let answer = c .before .a5 .given in
     omega (arith, fits-cleared (start .args .a) (answer .0 .0) (answer .1) (search needs))
 
+enum-told-2 : tie.Need-enum-told-2
+enum-told-2 c = search needs
+
+enum-known-a-6 : tie.Need-enum-known-a-6
+enum-known-a-6 c = search needs
+
+mul-result-7 : tie.Need-mul-result-7
+mul-result-7 c =
+    let start = c .before .before .before in
+    let answer = c .before .a6 .given in
+    omega (arith, fits-compared (start .args .a) (answer .0 .0) (answer .1) (search needs))
+
 returns : tie.Need-returns
 unfolding numberOfAnswer
 returns c = rw (c .before .a .given .1) refl
@@ -94,6 +107,14 @@ returns-6 : tie.Need-returns-6
 unfolding numberOfAnswer
 returns-6 c = rw (c .before .a5 .given .1) refl
 
+returns-7 : tie.Need-returns-7
+unfolding numberOfAnswer
+returns-7 c = rw (c .enum-told2 .given .1) refl
+
+returns-8 : tie.Need-returns-8
+unfolding numberOfAnswer
+returns-8 c = rw (c .before .a6 .given .1) refl
+
 pub number-of-spec : {M : Type 1} → statement M
 number-of-spec =
     tie.close
@@ -112,9 +133,14 @@ number-of-spec =
     mul-result-5
     enum-known-a-5
     mul-result-6
+    enum-told-2
+    enum-known-a-6
+    mul-result-7
     returns
     returns-2
     returns-3
     returns-4
     returns-5
-    returns-6)
+    returns-6
+    returns-7
+    returns-8)

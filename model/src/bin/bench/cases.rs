@@ -57,6 +57,20 @@ fn show(name: &'static str, session: &Session, client: u64) -> Case {
     case(name, session, Call::Show { client, output })
 }
 
+/// On the busy block of two views that differ in 8 of their 64 entries, and of a view with itself,
+/// where no entry tells how they stand.
+pub const HAND_OVER: &str = "hand over";
+pub const COMPARE: &str = "compare two clients";
+pub const COMPARE_ALIKE: &str = "compare a client with itself";
+
+fn hand_over(session: &Session, giver: u64, receiver: u64) -> Case {
+    case(HAND_OVER, session, Call::HandOver { giver, receiver })
+}
+
+fn compare(name: &'static str, session: &Session, first: u64, second: u64) -> Case {
+    case(name, session, Call::Compare { first, second })
+}
+
 /// A clearing of the block, at which so many versions stay.
 pub fn clear(name: &'static str, block: Vec<u64>, stay: usize) -> Case {
     let mut store = Store::with_tables(decode(&block).expect("a block of tables"));
@@ -89,6 +103,8 @@ pub fn small() -> Vec<Case> {
     cases.push(deliver("deliver the last got", &session, GOT, 2));
     session.deliver(GOT, 2, 1);
     cases.push(show("show a read of 4 items", &session, 2));
+    cases.push(hand_over(&session, 1, 2));
+    cases.push(compare(COMPARE, &session, 1, 2));
     cases.push(check(CHECK, &session));
     cases
 }
@@ -99,6 +115,8 @@ pub fn busy() -> Vec<Case> {
     let session = busy_session();
     let tables = session.tables();
     assert_eq!((tables.versions.len(), tables.messages.len()), (500, 120));
+    let apart = tables.view(1).iter().zip(tables.view(2)).filter(|(one, other)| one != other);
+    assert_eq!(apart.count(), 8);
     vec![
         fresh(&session),
         write(&session, 2),
@@ -111,6 +129,9 @@ pub fn busy() -> Vec<Case> {
         deliver("deliver a got", &session, GOT, 7),
         deliver("deliver the last got", &session, GOT, 8),
         show("show a read of 64 items", &session, 1),
+        hand_over(&session, 2, 1),
+        compare(COMPARE, &session, 2, 1),
+        compare(COMPARE_ALIKE, &session, 1, 1),
         check(CHECK, &session),
     ]
 }

@@ -11,12 +11,35 @@ const MOST_BYTES: usize = 32_768;
 const MOST_LINES: usize = 256;
 const ROUNDS: usize = 15;
 
-/// What a log is made of: so many writes of `width` items each, and reads of `shown`.
+/// What a log is made of: so many writes of `width` items each, hand-overs above or below them, and
+/// reads of `shown`.
 #[derive(Clone, Copy, Default)]
 pub struct Shape {
     pub writes: usize,
     pub width: usize,
+    pub hand_overs: HandOvers,
     pub shown: usize,
+}
+
+/// So many hand-overs from client to client, and where they stand.
+#[derive(Clone, Copy, Default)]
+pub struct HandOvers {
+    pub count: usize,
+    pub above: bool,
+}
+
+impl HandOvers {
+    /// Their lines, and the client that took over last.
+    fn lines(self) -> (String, u8) {
+        let mut client = 1;
+        let line = |_| {
+            let giver = client;
+            client = 1 + client % 8;
+            LogFrame::of_hand_over(giver, client).line()
+        };
+        let lines = (0..self.count).map(line).collect();
+        (lines, client)
+    }
 }
 
 /// Nanoseconds of a verdict on one log.
@@ -29,15 +52,30 @@ pub struct Row {
     pub models: Figure,
 }
 
+/// The slowest logs that are found, without hand-overs among their lines and with some; both are
+/// judged in the same rounds.
+pub struct Slowest {
+    pub plain: Row,
+    pub handed_over: Row,
+    /// The second's time as a multiple of the first's.
+    pub times: Figure,
+}
+
 /// The set of `width` items from `from` on, around the 64.
 fn items_from(from: usize, width: usize) -> u64 {
     (0..width).fold(0, |set, i| set | 1 << ((from + i) % 64))
 }
 
-/// A clean log that a judge has to search to its end: writes in turn over all 64 items, then as
-/// many reads by the same client as fit, each item from its last write.
+/// A clean log that a judge has to search to its end: hand-overs, writes in turn over all 64 items
+/// and as many reads as fit, each item from its last write; or the hand-overs below the writes. The
+/// reads are by the client to which all writes count as its own: the writer, or whoever took over
+/// from it last.
 fn log_of(shape: Shape, most_bytes: usize) -> Vec<u8> {
+    let (hand_overs, heir) = shape.hand_overs.lines();
     let mut log = Vec::new();
+    if shape.hand_overs.above {
+        log.extend(hand_overs.bytes());
+    }
     let mut last = [0; 64];
     for number in 1..=shape.writes {
         let set = items_from(number * shape.width, shape.width);
@@ -49,14 +87,18 @@ fn log_of(shape: Shape, most_bytes: usize) -> Vec<u8> {
         let values = vec![number as u32; shape.width];
         log.extend(LogFrame::of_write(1, set, number as u32, values).line().bytes());
     }
+    let reader = if shape.hand_overs.above { 1 } else { heir };
+    if !shape.hand_overs.above {
+        log.extend(hand_overs.bytes());
+    }
     let entry = |item: usize| Shown {
         number: last[item],
         client: u8::from(last[item] > 0),
         value: last[item],
     };
     let shown = (0..shape.shown).map(entry).collect();
-    let read = LogFrame::of_read(1, items_from(0, shape.shown), shown).line();
-    let mut lines = shape.writes;
+    let read = LogFrame::of_read(reader, items_from(0, shape.shown), shown).line();
+    let mut lines = shape.writes + shape.hand_overs.count;
     while lines < MOST_LINES && log.len() + read.len() <= most_bytes {
         log.extend(read.bytes());
         lines += 1;
@@ -90,7 +132,7 @@ impl Log {
 }
 
 /// The logs, all in the same rounds.
-fn rows(logs: &[Log]) -> Vec<Row> {
+fn rows(logs: &[Log]) -> (Rounds, Vec<Row>) {
     let rounds = Rounds::run(ROUNDS, logs.iter().flat_map(Log::contenders).collect());
     let row = |(place, log): (usize, &Log)| Row {
         shape: log.shape,
@@ -99,32 +141,52 @@ fn rows(logs: &[Log]) -> Vec<Row> {
         model: rounds.time(2 * place + 1),
         models: rounds.ratio(2 * place, 2 * place + 1),
     };
-    logs.iter().enumerate().map(row).collect()
+    let rows = logs.iter().enumerate().map(row).collect();
+    (rounds, rows)
 }
 
-/// The log on which the proved judge is slowest, of the shapes tried that fit the limits.
-pub fn slowest() -> Row {
+pub fn slowest() -> Slowest {
+    let below = [1, 8, 32, 96].map(|count| HandOvers { count, above: false });
+    let above = [8, 32, 96].map(|count| HandOvers { count, above: true });
+    let some: Vec<HandOvers> = below.into_iter().chain(above).collect();
+    let shapes = [slowest_shape(&[HandOvers::default()]), slowest_shape(&some)];
+    let (rounds, rows) = rows(&shapes.map(|shape| Log::new(shape, MOST_BYTES)));
+    let [plain, handed_over] = rows.try_into().unwrap_or_else(|_| panic!("two rows"));
+    // A row has two contenders, the judge and the model's.
+    Slowest { plain, handed_over, times: rounds.ratio(2, 0) }
+}
+
+/// The shape on whose log the proved judge is slowest, of those tried that fit the limits, with
+/// hand-overs as one of these.
+fn slowest_shape(hand_overs: &[HandOvers]) -> Shape {
     let mut slowest = (0.0, Shape::default());
     for width in [1, 2, 4, 8, 16, 64] {
         for shown in [1, 4, 9, 12, 16, 20, 24, 32, 64] {
             for writes in (16..=240).step_by(16) {
-                let shape = Shape { writes, width, shown };
-                let log = log_of(shape, MOST_BYTES);
-                let clean = Verdict::CLEAN.number();
-                if log.len() > MOST_BYTES || proved::judge::judge(&log) != clean {
-                    continue;
-                }
-                let time = quickest(3, || {
-                    black_box(proved::judge::judge(black_box(&log)));
-                });
-                if time > slowest.0 {
-                    slowest = (time, shape);
+                for hand_overs in hand_overs.iter().copied() {
+                    let shape = Shape { writes, width, hand_overs, shown };
+                    let time = time_of(shape);
+                    if time > slowest.0 {
+                        slowest = (time, shape);
+                    }
                 }
             }
         }
     }
-    let mut row = rows(&[Log::new(slowest.1, MOST_BYTES)]);
-    row.remove(0)
+    slowest.1
+}
+
+/// The quickest of three verdicts on the shape's log; 0 where the judge doesn't find it clean, or
+/// it is over a limit.
+fn time_of(shape: Shape) -> f64 {
+    let log = log_of(shape, MOST_BYTES);
+    let is_over = log.len() > MOST_BYTES || shape.writes + shape.hand_overs.count > MOST_LINES;
+    if is_over || proved::judge::judge(&log) != Verdict::CLEAN.number() {
+        return 0.0;
+    }
+    quickest(3, || {
+        black_box(proved::judge::judge(black_box(&log)));
+    })
 }
 
 /// Logs of half writes of 12 items and half reads of 12, up to the limit of bytes.
@@ -132,9 +194,10 @@ pub fn growth() -> Vec<Row> {
     let bytes_of_a_write = 125;
     let log = |part| {
         let most_bytes = part * MOST_BYTES / 8;
-        let shape = Shape { writes: most_bytes / 2 / bytes_of_a_write, width: 12, shown: 12 };
+        let writes = most_bytes / 2 / bytes_of_a_write;
+        let shape = Shape { writes, width: 12, shown: 12, ..Shape::default() };
         Log::new(shape, most_bytes)
     };
     let logs: Vec<Log> = (1..=8).map(log).collect();
-    rows(&logs)
+    rows(&logs).1
 }

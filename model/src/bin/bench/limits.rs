@@ -1,10 +1,12 @@
 //! The limits, and whether what was measured meets them: the quickest rounds are held to them.
 
 use crate::call::Row;
-use crate::cases::{CHECK, CHECK_OF_A_FRESH_SHEET, READ_OF_4, READ_OF_64};
+use crate::cases::{
+    CHECK, CHECK_OF_A_FRESH_SHEET, COMPARE, COMPARE_ALIKE, HAND_OVER, READ_OF_4, READ_OF_64,
+};
 use crate::clock::Figure;
 use crate::page::{time, Measured};
-use crate::sheet;
+use crate::{judges, sheet};
 
 /// A limit, what was found of it, and whether that meets it; nothing where it wasn't measured.
 pub struct Limit {
@@ -33,9 +35,13 @@ const CLEARING_FLOORS: f64 = 40.0;
 /// with clearings no slower.
 const FASTER: f64 = 2.0;
 pub const NOT_SLOWER: f64 = 1.0;
-/// The slowest log takes at most 20 ms, and so many times the model's judge.
+/// On the busy block a hand-over and a comparison are at most so many times the check alone.
+const CHECKS: f64 = 1.2;
+/// The slowest log takes at most 20 ms, and so many times the model's judge; the slowest with
+/// hand-overs among its lines so many times the slowest without.
 const SLOWEST: f64 = 20e6;
 const JUDGES: f64 = 8.0;
+const HANDED_OVER: f64 = 1.5;
 
 pub fn limits(measured: &Measured) -> Vec<Limit> {
     let busy = &measured.busy;
@@ -76,6 +82,13 @@ pub fn limits(measured: &Measured) -> Vec<Limit> {
             FRESH_SHEET * FRESH_SHEET_WAS,
         ),
     ];
+    limits.extend([HAND_OVER, COMPARE, COMPARE_ALIKE].map(|name| {
+        at_most(
+            format!("busy block, {name}: at most {CHECKS} times the check alone"),
+            times(named(busy, name).store, check.store),
+            CHECKS,
+        )
+    }));
     limits.push(at_most(
         format!("busy block: a clearing at most {CLEARING_FLOORS} floors"),
         measured.clearings.busy.floors,
@@ -94,19 +107,39 @@ pub fn limits(measured: &Measured) -> Vec<Limit> {
         &measured.sheets.cleared,
         NOT_SLOWER,
     ));
-    let slowest = &measured.slowest;
-    limits.push(Limit {
-        limit: "judge: the slowest log at most 20 ms".to_owned(),
-        quickest: time(slowest.judge.quickest),
-        median: time(slowest.judge.median),
-        met: Some(slowest.judge.quickest <= SLOWEST),
-    });
-    limits.push(at_most(
-        format!("judge: the slowest log at most {JUDGES} times the model's judge"),
-        slowest.models,
-        JUDGES,
-    ));
+    limits.extend(of_the_judge(&measured.slowest));
     limits
+}
+
+fn of_the_judge(slowest: &judges::Slowest) -> [Limit; 3] {
+    let rows = [&slowest.plain, &slowest.handed_over];
+    let [times, models] = [rows.map(|row| row.judge), rows.map(|row| row.models)].map(greatest);
+    [
+        Limit {
+            limit: "judge: the slowest log at most 20 ms".to_owned(),
+            quickest: time(times.quickest),
+            median: time(times.median),
+            met: Some(times.quickest <= SLOWEST),
+        },
+        at_most(
+            format!("judge: the slowest log at most {JUDGES} times the model's judge"),
+            models,
+            JUDGES,
+        ),
+        at_most(
+            format!(
+                "judge: the slowest log with hand-overs among its lines at most {HANDED_OVER} \
+                 times the slowest without"
+            ),
+            slowest.times,
+            HANDED_OVER,
+        ),
+    ]
+}
+
+fn greatest(figures: [Figure; 2]) -> Figure {
+    let [one, other] = figures;
+    Figure { quickest: one.quickest.max(other.quickest), median: one.median.max(other.median) }
 }
 
 fn named<'a>(rows: &'a [Row], name: &str) -> &'a Row {
@@ -117,7 +150,12 @@ fn named<'a>(rows: &'a [Row], name: &str) -> &'a Row {
 /// How many times a read of 4 items the start of that name is.
 fn wide_read(rows: &[Row], name: &str) -> Figure {
     let [wide, narrow] = [name, READ_OF_4].map(|name| named(rows, name).store);
-    Figure { quickest: wide.quickest / narrow.quickest, median: wide.median / narrow.median }
+    times(wide, narrow)
+}
+
+/// How many times the other the one takes.
+fn times(one: Figure, other: Figure) -> Figure {
+    Figure { quickest: one.quickest / other.quickest, median: one.median / other.median }
 }
 
 fn ratio(ratio: f64) -> String {

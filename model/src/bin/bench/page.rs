@@ -24,7 +24,7 @@ pub struct Measured {
     pub clearings: Clearings,
     /// On a fresh sheet, and over the life of one.
     pub sheets: sheet::Rows,
-    pub slowest: judges::Row,
+    pub slowest: judges::Slowest,
     pub versions: Vec<Point>,
     pub messages: Vec<Point>,
     pub items: Vec<Point>,
@@ -168,17 +168,24 @@ fn sheets_table(rows: &sheet::Rows) -> String {
     text
 }
 
-fn judges_table(slowest: &judges::Row) -> String {
-    let shape = slowest.shape;
-    let log = format!(
-        "{} writes of {} items, then reads of {}: {} bytes",
-        shape.writes, shape.width, shape.shown, slowest.bytes
-    );
+fn judges_table(slowest: &judges::Slowest) -> String {
     let head = ["Log", "Judge", "Model's judge", "Judge / model"];
-    let mut text = "## The judge, on the slowest log found\n\n".to_owned()
+    let mut text = "## The judge, on the slowest logs found\n\n".to_owned()
         + &heading(&head, "|---|--:|--:|--:|");
-    let [judge, model] = [slowest.judge, slowest.model].map(times);
-    line(&mut text, &[&log, &judge, &model, &ratios(slowest.models)]);
+    for row in [&slowest.plain, &slowest.handed_over] {
+        let judges::Shape { writes, width, hand_overs, shown } = row.shape;
+        let some = match hand_overs.count {
+            0 => String::new(),
+            count => format!("{count} hand-overs, "),
+        };
+        let [above, below] = if hand_overs.above { [&*some, ""] } else { ["", &*some] };
+        let bytes = row.bytes;
+        let log = format!(
+            "{above}{writes} writes of {width} items, {below}then reads of {shown}: {bytes} bytes"
+        );
+        let [judge, model] = [row.judge, row.model].map(times);
+        line(&mut text, &[&log, &judge, &model, &ratios(row.models)]);
+    }
     text
 }
 

@@ -1,6 +1,6 @@
 //! Logs at and past the limits of refusal 16, and the greatest line numbers.
 
-use super::{example, read, write, Example, CLEAN, INITIAL};
+use super::{example, hand_over, read, write, Example, CLEAN, INITIAL};
 
 const TOO_LONG: &str = "10";
 
@@ -34,6 +34,8 @@ fn line_ends() -> Vec<Example> {
     let missed = read(1, 1, &[INITIAL]);
     let last = read(2, 1, &[(255, 1, 7)]);
     let unwritten = read(2, 1, &[(9, 8, 7)]);
+    let hand_overs = |count: usize| hand_over(1, 2).repeat(count);
+    let missed_by_2 = read(2, 1, &[INITIAL]);
     vec![
         example("256 writes", CLEAN, &[&writes(256)]),
         example("257 writes", TOO_LONG, &[&writes(257)]),
@@ -53,6 +55,24 @@ fn line_ends() -> Vec<Example> {
         example("fault at line 1 of 256", "00010001", &[&unwritten, &writes(255)]),
         example("fault at line 1 of 257", TOO_LONG, &[&unwritten, &writes(256)]),
         example("write 255 lines below its read", CLEAN, &[&last, &writes(255)]),
+        example("256 hand-overs", CLEAN, &[&hand_overs(256)]),
+        example("257 hand-overs", TOO_LONG, &[&hand_overs(257)]),
+        example("256 hand-overs and a digit", "0f0101", &[&hand_overs(256), "2"]),
+        example(
+            "giver's write missed below 254 hand-overs",
+            "00030100",
+            &[&writes(1), &hand_overs(254), &missed_by_2],
+        ),
+        example(
+            "254 writes of a giver, the first shown",
+            "00030100",
+            &[&writes(254), &hand_over(1, 2), &read(2, 1, &[(1, 1, 7)])],
+        ),
+        example(
+            "254 writes of a giver, the last shown",
+            CLEAN,
+            &[&writes(254), &hand_over(1, 2), &read(2, 1, &[(254, 1, 7)])],
+        ),
     ]
 }
 

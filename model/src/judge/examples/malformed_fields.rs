@@ -1,13 +1,15 @@
 //! Frames with a field that the judge won't take, beside the nearest that it takes.
 
-use super::{example, read, write, Example, CLEAN, INITIAL};
+use super::{example, hand_over, read, write, Example, CLEAN, INITIAL};
 
 const FIRST_LINE: &str = "0f0001";
 const SECOND_LINE: &str = "0f0002";
 const THIRD_LINE: &str = "0f0003";
 
 pub fn examples() -> Vec<Example> {
-    [clients_and_sets(), numbers(), stamps(), first_of_several()].into_iter().flatten().collect()
+    let all =
+        [clients_and_sets(), hand_overs(), numbers(), stamps(), first_of_several()].into_iter();
+    all.flatten().collect()
 }
 
 fn clients_and_sets() -> Vec<Example> {
@@ -28,7 +30,29 @@ fn clients_and_sets() -> Vec<Example> {
     ]
 }
 
-/// Numbers of one client's writes rise strictly, from 1 or more.
+/// Two different clients of 1..8.
+fn hand_overs() -> Vec<Example> {
+    vec![
+        example("hand-over from 1 to 8", CLEAN, &[&hand_over(1, 8)]),
+        example("hand-over from 8 to 1", CLEAN, &[&hand_over(8, 1)]),
+        example("hand-over from 0", FIRST_LINE, &[&hand_over(0, 1)]),
+        example("hand-over from 9", FIRST_LINE, &[&hand_over(9, 1)]),
+        example("hand-over from 255", FIRST_LINE, &[&hand_over(255, 1)]),
+        example("hand-over to 0", FIRST_LINE, &[&hand_over(1, 0)]),
+        example("hand-over to 9", FIRST_LINE, &[&hand_over(1, 9)]),
+        example("hand-over to 255", FIRST_LINE, &[&hand_over(1, 255)]),
+        example("hand-over to the giver itself", FIRST_LINE, &[&hand_over(3, 3)]),
+        example("hand-over from 0 to 0", FIRST_LINE, &[&hand_over(0, 0)]),
+        example(
+            "hand-over to the giver itself below others",
+            THIRD_LINE,
+            &[&write(1, 1, 1, &[7]), &hand_over(1, 2), &hand_over(2, 2)],
+        ),
+        example("clients that wrote nothing", CLEAN, &[&hand_over(7, 8), &hand_over(8, 7)]),
+    ]
+}
+
+/// Numbers of one client's writes rise strictly, from 1 or more; what a client takes over has none.
 fn numbers() -> Vec<Example> {
     let by = |client, number| write(client, 1, number, &[7]);
     vec![
@@ -57,6 +81,21 @@ fn numbers() -> Vec<Example> {
             "numbers of each client rising on their own",
             CLEAN,
             &[&by(2, 9), &by(1, 1), &by(1, 2)],
+        ),
+        example(
+            "equal numbers with a hand-over between",
+            THIRD_LINE,
+            &[&by(1, 2), &hand_over(1, 2), &by(1, 2)],
+        ),
+        example(
+            "number of the receiver equal to the giver's",
+            CLEAN,
+            &[&by(1, 2), &hand_over(1, 2), &by(2, 2)],
+        ),
+        example(
+            "number of the giver below the receiver's",
+            CLEAN,
+            &[&by(2, 2), &hand_over(1, 2), &by(1, 1)],
         ),
         example("equal numbers of other items", SECOND_LINE, &[&by(1, 2), &write(1, 2, 2, &[7])]),
     ]

@@ -48,7 +48,7 @@ fn characters() -> Vec<Example> {
 fn kinds_and_lengths() -> Vec<Example> {
     let one = |name, line: &str| example(name, FIRST_LINE, &[line, "\n"]);
     vec![
-        one("kind 22", "2201000000000000000100000001000000a9"),
+        one("kind 23", "2301000000000000000100000001000000a9"),
         one("kind 1f", "1f01000000000000000100000001000000a9"),
         one("kind 00", "0001000000000000000100000001000000a9"),
         one("kind alone", "20"),
@@ -69,6 +69,13 @@ fn kinds_and_lengths() -> Vec<Example> {
         ),
         one("read with an entry too few", "21020000000000000003000000000000000000"),
         example("read of one entry", CLEAN, &["21020000000000000001000000000000000000\n"]),
+        one("hand-over of a write's length", "2201000000000000000100000001000000a9"),
+        one("hand-over's kind alone", "22"),
+        one("hand-over without receiver", "2201"),
+        one("hand-over a byte long", "22010200"),
+        one("hand-over a digit long", "2201020"),
+        example("hand-over of three bytes", CLEAN, &["220102\n"]),
+        one("two hand-overs on a line", "220102220203"),
         one(
             "two frames on a line",
             "2101000000000000000100000000000000000021010000000000000001000000000000000000",

@@ -33,7 +33,8 @@ pub(super) fn frames_of(lines: u64, doubtful: u64, random: &mut Random) -> Vec<L
     frames
 }
 
-/// Writes with numbers that rise for each client, and reads that don't show anything yet.
+/// Writes with numbers that rise for each client, hand-overs, and reads that don't show anything
+/// yet. Whoever took over last goes on more often than others.
 fn writes_and_empty_reads(lines: u64, random: &mut Random) -> Vec<LogFrame> {
     let clients = random.pick(&[2, 2, 3, 8]);
     let items = match random.below(50) {
@@ -42,9 +43,17 @@ fn writes_and_empty_reads(lines: u64, random: &mut Random) -> Vec<LogFrame> {
     };
     let first_number = random.pick(&[1, 1, 1, 1_000, u32::MAX - 3 * lines as u32]);
     let mut next_number = [first_number; 9];
+    let hand_overs = random.pick(&[0, 15, 40]);
+    let mut took_over = None;
     (0..lines)
         .map(|_| {
-            let client = 1 + random.place(clients);
+            let any = 1 + random.place(clients);
+            let client = took_over.filter(|_| random.once_in(2)).unwrap_or(any);
+            if random.percent(hand_overs) {
+                let receiver = 1 + (client + random.place(clients - 1)) % clients;
+                took_over = Some(receiver);
+                return LogFrame::of_hand_over(client as u8, receiver as u8);
+            }
             let set = subset(items, random);
             if random.once_in(2) {
                 return LogFrame::of_read(client as u8, set, Vec::new());
@@ -82,7 +91,7 @@ fn spoil_field(frames: &mut [LogFrame], random: &mut Random) {
     }
     let place = random.place(frames.len());
     let bad_client = random.pick(&[0, 9, 255]);
-    let LogFrame { client, read, write } = &mut frames[place];
+    let LogFrame { client, read, write, receiver } = &mut frames[place];
     if let Some(WritePart { set, number, values }) = write {
         match random.below(6) {
             0 => *client = bad_client,
@@ -101,6 +110,13 @@ fn spoil_field(frames: &mut [LogFrame], random: &mut Random) {
             3 => *set ^= 1 << random.below(64),
             4 => (*set, *shown) = (0, Vec::new()),
             _ => spoil_stamp(shown, random),
+        }
+    }
+    if let Some(receiver) = receiver {
+        match random.below(3) {
+            0 => *client = bad_client,
+            1 => *receiver = bad_client,
+            _ => *receiver = *client,
         }
     }
 }

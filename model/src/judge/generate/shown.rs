@@ -4,6 +4,7 @@ use crate::frames::log::{LogFrame, Shown};
 use crate::random::Random;
 use crate::set::items;
 use crate::stamp::Stamp;
+use std::collections::BTreeSet;
 
 /// Entries of a set's items for the read at this place.
 pub fn random_entries(log: &[LogFrame], place: usize, set: u64, random: &mut Random) -> Vec<Shown> {
@@ -42,9 +43,16 @@ fn some_frames<'a>(log: &'a [LogFrame], random: &mut Random) -> Vec<&'a LogFrame
     log.iter().filter(|_| random.once_in(2)).collect()
 }
 
-/// All that the client itself wrote above this place.
+/// All that counts as the client's own above this place: what it wrote itself, and what counted as
+/// a giver's own when that one handed over to it.
 fn own_frames(log: &[LogFrame], place: usize, client: u8) -> impl Iterator<Item = &LogFrame> {
-    log[..place].iter().filter(move |frame| frame.client == client)
+    let mut counted = BTreeSet::from([client]);
+    log[..place].iter().rev().filter(move |frame| {
+        if frame.receiver.is_some_and(|receiver| counted.contains(&receiver)) {
+            counted.insert(frame.client);
+        }
+        counted.contains(&frame.client)
+    })
 }
 
 /// The latest of the frames' entries for the item.

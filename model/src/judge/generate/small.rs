@@ -1,4 +1,5 @@
-//! Every log of two writes and a read, over two items, two writing clients and two numbers.
+//! Every log of two writes and a read, over two items, two writing clients and two numbers; and of
+//! a write, two hand-overs and a read.
 
 use crate::frames::log::{LogFrame, Shown};
 
@@ -65,4 +66,43 @@ fn every_entry(item: u32) -> Vec<Shown> {
 
 fn value(number: u32, client: u8, item: u32) -> u32 {
     100 * number + 10 * u32::from(client) + item
+}
+
+/// Every log of a write, two hand-overs and a read of one item, over three clients, in every order.
+/// The read shows the item as initial or from the write.
+pub fn every_small_log_with_hand_overs() -> Vec<Vec<u8>> {
+    let mut logs = Vec::new();
+    for writer in 1..=3 {
+        let write = LogFrame::of_write(writer, 1, 1, vec![7]).line();
+        let written = Shown { number: 1, client: writer, value: 7 };
+        for first in every_hand_over() {
+            for second in every_hand_over() {
+                for reader in 1..=3 {
+                    for entry in [Shown::INITIAL, written] {
+                        let read = LogFrame::of_read(reader, 1, vec![entry]).line();
+                        logs.extend(every_order([&write, &first, &second, &read]));
+                    }
+                }
+            }
+        }
+    }
+    logs
+}
+
+/// From each of three clients to each other.
+fn every_hand_over() -> Vec<String> {
+    let pairs = (1..=3).flat_map(|giver| (1..=3).map(move |receiver| (giver, receiver)));
+    let two = pairs.filter(|(giver, receiver)| giver != receiver);
+    two.map(|(giver, receiver)| LogFrame::of_hand_over(giver, receiver).line()).collect()
+}
+
+/// The lines in each of their 24 orders.
+fn every_order(lines: [&String; 4]) -> Vec<Vec<u8>> {
+    let mut orders = Vec::new();
+    for places in 0..4_usize.pow(4) {
+        let order = [0, 1, 2, 3].map(|line| places >> (2 * line) & 3);
+        let is_order = (0..4).all(|place| order.contains(&place));
+        orders.extend(is_order.then(|| order.map(|place| lines[place].as_bytes()).concat()));
+    }
+    orders
 }

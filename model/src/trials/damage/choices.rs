@@ -72,6 +72,16 @@ impl Chooser<'_> {
         Call::Show { client, output: self.random.bytes(room as usize) }
     }
 
+    pub(super) fn hand_over(&mut self) -> Call {
+        let [giver, receiver] = [(); 2].map(|()| self.client());
+        Call::HandOver { giver, receiver }
+    }
+
+    pub(super) fn compare(&mut self) -> Call {
+        let [first, second] = [(); 2].map(|()| self.client());
+        Call::Compare { first, second }
+    }
+
     /// Mostly the damaged client, or one that is idle.
     fn client(&mut self) -> u64 {
         let clients = self.tables.sizes.clients;

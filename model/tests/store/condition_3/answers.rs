@@ -20,6 +20,7 @@ fn a_number_that_no_such_call_answers_is_found() {
         });
     }
     breaks(Clause::Answer, READ, |events| events[READ].answer = 17);
+    breaks(Clause::Answer, READ, |events| events[READ].answer = 18);
     breaks(Clause::Answer, FIRST_PREPARE, |events| {
         events[FIRST_PREPARE].answer |= 1 << 40;
     });

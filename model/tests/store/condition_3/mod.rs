@@ -5,6 +5,7 @@ mod answers;
 mod clearings;
 mod corrections;
 mod falls;
+mod hand_overs;
 mod showings;
 mod unshown;
 
@@ -61,6 +62,7 @@ fn a_write_and_its_read_keep_every_clause() {
         shown_again: 0,
         gone: 0,
         served: 0,
+        taken_over: 0,
     };
     assert_eq!(check(&own_read()), Ok(expected));
 }

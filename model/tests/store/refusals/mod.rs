@@ -4,6 +4,7 @@
 mod capacities;
 mod clearings;
 mod deliveries;
+mod hand_overs;
 mod order;
 mod starts;
 mod width;

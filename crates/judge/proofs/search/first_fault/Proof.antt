@@ -1,15 +1,19 @@
 -- `judge::search::first_fault` meets its contract. Each loop's invariant: what is left decides as
--- the whole does, and nothing is found yet. The measures are what is left of the lines, the items
--- and the writes.
+-- the whole does, and nothing is found yet; the owners are those at the line. The measures are what
+-- is left of the lines, the items and the writes.
 use borrow.Author.Needs.{needs}
 use mathlib.Core.Bool.{true, false}
 use mathlib.Core.List.{List}
-use mathlib.Core.Path.{_≡_, refl, sym, _∙_}
+use mathlib.Core.Path.{_≡_, refl, sym, _∙_, subst}
 use Prim.Native.Nat.{ℕ, _-_, _≤_, _+_, _<_}
 use native.Mathlib.Nat.{sub-zero, le-antisymm}
 use native.Mathlib.Omega.{arith}
+use lib.ListN.{length}
 use Rattle.judge_frames.specs.Cut.{framesIn}
 use Rattle.findings.specs.Findings.{faultAt}
+use Rattle.judge_findings.specs.Marks.{SmallClients}
+use Rattle.judge_findings.specs.Owned.{Owned}
+use Rattle.judge_findings.proofs.Owning.{owned-next}
 use Rattle.judge.proofs.Searching.{itemFault, writeFault}
 use Rattle.judge.proofs.Searching.{fault-search, item-not, item-unwritten, item-writes}
 use Rattle.judge.proofs.Searching.{write-fault}
@@ -20,28 +24,29 @@ use Rattle.judge.proofs.search.first_fault.Statement.{statement}
 use Rattle.judge.proofs.search.first_fault.Tie as tie
 
 abbrev Inv-writes : tie.InvT-writes
-Inv-writes bytes starts marks n found₀ i line r items of k item stamp value j₀ found j =
-    (someFrom (n - j) j (writeFault bytes starts line item) ≡ someFrom n 0
-    (writeFault bytes starts line item)) × (found ≡ n)
+Inv-writes bytes starts marks owners n found₀ i line r items of k item stamp value j₀ found j =
+    (someFrom (n - j) j (writeFault bytes starts n line item) ≡ someFrom n 0
+    (writeFault bytes starts n line item)) × (found ≡ n)
 
 abbrev μ-writes : tie.MeasureT-writes
-μ-writes bytes starts marks n found₀ i line r items of k item stamp value j₀ found j = n - j
+μ-writes bytes starts marks owners n found₀ i line r items of k item stamp value j₀ found j = n - j
 
 abbrev Inv-shown : tie.InvT-shown
-Inv-shown bytes starts marks n found₀ i line r items of k₀ found k =
+Inv-shown bytes starts marks owners n found₀ i line r items of k₀ found k =
     (someFrom (64 - k) k (itemFault bytes starts n line) ≡ someFrom 64 0
     (itemFault bytes starts n line)) × (found ≡ n)
 
 abbrev μ-shown : tie.MeasureT-shown
-μ-shown bytes starts marks n found₀ i line r items of k₀ found k = 64 - k
+μ-shown bytes starts marks owners n found₀ i line r items of k₀ found k = 64 - k
 
 abbrev Inv-lines : tie.InvT-lines
-Inv-lines bytes starts marks n found₀ i₀ found i =
+Inv-lines bytes starts marks owners₀ n found₀ i₀ owners found i =
     (firstFrom (n - i) i (faultAt (framesIn bytes starts n)) ≡ firstFrom n 0
     (faultAt (framesIn bytes starts n))) × (found ≡ n) × (i ≤ n)
+    × Owned bytes starts n i owners × (length owners ≡ length owners₀)
 
 abbrev μ-lines : tie.MeasureT-lines
-μ-lines bytes starts marks n found₀ i₀ found i = n - i
+μ-lines bytes starts marks owners₀ n found₀ i₀ owners found i = n - i
 
 abbrev At : (tie.InvT-writes → tie.MeasureT-writes → tie.InvT-shown → tie.MeasureT-shown
     → tie.InvT-lines → tie.MeasureT-lines → Type 0) → Type 0
@@ -51,7 +56,7 @@ At N = N Inv-writes μ-writes Inv-shown μ-shown Inv-lines μ-lines
 
 module _ (c : At tie.After-client) where
   abbrev start : At tie.Start
-  start = c .before .before .before .before .before .before .before .before
+  start = c .before .before .before .before .before .before .before .before .before
 
   abbrev bytes : List ℕ
   bytes = start .args .bytes .now
@@ -67,6 +72,9 @@ module _ (c : At tie.After-client) where
 
   below : line < n
   below = c .before .before .before .lines-test .taken
+
+  owned : Owned bytes starts n line (c .before .before .before .before .lines .owners)
+  owned = c .before .before .before .before .lines .inv .3
 
 -- no item of a line is at fault: the next line
 next-line : (c : At tie.After-shown)
@@ -146,8 +154,8 @@ module _ (c : At tie.Else2) where
   -- what is left are the writes
   writes : itemFault (bytes (of-line of-item)) (starts (of-line of-item)) (n (of-line of-item))
       (line (of-line of-item)) (item of-item) ≡ someFrom (n (of-line of-item)) 0
-      (writeFault (bytes (of-line of-item)) (starts (of-line of-item)) (line (of-line of-item))
-      (item of-item))
+      (writeFault (bytes (of-line of-item)) (starts (of-line of-item)) (n (of-line of-item))
+      (line (of-line of-item)) (item of-item))
   writes =
       let l = of-line of-item in
       item-writes (bytes l) (starts l) (n l) (line l) (item of-item) _
@@ -167,44 +175,49 @@ no-writes c = writes (c .before .before) ∙ sym (c .before .writes .inv .0)
 
 module _ (c : At tie.After-faults-at) where
   abbrev of-write : At tie.Else2
-  of-write = c .before .before .before
+  of-write = c .before .before .before .before
 
   abbrev of-read : At tie.After-client
   of-read = of-line (of-item of-write)
 
   abbrev write : ℕ
-  write = c .before .before .writes .j
+  write = c .before .before .before .writes .j
+
+  inside : write < n of-read
+  inside = c .before .before .writes-test .taken
 
   -- the test of one write
-  tested : writeFault (bytes of-read) (starts of-read) (line of-read)
+  tested : writeFault (bytes of-read) (starts of-read) (n of-read) (line of-read)
       (item (of-item of-write)) write ≡ c .faults-at .result
   tested =
       write-fault (bytes of-read) (starts of-read) (n of-read) (line of-read)
-      (item (of-item of-write)) _ (of-read .before .before .frame .ensures) _ _ write _
+      (item (of-item of-write)) _ (of-read .before .before .frame .ensures) _ _ _ write _
+      (owned of-read .held write inside)
       (of-read .client .ensures .0) (of-write .before .before .before .shown-stamp .ensures) refl
       ∙ sym (c .faults-at .ensures)
 
   next-write : c .faults-at .result ≡ false
       → someFrom (n of-read - (write + 1)) (write + 1)
-      (writeFault (bytes of-read) (starts of-read) (line of-read) (item (of-item of-write)))
-      ≡ someFrom (n of-read) 0
-      (writeFault (bytes of-read) (starts of-read) (line of-read)
+      (writeFault (bytes of-read) (starts of-read) (n of-read) (line of-read)
       (item (of-item of-write)))
-  next-write e = sym (someFrom-next _ write _ (c .before .writes-test .taken) (tested ∙ e))
-      ∙ c .before .before .writes .inv .0
+      ≡ someFrom (n of-read) 0
+      (writeFault (bytes of-read) (starts of-read) (n of-read) (line of-read)
+      (item (of-item of-write)))
+  next-write e = sym (someFrom-next _ write _ inside (tested ∙ e))
+      ∙ c .before .before .before .writes .inv .0
 
 by-write : (c : At tie.Then3) → itemFault (bytes (of-read (c .before)))
     (starts (of-read (c .before))) (n (of-read (c .before))) (line (of-read (c .before)))
     (item (of-item (of-write (c .before)))) ≡ true
 by-write c =
-    writes (of-write (c .before)) ∙ sym (c .before .before .before .writes .inv .0)
-    ∙ someFrom-here _ (write (c .before)) _ (c .before .before .writes-test .taken)
+    writes (of-write (c .before)) ∙ sym (c .before .before .before .before .writes .inv .0)
+    ∙ someFrom-here _ (write (c .before)) _ (inside (c .before))
     (tested (c .before) ∙ c .if3 .taken)
 
 -- ---- the needs
 
 lines-holds : At tie.Need-lines-holds
-lines-holds c = (rw sub-zero, refl, omega arith)
+lines-holds c = (rw sub-zero, refl, omega arith, c .before .before .before .before .pre .1, refl)
 
 add-i : At tie.Need-add-i
 add-i c = search needs
@@ -220,12 +233,6 @@ client-requires c κs = search needs
 
 shown-holds : At tie.Need-shown-holds
 shown-holds c = (refl, c .before .before .before .before .lines .inv .1)
-
-lines-less : At tie.Need-lines-less
-lines-less c = search needs
-
-lines-again : At tie.Need-lines-again
-lines-again c = (next-line c, c .before .shown .inv .1, omega arith)
 
 add-k : At tie.Need-add-k
 add-k c = search needs
@@ -259,19 +266,23 @@ add-j c = search needs
 
 faults-at-requires : At tie.Need-faults-at-requires
 faults-at-requires c κs =
-    let t = start (of-line (of-item (c .before .before))) .pre in (
-      omega (arith, t .few, c .writes-test .taken),
-      omega
-          (arith, t .long, c .writes-test .taken),
-      t .marked (c .before .writes .j)
-          (c .writes-test .taken),
+    let l = of-line (of-item (c .before .before .before)) in
+    let t = start l .pre .0 in
+    let inside = c .before .writes-test .taken in (
+      omega (arith, t .few, inside),
+      omega (arith, t .long, inside),
+      omega (arith, owned l .long, inside),
+      t .marked (c .before .before .writes .j) inside,
     )
 
 writes-less : At tie.Need-writes-less
 writes-less c = search needs
 
 writes-again : At tie.Need-writes-again
-writes-again c = (next-write (c .before) (c .if3 .left), c .before .before .before .writes .inv .1)
+writes-again c = (
+  next-write (c .before) (c .if3 .left),
+  c .before .before .before .before .writes .inv .1,
+)
 
 shown-less-2 : At tie.Need-shown-less-2
 shown-less-2 c = search needs
@@ -282,18 +293,61 @@ shown-again-2 c = (
   c .before .before .before .shown .inv .1,
 )
 
+pass-line-requires : At tie.Need-pass-line-requires
+pass-line-requires c κs =
+    let l = c .before .before .before in (
+      omega (arith, owned l .long, below l),
+      subst SmallClients (sym (l .before .before .frame .ensures))
+          (start l .pre .0 .small (line l) (below l)),
+    )
+
+lines-less : At tie.Need-lines-less
+lines-less c = search needs
+
+lines-again : At tie.Need-lines-again
+lines-again c =
+    let p = c .before .before in
+    let s = p .before .before in
+    let l = s .before .before in
+    let to = p .pass-line .ensures in (
+      next-line s,
+      s .before .shown .inv .1,
+      omega (arith, below l),
+      owned-next (bytes l) (starts l) (n l) (line l) _ (below l)
+          (l .before .before .frame .ensures) _ _ (owned l) to,
+      to .long ∙ l .before .before .before .before .lines .inv .4,
+    )
+
+same-length : At tie.Need-same-length
+same-length c = search needs
+
 returns : At tie.Need-returns
 returns c =
-    c .before .lines .inv .1
-    ∙ sym (le-antisymm (c .before .lines .inv .2) (c .lines-test .left))
-    ∙ sym (firstFrom-end _ _ _ (c .lines-test .left))
-    ∙ c .before .lines .inv .0
+    let a = c .before .before .before .before .before .before .args in
+    let last : c .before .lines .i ≡ a .n =
+    le-antisymm (c .before .lines .inv .2) (c .lines-test .left) in (
+      c .before .lines .inv .1 ∙ sym last
+          ∙ sym (firstFrom-end _ _ _ (c .lines-test .left))
+          ∙ c .before .lines .inv .0,
+      subst (λ (i : ℕ). Owned (a .bytes .now) (a .starts .now) (a .n) i (c .before .lines .owners))
+          (last ∙ sym (c .before .lines .inv .1)) (c .before .lines .inv .3),
+    )
+
+same-length-2 : At tie.Need-same-length-2
+same-length-2 c = search needs
 
 returns-2 : At tie.Need-returns-2
-returns-2 c = found (c .before .before .before .before .before .before) (unwritten c)
+returns-2 c =
+    let i = c .before .before .before .before .before .before in
+    (found i (unwritten c), owned (of-line i))
+
+same-length-3 : At tie.Need-same-length-3
+same-length-3 c = search needs
 
 returns-3 : At tie.Need-returns-3
-returns-3 c = found (of-item (of-write (c .before))) (by-write c)
+returns-3 c =
+    let i = of-item (of-write (c .before)) in
+    (found i (by-write c), owned (of-line i))
 
 pub first-fault-spec : {M : Type 1} → statement M
 first-fault-spec =
@@ -311,8 +365,6 @@ first-fault-spec =
     shown-requires
     client-requires
     shown-holds
-    lines-less
-    lines-again
     add-k
     has-requires
     shown-stamp-requires
@@ -327,6 +379,12 @@ first-fault-spec =
     writes-again
     shown-less-2
     shown-again-2
+    pass-line-requires
+    lines-less
+    lines-again
+    same-length
     returns
+    same-length-2
     returns-2
+    same-length-3
     returns-3)

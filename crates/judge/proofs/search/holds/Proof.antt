@@ -18,8 +18,8 @@ is-unwritten-requires c κs = search needs
 
 returns : tie.Need-returns
 returns c =
-    let s = c .before .before .before .before .before .before .before .before in
-    finding-one _ _ (s .args .n) _ (s .args .item) _ (s .pre .1)
+    let s = c .before .before .before .before .before .before .before .before .before in
+    finding-one _ _ (s .args .n) _ (s .args .item) _ (s .pre .2)
     (c .before .before .before .before .frame .ensures) _ _ _ _ (c .is-unwritten .ensures)
     (c .before .before .if1 .taken)
     (c .before .before .before .shown-stamp .ensures) (c .before .shown-value .ensures)
@@ -29,8 +29,8 @@ is-fractured-requires c κs = search needs
 
 returns-2 : tie.Need-returns-2
 returns-2 c =
-    let s = c .before .before .before .before .before .before .before .before in
-    finding-two _ _ (s .args .n) _ (s .args .item) _ (s .pre .1)
+    let s = c .before .before .before .before .before .before .before .before .before in
+    finding-two _ _ (s .args .n) _ (s .args .item) _ (s .pre .2)
     (c .before .before .before .before .frame .ensures) _ _ _ (c .is-fractured .ensures)
     (c .before .if2 .taken)
     (c .before .before .before .shown-stamp .ensures)
@@ -43,10 +43,10 @@ is-missed-requires c κs = search needs
 
 returns-3 : tie.Need-returns-3
 returns-3 c =
-    let s = c .before .before .before .before .before .before .before .before .before in
-    finding-three _ _ (s .args .n) _ (s .args .item) _ (s .pre .1)
-    (c .before .before .before .before .before .frame .ensures) _ _ _ _ (c .is-missed .ensures)
-    (c .before .before .before .if1 .left) (c .before .before .if2 .left)
+    let s = c .before .before .before .before .before .before .before .before .before .before in
+    finding-three _ _ (s .args .n) _ (s .args .item) _ (s .pre .2)
+    (c .before .before .before .before .before .frame .ensures) _ _ _ _ _ (c .is-missed .ensures)
+    (s .pre .1) (c .before .before .before .if1 .left) (c .before .before .if2 .left)
     (c .before .client .ensures .0)
     (c .before .before .before .before .shown-stamp .ensures)
 

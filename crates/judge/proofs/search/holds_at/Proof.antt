@@ -15,12 +15,12 @@ use Rattle.judge.proofs.search.holds_at.Statement.{statement}
 use Rattle.judge.proofs.search.holds_at.Tie as tie
 
 abbrev Inv-loop : tie.InvT-loop
-Inv-loop finding bytes starts marks n line items k₀ k =
+Inv-loop finding bytes starts marks owners n line items k₀ k =
     someFrom (64 - k) k (λ j. has items j && findingOf finding (framesIn bytes starts n) line j)
     ≡ someFrom 64 0 (λ j. has items j && findingOf finding (framesIn bytes starts n) line j)
 
 abbrev μ-loop : tie.MeasureT-loop
-μ-loop finding bytes starts marks n line items k₀ k = 64 - k
+μ-loop finding bytes starts marks owners n line items k₀ k = 64 - k
 
 frame-requires : tie.Need-frame-requires Inv-loop μ-loop
 frame-requires c κs = search needs
@@ -39,15 +39,16 @@ holds-requires c κs = search needs
 
 returns : tie.Need-returns Inv-loop μ-loop
 returns c =
-    let s = c .before .before .before .before .before .before .before .before .before .before in
+    let l = c .before .before .before .before .before in
+    let s = l .before .before .before .before .before .before in
+    let a = s .args in
     sym (someFrom-here 64 _ _ (c .before .before .before .loop-test .taken)
-    (both-tests _ _ _ _ _ (c .before .before .has .ensures) (c .before .holds .ensures)
-    (c .if1 .taken)))
+    (both-tests _ _ _
+    (findingOf (a .finding) (framesIn (a .bytes .now) (a .starts .now) (a .n)) (a .line) _) _
+    (c .before .before .has .ensures) (c .before .holds .ensures) (c .if1 .taken)))
     ∙ c .before .before .before .before .loop .inv
-    ∙ holds-search (s .args .bytes .now) (s .args .starts .now) (s .args .n) (s .args .line)
-    (s .args .finding) _ (s .pre .1)
-    (c .before .before .before .before .before .shown .ensures
-    ∙ ap shown (c .before .before .before .before .before .before .frame .ensures))
+    ∙ holds-search (a .bytes .now) (a .starts .now) (a .n) (a .line) (a .finding) _ (s .pre .2)
+    (l .shown .ensures ∙ ap shown (l .before .frame .ensures))
 
 add-k : tie.Need-add-k Inv-loop μ-loop
 add-k c = search needs
@@ -64,11 +65,11 @@ loop-again c =
 
 returns-2 : tie.Need-returns-2 Inv-loop μ-loop
 returns-2 c =
-    let s = c .before .before .before .before .before .before .before in
+    let s = c .before .before .before .before .before .before .before .before in
     sym (someFrom-end 64 _ _ (c .loop-test .left))
     ∙ c .before .loop .inv
     ∙ holds-search (s .args .bytes .now) (s .args .starts .now) (s .args .n) (s .args .line)
-    (s .args .finding) _ (s .pre .1)
+    (s .args .finding) _ (s .pre .2)
     (c .before .before .shown .ensures
     ∙ ap shown (c .before .before .before .frame .ensures))
 

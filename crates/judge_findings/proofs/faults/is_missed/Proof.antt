@@ -1,48 +1,36 @@
--- `judge_findings::faults::is_missed` meets its contract. The invariant: what is left from frame j
+-- `judge_findings::faults::is_missed` meets its contract. The invariant: what is left from line j
 -- on decides as the whole does. The measure is what is left.
-use mathlib.Core.Path.{_≡_, refl, sym, ap, _∙_}
+use mathlib.Core.Path.{_≡_, sym, _∙_}
 use Prim.Native.Nat.{_-_}
-use lib.ListN.{drop}
-use Rattle.judge_frames.specs.Cut.{frameIn, framesIn}
-use Rattle.judge_frames.proofs.Cuts.{cut-here, cut-next, cut-end}
-use Rattle.findings.specs.Findings.{outdates}
-use Rattle.log.specs.Some.{some}
+use native.Mathlib.Nat.{sub-zero}
+use lib.ListN.{getD}
+use Rattle.judge_frames.specs.Cut.{frameIn}
+use Rattle.judge_findings.specs.Tests.{missesAt}
+use Rattle.log.specs.Some.{someFrom}
+use Rattle.log.proofs.Some.{someFrom-here, someFrom-next, someFrom-end}
 use borrow.Author.Needs.{needs}
 use Rattle.judge_findings.proofs.faults.is_missed.Statement.{statement}
 use Rattle.judge_findings.proofs.faults.is_missed.Tie as tie
 
 abbrev Inv-loop : tie.InvT-loop
-Inv-loop bytes starts n of item stamp j₀ j =
-    some (outdates of item stamp) (drop j (framesIn bytes starts n)) ≡ some (outdates of item stamp)
-    (framesIn bytes starts n)
+Inv-loop bytes starts owners n of item stamp j₀ j =
+    someFrom (n - j) j (λ k. missesAt (getD owners k 0) of item stamp (frameIn bytes starts k))
+    ≡ someFrom n 0 (λ k. missesAt (getD owners k 0) of item stamp (frameIn bytes starts k))
 
 abbrev μ-loop : tie.MeasureT-loop
-μ-loop bytes starts n of item stamp j₀ j = n - j
-
-module _ (c : tie.After-outdates Inv-loop μ-loop) where
-  abbrev start : tie.Start Inv-loop μ-loop
-  start = c .before .before .before .before .before .before
-
-  test : outdates (start .args .of) (start .args .item) (start .args .stamp)
-      (frameIn (start .args .bytes .now) (start .args .starts .now)
-      (c .before .before .before .loop .j)) ≡ c .outdates .result
-  test = ap (outdates (start .args .of) (start .args .item) (start .args .stamp))
-      (sym (c .before .frame .ensures)) ∙ sym (c .outdates .ensures)
+μ-loop bytes starts owners n of item stamp j₀ j = n - j
 
 loop-holds : tie.Need-loop-holds Inv-loop μ-loop
-loop-holds c = refl
+loop-holds c = rw sub-zero
 
-frame-requires : tie.Need-frame-requires Inv-loop μ-loop
-frame-requires c κs = search needs
-
-outdates-requires : tie.Need-outdates-requires Inv-loop μ-loop
-outdates-requires c κs = search needs
+misses-at-requires : tie.Need-misses-at-requires Inv-loop μ-loop
+misses-at-requires c κs = search needs
 
 returns : tie.Need-returns Inv-loop μ-loop
 returns c =
-    sym (cut-here _ _ _ _ _ (c .before .before .before .loop-test .taken)
-    (test (c .before) ∙ c .if1 .taken))
-    ∙ c .before .before .before .before .loop .inv
+    sym (someFrom-here _ _ _ (c .before .before .loop-test .taken)
+    (sym (c .before .misses-at .ensures) ∙ c .if1 .taken))
+    ∙ c .before .before .before .loop .inv
 
 add-j : tie.Need-add-j Inv-loop μ-loop
 add-j c = search needs
@@ -52,12 +40,12 @@ loop-less c = search needs
 
 loop-again : tie.Need-loop-again Inv-loop μ-loop
 loop-again c =
-    sym (cut-next _ _ _ _ _ (c .before .before .before .loop-test .taken)
-    (test (c .before) ∙ c .if1 .left))
-    ∙ c .before .before .before .before .loop .inv
+    sym (someFrom-next _ _ _ (c .before .before .loop-test .taken)
+    (sym (c .before .misses-at .ensures) ∙ c .if1 .left))
+    ∙ c .before .before .before .loop .inv
 
 returns-2 : tie.Need-returns-2 Inv-loop μ-loop
-returns-2 c = sym (cut-end _ _ _ _ _ (c .loop-test .left)) ∙ c .before .loop .inv
+returns-2 c = sym (someFrom-end _ _ _ (c .loop-test .left)) ∙ c .before .loop .inv
 
 pub is-missed-spec : {M : Type 1} → statement M
 is-missed-spec =
@@ -66,8 +54,7 @@ is-missed-spec =
     Inv-loop
     μ-loop
     loop-holds
-    frame-requires
-    outdates-requires
+    misses-at-requires
     returns
     add-j
     loop-less

@@ -6,6 +6,13 @@ use borrow.Author.Needs.{needs}
 use Rattle.judge_frames.proofs.fields.frame_end.Statement.{statement}
 use Rattle.judge_frames.proofs.fields.frame_end.Tie as tie
 
+hands-over-requires : tie.Need-hands-over-requires
+hands-over-requires c κs = search needs
+
+returns : tie.Need-returns
+unfolding endOf
+returns c = rw (sym (c .before .hands-over .ensures) ∙ c .if1 .taken)
+
 has-write-requires : tie.Need-has-write-requires
 has-write-requires c κs = search needs
 
@@ -27,23 +34,33 @@ add-result-2 c = search needs
 write-at-requires-2 : tie.Need-write-at-requires-2
 write-at-requires-2 c κs = search needs
 
-returns : tie.Need-returns
-unfolding endOf
-returns c =
-    rw (sym (c .before .before .before .has-write .ensures) ∙ c .before .before .if1 .taken)
-    (ap₂ (λ (at n : ℕ). at + 12 + 4 * n) (c .before .write-at .ensures .0)
-    (c .written-count .ensures .0))
-
 returns-2 : tie.Need-returns-2
 unfolding endOf
 returns-2 c =
-    rw (sym (c .before .before .has-write .ensures) ∙ c .before .if1 .left)
+    rw (
+      sym (c .before .before .before .before .before .hands-over .ensures)
+          ∙ c .before .before .before .before .if1 .left,
+      sym (c .before .before .before .has-write .ensures) ∙ c .before .before .if2 .taken,
+    )
+    (ap₂ (λ (at n : ℕ). at + 12 + 4 * n) (c .before .write-at .ensures .0)
+    (c .written-count .ensures .0))
+
+returns-3 : tie.Need-returns-3
+unfolding endOf
+returns-3 c =
+    rw (
+      sym (c .before .before .before .before .hands-over .ensures)
+          ∙ c .before .before .before .if1 .left,
+      sym (c .before .before .has-write .ensures) ∙ c .before .if2 .left,
+    )
     (c .write-at2 .ensures .0)
 
 pub frame-end-spec : {M : Type 1} → statement M
 frame-end-spec =
     tie.close
     (tie.spec
+    hands-over-requires
+    returns
     has-write-requires
     write-at-requires
     add-result
@@ -51,5 +68,5 @@ frame-end-spec =
     mul-result
     add-result-2
     write-at-requires-2
-    returns
-    returns-2)
+    returns-2
+    returns-3)

@@ -96,6 +96,16 @@ impl<Look: Fn(&[u64])> Calls for Looked<Look> {
         self.0(block);
         Proved.clear(block)
     }
+
+    fn hand_over(&self, block: &mut [u64], giver: u64, receiver: u64) -> u64 {
+        self.0(block);
+        Proved.hand_over(block, giver, receiver)
+    }
+
+    fn compare(&self, block: &[u64], first: u64, second: u64) -> u64 {
+        self.0(block);
+        Proved.compare(block, first, second)
+    }
 }
 
 /// So many checks are made before each call to tell what one takes: they take several times as long

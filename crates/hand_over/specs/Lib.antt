@@ -1,0 +1,2 @@
+-- A hand-over on the block.
+pub mod HandOver
