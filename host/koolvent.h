@@ -37,7 +37,7 @@
  *   - a length is no more than what is there: words for a block, bytes for the others;
  *   - no pointer is null, even where the length is 0;
  *   - block, values and output do not overlap;
- *   - there is stack enough: some 40,000 bytes for koolvent_clear, 21,000 for koolvent_judge, 1,100 for any other call;
+ *   - there is stack enough: some 40,000 bytes for koolvent_clear, 23,000 for koolvent_judge, 1,100 for any other call;
  *   - one caller at a time: while a call runs, nobody else reads or writes what was lent to it. Two threads may work on
  *     two blocks, and on the judge beside them: nothing is shared;
  *   - between calls the host leaves the block's words as they are. It may copy them: a copy of all KOOLVENT_WORDS words,

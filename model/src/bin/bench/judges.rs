@@ -114,25 +114,30 @@ struct Log {
 
 impl Log {
     fn new(shape: Shape, most_bytes: usize) -> Log {
-        let text = log_of(shape, most_bytes);
-        assert_eq!(proved::judge::judge(&text), judge(&text).number());
-        Log { shape, text }
+        Log { shape, text: log_of(shape, most_bytes) }
+    }
+
+    fn verdict(&self) {
+        black_box(proved::judge::judge(black_box(&self.text)));
+    }
+
+    fn by_the_judge(&self) -> Contender<'_> {
+        steps(|| self.verdict())
     }
 
     fn contenders(&self) -> [Contender<'_>; 2] {
-        [
-            steps(|| {
-                black_box(proved::judge::judge(black_box(&self.text)));
-            }),
-            steps(|| {
-                black_box(judge(black_box(&self.text)));
-            }),
-        ]
+        let models = steps(|| {
+            black_box(judge(black_box(&self.text)));
+        });
+        [self.by_the_judge(), models]
     }
 }
 
-/// The logs, all in the same rounds.
+/// The logs, all in the same rounds; both judges have the same verdict on each.
 fn rows(logs: &[Log]) -> (Rounds, Vec<Row>) {
+    for Log { text, .. } in logs {
+        assert_eq!(proved::judge::judge(text), judge(text).number());
+    }
     let rounds = Rounds::run(ROUNDS, logs.iter().flat_map(Log::contenders).collect());
     let row = |(place, log): (usize, &Log)| Row {
         shape: log.shape,
@@ -149,44 +154,52 @@ pub fn slowest() -> Slowest {
     let below = [1, 8, 32, 96].map(|count| HandOvers { count, above: false });
     let above = [8, 32, 96].map(|count| HandOvers { count, above: true });
     let some: Vec<HandOvers> = below.into_iter().chain(above).collect();
-    let shapes = [slowest_shape(&[HandOvers::default()]), slowest_shape(&some)];
-    let (rounds, rows) = rows(&shapes.map(|shape| Log::new(shape, MOST_BYTES)));
+    let (rounds, rows) = rows(&[slowest_log(&[HandOvers::default()]), slowest_log(&some)]);
     let [plain, handed_over] = rows.try_into().unwrap_or_else(|_| panic!("two rows"));
     // A row has two contenders, the judge and the model's.
     Slowest { plain, handed_over, times: rounds.ratio(2, 0) }
 }
 
-/// The shape on whose log the proved judge is slowest, of those tried that fit the limits, with
-/// hand-overs as one of these.
-fn slowest_shape(hand_overs: &[HandOvers]) -> Shape {
-    let mut slowest = (0.0, Shape::default());
+/// The log on which the proved judge is slowest, of those tried that are clean and within the
+/// limits, with hand-overs as one of these. A few verdicts on each tell which may be, in passes over
+/// all of them, since a machine that is disturbed is so for a while; those then take turns.
+fn slowest_log(hand_overs: &[HandOvers]) -> Log {
+    let mut logs = Vec::new();
     for width in [1, 2, 4, 8, 16, 64] {
         for shown in [1, 4, 9, 12, 16, 20, 24, 32, 64] {
             for writes in (16..=240).step_by(16) {
-                for hand_overs in hand_overs.iter().copied() {
-                    let shape = Shape { writes, width, hand_overs, shown };
-                    let time = time_of(shape);
-                    if time > slowest.0 {
-                        slowest = (time, shape);
-                    }
-                }
+                let shape = |&hand_overs| Shape { writes, width, hand_overs, shown };
+                logs.extend(hand_overs.iter().map(shape).filter_map(clean_log));
             }
         }
     }
-    slowest.1
+    let mut times = vec![f64::MAX; logs.len()];
+    for _ in 0..3 {
+        for (log, time) in logs.iter().zip(&mut times) {
+            *time = time.min(quickest(2, || log.verdict()));
+        }
+    }
+    let mut finalists = slowest_first(logs, &times);
+    finalists.truncate(24);
+    let rounds = Rounds::run(ROUNDS, finalists.iter().map(Log::by_the_judge).collect());
+    let times: Vec<f64> = (0..finalists.len()).map(|place| rounds.time(place).quickest).collect();
+    slowest_first(finalists, &times).remove(0)
 }
 
-/// The quickest of three verdicts on the shape's log; 0 where the judge doesn't find it clean, or
-/// it is over a limit.
-fn time_of(shape: Shape) -> f64 {
-    let log = log_of(shape, MOST_BYTES);
-    let is_over = log.len() > MOST_BYTES || shape.writes + shape.hand_overs.count > MOST_LINES;
-    if is_over || proved::judge::judge(&log) != Verdict::CLEAN.number() {
-        return 0.0;
-    }
-    quickest(3, || {
-        black_box(proved::judge::judge(black_box(&log)));
-    })
+/// The logs in the order of their times.
+fn slowest_first(logs: Vec<Log>, times: &[f64]) -> Vec<Log> {
+    let mut timed: Vec<(Log, f64)> = logs.into_iter().zip(times.iter().copied()).collect();
+    timed.sort_by(|(_, one), (_, other)| other.total_cmp(one));
+    timed.into_iter().map(|(log, _)| log).collect()
+}
+
+/// The shape's log, if it is within the limits and the judge finds it clean.
+fn clean_log(shape: Shape) -> Option<Log> {
+    let log = Log::new(shape, MOST_BYTES);
+    let lines = shape.writes + shape.hand_overs.count;
+    let is_within = log.text.len() <= MOST_BYTES && lines <= MOST_LINES;
+    let is_clean = proved::judge::judge(&log.text) == Verdict::CLEAN.number();
+    (is_within && is_clean).then_some(log)
 }
 
 /// Logs of half writes of 12 items and half reads of 12, up to the limit of bytes.
