@@ -37,11 +37,11 @@
  *   - a length is no more than what is there: words for a block, bytes for the others;
  *   - no pointer is null, even where the length is 0;
  *   - block, values and output do not overlap;
- *   - there is stack enough: some 40,000 bytes for koolvent_clear, 23,000 for koolvent_judge, 1,100 for any other call;
+ *   - there is stack enough: some 40,000 bytes for koolvent_clear, 24,000 for koolvent_judge, 1,100 for any other call;
  *   - one caller at a time: while a call runs, nobody else reads or writes what was lent to it. Two threads may work on
  *     two blocks, and on the judge beside them: nothing is shared;
- *   - between calls the host leaves the block's words as they are. It may copy them: a copy of all KOOLVENT_WORDS words,
- *     wherever it lies, is a store like the first and goes on from there by itself.
+ *   - between calls the host leaves the block's words as they are. It may copy them: a copy of all KOOLVENT_WORDS
+ *     words, wherever it lies, is a store like the first and goes on from there by itself.
  *
  * Link with libstore.a (the calls on a block) and libjudge.a (the judge); installed, with -lkoolvent_store and
  * -lkoolvent_judge, or by pkg-config: koolvent. For Linux on x86-64.
@@ -110,8 +110,8 @@ extern "C" {
 enum koolvent_refusal {
     KOOLVENT_ACCEPTED = 0,
     /* The block is shorter than KOOLVENT_WORDS; or (not for koolvent_fresh) it holds a number out of its range, a load
-     * over KOOLVENT_MOST_LOAD, or versions and prepares over KOOLVENT_MOST_VERSIONS: it is damaged, or koolvent_fresh was
-     * never accepted on it. */
+     * over KOOLVENT_MOST_LOAD, or versions and prepares over KOOLVENT_MOST_VERSIONS: it is damaged, or koolvent_fresh
+     * was never accepted on it. */
     KOOLVENT_REFUSED_BLOCK = 1,
     /* koolvent_fresh: a size is 0 or over its limit. */
     KOOLVENT_REFUSED_SIZES = 2,
@@ -191,10 +191,10 @@ uint64_t koolvent_deliver(uint64_t *block, size_t words, uint64_t place);
 uint64_t koolvent_show(const uint64_t *block, size_t words, uint64_t client, uint8_t *output, size_t room);
 
 /* Takes away exactly those stored versions whose write, by number and client, no client has as the latest that it wrote
- * of any item or learnt by a reply for it, no item has as its latest committed, no message in flight names, and which
- * isn't under way. The others stay, in their order, and the places freed serve the next writes. It may be called at any
- * time: every read still ends after its own replies, unfractured, no delivery is refused for it, and what a client
- * ended last can still be shown. Refused by 1 alone. It takes some 40,000 bytes of stack. */
+ * of any item, learnt by a reply for it or took over, no item has as its latest committed, no message in flight names,
+ * and which isn't under way. The others stay, in their order, and the places freed serve the next writes. It may be
+ * called at any time: every read still ends after its own replies, unfractured, no delivery is refused for it, and what
+ * a client ended last can still be shown. Refused by 1 alone. It takes some 40,000 bytes of stack. */
 uint64_t koolvent_clear(uint64_t *block, size_t words);
 
 /* The receiver takes over what the giver has seen, as at a change of shift: of each item it has from then on the later
@@ -301,7 +301,7 @@ enum koolvent_finding {
 };
 
 /* Judges a log, whoever wrote it: the first read at fault, and there the lowest of the findings above. Refused by 15
- * and 16, the latter tested first. It takes some 23,000 bytes of stack; the calls on a block, but for koolvent_clear,
+ * and 16, the latter tested first. It takes some 24,000 bytes of stack; the calls on a block, but for koolvent_clear,
  * take less than 1,100, of which 512 are a stamp for each item when a read starts. */
 uint64_t koolvent_judge(const uint8_t *log, size_t length);
 

@@ -35,4 +35,4 @@ encodes-changed b t (handOver giver receiver) same h e =
     rw (h .items)
     (encodes-handed-over giver receiver h (room-valid t (a .valid)) (a .giver .0) (a .giver .1)
     (a .receiver .0) (a .receiver .1) (a .other))
-encodes-changed b t (compare giver receiver) same h e = h
+encodes-changed b t (compare first second) same h e = h

@@ -22,7 +22,7 @@ use Rattle.protocol.specs.Range.{capacities}
 use Rattle.layout.specs.Decode.{tablesOf, validBlock}
 use Rattle.encoding.proofs.Decoded.{few-versions, few-messages}
 use Rattle.show.proofs.LogFrames.{length-frame-le}
-use Rattle.hand_over.proofs.Compared.{standing-most}
+use Rattle.protocol.proofs.HandOver.{standing-most}
 use Rattle.block_calls.specs.Calls.{freshRefusalOn, freshAnswerOn, refusalOn, answerOn, Fits}
 use Rattle.block_calls.proofs.Accepted.{answer-accepted, answer-refused}
 

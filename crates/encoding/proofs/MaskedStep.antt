@@ -18,13 +18,14 @@ use Rattle.protocol.specs.declared.Entry.{Entry}
 use Rattle.protocol.specs.declared.Message.{Message}
 use Rattle.protocol.specs.declared.Message.the-variants.{Prepare, Prepared, Commit, Get, Got}
 use Rattle.protocol.specs.Tables.{Sizes, Tables, Client, ofRead, ofWrite, nothing, initial}
-use Rattle.protocol.specs.Tables.{fresh, resting, laterOf, put, writerOf, partitionOf}
+use Rattle.protocol.specs.Tables.{fresh, resting, put, writerOf, partitionOf}
 use Rattle.protocol.specs.Tables.{withClient, withView, withLatest, withVersions, withMessages}
 use Rattle.protocol.specs.Range.{Capacities, isClient, isItem, isWriting}
 use Rattle.protocol.specs.Steps.{reader, gets, writer, prepares, stored, found, struck, answered}
 use Rattle.protocol.specs.Steps.{endedRead, endedWrite, ended, isLast, prepared, got, offered, seen}
 use Rattle.protocol.specs.Steps.{committed, delivered, joined, messageAt}
 use Rattle.protocol.specs.Clear.{cleared}
+use Rattle.protocol.specs.HandOver.{takenOver}
 use Rattle.protocol.specs.Calls.{Call, startRead, startWrite, deliver, show, clear, handOver}
 use Rattle.protocol.specs.Calls.{compare, refusal, effect}
 use Rattle.protocol.proofs.Put.{by-cond, put-all, put-other}
@@ -264,8 +265,7 @@ masked-step caps t (deliver i) e m = masked-deliver caps t m i (accepted-deliver
 masked-step caps t (show d output) e m = m
 masked-step caps t clear e m = masked-versions t m (cleared t .versions)
 masked-step caps t (handOver d r) e m =
-    masked-view t m r (λ k. laterOf (t .view r k) (t .view d k))
-    (accepted-hand-over caps t d r .0 e .receiver)
+    masked-view t m r (takenOver t d r) (accepted-hand-over caps t d r .0 e .receiver)
     (λ k f. rw (m .itemView r k f, m .itemView d k f) refl)
 masked-step caps t (compare d r) e m = m
 

@@ -18,7 +18,7 @@ use Rattle.log.specs.Log.{writtenValue, shown, shownStamp, shownValue, endOf, w
 use Rattle.log.specs.Log.{readShaped, handOverShaped, entriesWhole, reaches, malformed}
 use Rattle.log.proofs.Rows.{line, times}
 use Rattle.findings.specs.Findings.{wrote, isUnwritten, behind, fractures, withHeir, owners}
-use Rattle.findings.specs.Findings.{outdates, holdsAt}
+use Rattle.findings.specs.Findings.{outdates, missesAt, holdsAt}
 use Rattle.findings.specs.Findings.{lowest, judged, checked, verdict, bytesOf, numberOf}
 use Rattle.findings.specs.declared.Verdict.the-variants.{TooLong, Malformed, Judged}
 
@@ -578,7 +578,7 @@ unfolding hexText bigEndian hexDigit
     linesOf frameOf written Rattle.log.specs.Log.numberOf writtenStamp writtenValue shown shownStamp
     shownValue
     writeAt endOf shaped writeShaped readShaped handOverShaped entriesWhole reaches malformed
-    wrote isUnwritten behind fractures insert withHeir owners outdates holdsAt lowest firstFrom
+    wrote isUnwritten behind fractures insert withHeir owners outdates missesAt holdsAt lowest firstFrom
     tooLong judged checked verdict
 right r = same (bytesOf (verdict (r .log))) (r .answer)
 

@@ -18,7 +18,8 @@ use Rattle.log.specs.Log.{shownStamp, shownValue, shaped, reaches, malformed, m
 use Rattle.log.proofs.Lines.{frame-bytes}
 use Rattle.log.proofs.Parts.{shown-below, written-part, shaped-number}
 use Rattle.findings.specs.Findings.{wrote, isUnwritten, unwritten, behind, fractures}
-use Rattle.findings.specs.Findings.{fractured, owners, outdates, ownWriteMissed, holdsAt}
+use Rattle.findings.specs.Findings.{fractured, owners, outdates, missesAt, ownWriteMissed}
+use Rattle.findings.specs.Findings.{holdsAt}
 use Rattle.findings.specs.Published.{Unwritten, Fractured, OwnWriteMissed}
 use Rattle.findings.proofs.Owners.{owners-own, own-owners, own-above}
 
@@ -184,12 +185,11 @@ module _ (log : List ℕ) where
 
   abbrev misses : ℕ → ℕ → ℕ → Bool
   misses i item j =
-      has (owners frames j i) (clientOf (line i))
-      && outdates item (shownStamp (line i) item) (line j)
+      missesAt (owners frames j i) (clientOf (line i)) item (shownStamp (line i) item) (line j)
 
   pub missed-says : (i : ℕ) → i < length frames → holdsAt ownWriteMissed frames i ≡ true
       → OwnWriteMissed frames i
-  unfolding holdsAt outdates
+  unfolding holdsAt missesAt outdates
   missed-says i l e =
       let f = item-at i (λ item. someFrom i 0 (misses i item)) e in
       let item = f .0 in
@@ -210,7 +210,7 @@ module _ (log : List ℕ) where
       )
 
   pub says-missed : (i : ℕ) → OwnWriteMissed frames i → holdsAt ownWriteMissed frames i ≡ true
-  unfolding holdsAt outdates
+  unfolding holdsAt missesAt outdates
   says-missed i u =
       let j = u .0 in
       let item = u .1 in

@@ -17,7 +17,8 @@ use Rattle.itemset.proofs.Laws.{has-empty, has-insert, has-insert-same}
 use Rattle.log.specs.Log.{kindOf, clientOf, handsOver, receiverOf, shownStamp}
 use Rattle.log.specs.Some.{someFrom}
 use Rattle.log.proofs.Some.{someFrom-ext}
-use Rattle.findings.specs.Findings.{withHeir, owners, outdates, ownWriteMissed}
+use Rattle.findings.specs.Findings.{withHeir, owners, outdates, missesAt}
+use Rattle.findings.specs.Findings.{ownWriteMissed}
 use Rattle.findings.specs.Published.{Own}
 use Rattle.findings.specs.Published.Own.{own, inherited}
 
@@ -159,10 +160,11 @@ module _ (frames : List (List ℕ)) where
     pub missed-plain : (item : ℕ) → ownWriteMissed frames i item ≡ someFrom i 0
         (λ j. eqb (clientOf (line i)) (clientOf (line j))
         && outdates item (shownStamp (line i) item) (line j))
+    unfolding missesAt
     missed-plain item =
         someFrom-ext i 0
-        (λ j. has (owners frames j i) (clientOf (line i))
-        && outdates item (shownStamp (line i) item) (line j))
+        (λ j. missesAt (owners frames j i) (clientOf (line i)) item (shownStamp (line i) item)
+        (line j))
         (λ j. eqb (clientOf (line i)) (clientOf (line j))
         && outdates item (shownStamp (line i) item) (line j))
         (λ j _ l.

@@ -67,13 +67,17 @@ owners frames j (suc i) =
 unfoldable pub outdates : ℕ → ℕ → List ℕ → Bool
 outdates item stamp w = has (written w) item && ltb stamp (writtenStamp w)
 
+-- the client is one of these, and w wrote the item with a later stamp
+unfoldable pub missesAt : ℕ → ℕ → ℕ → ℕ → List ℕ → Bool
+missesAt clients client item stamp w = has clients client && outdates item stamp w
+
 -- 3 own write missed: a line above, which counts as its client's own, wrote that item with a later
 -- stamp
 abbrev pub ownWriteMissed : List (List ℕ) → ℕ → ℕ → Bool
 ownWriteMissed frames i item =
     let r = getD frames i [] in
-    someFrom i 0 (λ j. has (owners frames j i) (clientOf r)
-    && outdates item (shownStamp r item) (getD frames j []))
+    someFrom i 0
+    (λ j. missesAt (owners frames j i) (clientOf r) item (shownStamp r item) (getD frames j []))
 
 -- ---- their order
 

@@ -1,23 +1,19 @@
--- A comparison of two views by the words of a block is that of the tables that they are. It has
--- four answers.
-use mathlib.Core.Bool.{Bool, cond}
+-- A comparison of two views by the words of a block is that of the tables that they are.
+use mathlib.Core.Bool.{Bool}
 use mathlib.Core.List.{List}
 use mathlib.Core.Path.{_≡_, refl, ap, ap₂, _∙_}
 use Prim.Native.Nat.{ℕ, _≤_, _<_}
-use native.Mathlib.Omega.{arith}
 use lib.Dec.{leb}
 use borrow.Author.Tests.{lt-ltb, le-leb}
 use Rattle.basics.specs.Lists.{every}
-use Rattle.protocol.specs.Tables.{Tables}
-use Rattle.protocol.specs.HandOver.{noLater, standing}
-use Rattle.protocol.proofs.Put.{by-cond}
+use Rattle.protocol.specs.HandOver.{noLater, standingBy, standing}
 use Rattle.gather.proofs.Tested.{every-same}
 use Rattle.layout.specs.Layout.{header, at, clientsAt, itemsAt}
 use Rattle.layout.specs.Decode.{viewIn, tablesOf}
 
 -- client d's entry of item k isn't later than client e's
-abbrev pub below : List ℕ → ℕ → ℕ → ℕ → Bool
-below b d e k = leb (viewIn b d k .stamp) (viewIn b e k .stamp)
+abbrev pub noLaterAt : List ℕ → ℕ → ℕ → ℕ → Bool
+noLaterAt b d e k = leb (viewIn b d k .stamp) (viewIn b e k .stamp)
 
 -- ---- the tables' views, of clients that exist
 
@@ -31,25 +27,18 @@ module _ (b : List ℕ) where
 
   no-later-read : (d e : ℕ) → 1 ≤ d → d ≤ at b header clientsAt → 1 ≤ e → e ≤ at b header clientsAt
       → (items : ℕ) → items ≡ at b header itemsAt
-      → every items (below b d e) ≡ noLater (tablesOf b) d e
+      → every items (noLaterAt b d e) ≡ noLater (tablesOf b) d e
   unfolding tablesOf
   no-later-read d e p q p′ q′ items same =
-      ap (λ (n : ℕ). every n (below b d e)) same
+      ap (λ (n : ℕ). every n (noLaterAt b d e)) same
       ∙ every-same (at b header itemsAt) _ _
       (λ k l. ap₂ leb (stamp-read d k p q l) (stamp-read e k p′ q′ l))
 
   pub standing-read : (d e : ℕ) → 1 ≤ d → d ≤ at b header clientsAt → 1 ≤ e
-      → e ≤ at b header clientsAt → (items : ℕ) → items ≡ at b header itemsAt → {under over : Bool}
-      → under ≡ every items (below b d e) → over ≡ every items (below b e d)
-      → cond under (cond over 0 1) (cond over 2 3) ≡ standing (tablesOf b) d e
+      → e ≤ at b header clientsAt → (items : ℕ) → items ≡ at b header itemsAt → {below above : Bool}
+      → below ≡ every items (noLaterAt b d e) → above ≡ every items (noLaterAt b e d)
+      → standingBy below above ≡ standing (tablesOf b) d e
   unfolding standing
   standing-read d e p q p′ q′ items same l h =
       rw (l ∙ no-later-read d e p q p′ q′ items same, h ∙ no-later-read e d p′ q′ p q items same)
       refl
-
-pub standing-most : (t : Tables) (d e : ℕ) → standing t d e ≤ 3
-unfolding standing
-standing-most t d e =
-    by-cond (λ (n : ℕ). n ≤ 3) (noLater t d e) _ _
-    (λ l. by-cond (λ (n : ℕ). n ≤ 3) (noLater t e d) _ _ (λ h. omega arith) (λ h. omega arith))
-    (λ l. by-cond (λ (n : ℕ). n ≤ 3) (noLater t e d) _ _ (λ h. omega arith) (λ h. omega arith))

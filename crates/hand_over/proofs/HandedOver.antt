@@ -13,7 +13,7 @@ use Rattle.basics.proofs.Cases.{by-test}
 use Rattle.basics.proofs.Fold.{upTo-all}
 use Rattle.protocol.specs.declared.Entry.{Entry}
 use Rattle.protocol.specs.Tables.{Tables, laterOf, put, withView}
-use Rattle.protocol.specs.HandOver.{handedOver}
+use Rattle.protocol.specs.HandOver.{takenOver, handedOver}
 use Rattle.protocol.proofs.Put.{put-same, put-other}
 use Rattle.layout.specs.Layout.{views, viewAt}
 use Rattle.layout.specs.Decode.{viewIn}
@@ -28,7 +28,7 @@ module _ {b : List ℕ} {t : Tables} (d e : ℕ) (n : Encodes b t) (r : HasRoom 
     (last : d ≤ t .sizes .clients) (first′ : 1 ≤ e) (last′ : e ≤ t .sizes .clients)
     (other : d ≢ e) where
   abbrev raised : ℕ → Entry
-  raised k = laterOf (t .view e k) (t .view d k)
+  raised = takenOver t d e
 
   -- the receiver's view with the first k items taken over
   abbrev row : ℕ → ℕ → Entry

@@ -1,10 +1,9 @@
 // Handing over (document 02, P6) on the block: a client's view takes over what another's holds; and
 // how one client's view stands to another's. One pass over the two views each.
-ghost use mathlib.Core.Bool.{cond};
 ghost use mathlib.Core.Path.{_≡_};
 ghost use Prim.Native.Nat.{_≤_, _<_};
 ghost use lib.ListN.{length};
-ghost use Rattle.protocol.specs.HandOver.{standing};
+ghost use Rattle.protocol.specs.HandOver.{standingBy, standing};
 ghost use Rattle.layout.specs.Layout.{needed, header, at, clientsAt, itemsAt};
 ghost use Rattle.layout.specs.Decode.{tablesOf};
 ghost use Rattle.hand_over.specs.HandOver.{takeItem, handedOverBlock};
@@ -37,7 +36,7 @@ pub fn hand_over(b: &mut [u64], giver: u64, receiver: u64, items: u64)
 // How a view stands to another: 0 same, 1 behind, 2 ahead, 3 neither. `below`: no entry of it is
 // later than the other's; `above`: none is earlier.
 fn standing_of(below: bool, above: bool) -> u64
-    ensures { λ r. ⌜ r ≡ cond below (cond above 0 1) (cond above 2 3) ⌝ }
+    ensures { λ r. ⌜ r ≡ standingBy below above ⌝ }
 {
     if below {
         if above { 0 } else { 1 }

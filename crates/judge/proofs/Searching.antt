@@ -14,13 +14,13 @@ use Rattle.itemset.proofs.Laws.{has-empty}
 use Rattle.log.specs.Some.{some, someFrom}
 use Rattle.log.proofs.Some.{some-at, at-some, someFrom-at, at-someFrom, someFrom-or}
 use Rattle.log.proofs.Some.{someFrom-ext}
-use Rattle.findings.specs.Findings.{holdsAt, faultAt, isUnwritten, fractures, owners, outdates}
+use Rattle.findings.specs.Findings.{holdsAt, faultAt, isUnwritten, fractures, owners, missesAt}
 use Rattle.findings.proofs.Owners.{owners-none}
 use Rattle.log.specs.Log.{clientOf, shown, shownStamp, shownValue}
 use Rattle.judge_frames.specs.Cut.{frameIn, framesIn}
 use Rattle.judge_frames.proofs.Cuts.{length-framesIn, framesIn-at}
 use Rattle.judge_findings.specs.Owned.{Owned}
-use Rattle.judge_findings.specs.Tests.{missesAt, faultsOf}
+use Rattle.judge_findings.specs.Tests.{faultsOf}
 use Rattle.judge.specs.Search.{findingOf}
 
 module _ (bytes starts : List ℕ) where
@@ -99,8 +99,7 @@ module _ (bytes starts : List ℕ) (n line : ℕ) (h : line < n) where
 
   abbrev missed : ℕ → ℕ → Bool
   missed item j =
-      has (owners frames j line) (clientOf r)
-      && outdates item (shownStamp r item) (getD frames j [])
+      missesAt (owners frames j line) (clientOf r) item (shownStamp r item) (getD frames j [])
 
   -- over the writes: any of them, and the client's own
   writes-search : (item : ℕ) → someFrom n 0 (writeFault bytes starts n line item)
@@ -197,8 +196,8 @@ module _ (bytes starts : List ℕ) (n line item : ℕ) (r : List ℕ) (h : line 
       t ∙ rw (ne-eqb f 1 one, ne-eqb f 2 two, frame-at, ← o, ← s)
       (someFrom-ext line 0
       (λ j. missesAt (getD table j 0) of item stamp (frameIn bytes starts j))
-      (λ j. has (owners (framesIn bytes starts n) j line) of
-      && outdates item stamp (getD (framesIn bytes starts n) j []))
+      (λ j. missesAt (owners (framesIn bytes starts n) j line) of item stamp
+      (getD (framesIn bytes starts n) j []))
       (λ j _ l. rw (
         owned .held j (omega arith),
         framesIn-at bytes starts n j (omega arith),

@@ -13,8 +13,8 @@ use Rattle.itemset.specs.Set.{has}
 use Rattle.itemset.proofs.Laws.{has-empty}
 use Rattle.judge_frames.specs.Cut.{frameIn}
 use Rattle.log.specs.Log.{written, writtenStamp}
-use Rattle.findings.specs.Findings.{wrote, fractures, outdates}
-use Rattle.judge_findings.specs.Tests.{missesAt, faultsOf}
+use Rattle.findings.specs.Findings.{wrote, fractures, outdates, missesAt}
+use Rattle.judge_findings.specs.Tests.{faultsOf}
 use Rattle.judge_findings.specs.Marks.{markOf, Marked}
 
 -- ---- what a mark rules out

@@ -5,16 +5,12 @@ use Prim.Native.Nat.{ℕ}
 use lib.Dec.{ltb}
 use Rattle.itemset.specs.Set.{has}
 use Rattle.log.specs.Log.{shownStamp}
-use Rattle.findings.specs.Findings.{fractures, outdates}
+use Rattle.findings.specs.Findings.{fractures, missesAt}
 
 -- r shows the item, one of those written, with an earlier stamp
 unfoldable pub behindAt : List ℕ → ℕ → ℕ → ℕ → ℕ → Bool
 behindAt r items wrote stamp item =
     has items item && (has wrote item && ltb (shownStamp r item) stamp)
-
--- the client is one of w's owners, and w wrote the item with a later stamp
-unfoldable pub missesAt : ℕ → ℕ → ℕ → ℕ → List ℕ → Bool
-missesAt owners of item stamp w = has owners of && outdates item stamp w
 
 -- w has the client's read r at fault at the item
 unfoldable pub faultsOf : List ℕ → ℕ → ℕ → ℕ → ℕ → List ℕ → Bool

@@ -13,8 +13,9 @@ ghost use Rattle.itemset.specs.Set.{has};
 ghost use Rattle.judge_frames.specs.Cut.{frameIn, framesIn};
 ghost use Rattle.findings.specs.Findings.{wrote as wroteBy, isUnwritten, behind as isBehind};
 ghost use Rattle.findings.specs.Findings.{fractures as fracturesAt, outdates as outdatesAt};
+ghost use Rattle.findings.specs.Findings.{missesAt};
 ghost use Rattle.judge_findings.specs.Marks.{markOf, Table};
-ghost use Rattle.judge_findings.specs.Tests.{behindAt, missesAt, faultsOf};
+ghost use Rattle.judge_findings.specs.Tests.{behindAt, faultsOf};
 ghost use Rattle.log.specs.Some.{some, someFrom};
 
 // `w` wrote the item with that stamp and value.

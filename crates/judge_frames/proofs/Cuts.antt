@@ -10,7 +10,7 @@ use mathlib.Core.Logic.{⊎-elim}
 use lib.Dec.{leb}
 use lib.ListN.{length, getD, take, drop, set, length-append, length-drop, length-set}
 use lib.ListN.{drop-of-length-le, List·getD-append}
-use lib.Seq.{sets, sets-eq, take-append-le, take-all, take-at, drop-at, drop-drop, getD-at}
+use lib.Seq.{sets, sets-eq, take-all, take-at, drop-at, drop-drop, getD-at}
 use lib.Seq.{getD-set-other, drop-set-add, take-set-le, length-take-le, length-sets}
 use borrow.Author.Tests.{leb-true, le-leb}
 use Rattle.basics.proofs.Cases.{by-test}
@@ -40,23 +40,6 @@ module _ (bytes starts : List ℕ) where
       ∙ ap (frameIn bytes starts) (sym e))
       before
       (eq-or-lt-of-le (le-of-suc-le-suc h))
-
-  pub framesIn-take : (n i : ℕ) → i ≤ n → take i (framesIn bytes starts n) ≡ framesIn bytes starts i
-  unfolding framesIn
-  framesIn-take zero i h =
-      let z : i ≡ 0 = omega arith in
-      rw z
-  framesIn-take (suc n) i h =
-      let before : i ≤ n → take i (framesIn bytes starts n ++ frameIn bytes starts n ∷ [])
-      ≡ framesIn bytes starts i =
-      λ l. take-append-le i (framesIn bytes starts n) (frameIn bytes starts n
-      ∷ []) (omega (arith, length-framesIn n)) ∙ framesIn-take n i l in
-      ⊎-elim
-      (λ e.
-      take-all i (framesIn bytes starts (suc n)) (omega (arith, length-framesIn (suc n)))
-      ∙ ap (framesIn bytes starts) (sym e))
-      (λ l. before (le-of-suc-le-suc l))
-      (eq-or-lt-of-le h)
 
   -- ---- a search over the frames from the j-th on
 

@@ -6,12 +6,13 @@ use mathlib.Core.List.{List, [], _∷_, _++_}
 use mathlib.Core.Path.{_≡_, refl}
 use Prim.Native.Nat.{ℕ}
 use lib.Dec.{eqb}
-use lib.ListN.{length, drop, replicate}
+use lib.ListN.{length, drop}
 use Rattle.basics.specs.Lists.{all}
 use Rattle.protocol.specs.Calls.{startRead, startWrite, deliver, show, clear, handOver}
 use Rattle.protocol.specs.Calls.{compare}
 use Rattle.protocol.proofs.Examples.Table.{Row, freshly, on, onEach, _⇒_, _keeping_}
-use Rattle.protocol.proofs.Examples.Table.{anything, right, messagesAre, entryIs}
+use Rattle.protocol.proofs.Examples.Table.{value, room, anything, right, messagesAre}
+use Rattle.protocol.proofs.Examples.Table.{entryIs}
 use Rattle.protocol.proofs.Examples.Begin.{sizes, entry, loaded, holding, seeing, ahead}
 use Rattle.protocol.proofs.Examples.Begin.{spent, crowded, strayed}
 use Rattle.protocol.proofs.Examples.Cleared.{clearings}
@@ -31,16 +32,9 @@ pub mod Widest
 pub mod Cleared
 pub mod HandOver
 
--- a value's four bytes, for values below 256
-abbrev value : ℕ → List ℕ
-value v = 0 ∷ 0 ∷ 0 ∷ v ∷ []
-
+-- the greatest value's four bytes
 abbrev greatest : List ℕ
 greatest = 0xff ∷ 0xff ∷ 0xff ∷ 0xff ∷ []
-
--- an output of n bytes
-abbrev room : ℕ → List ℕ
-room n = replicate n 0xee
 
 -- ---- ★ Fresh
 

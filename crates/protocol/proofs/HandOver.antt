@@ -1,5 +1,5 @@
 -- What a hand-over gives, and what a comparison of two views tells, as plain facts.
-use mathlib.Core.Bool.{Bool, true, false, cond}
+use mathlib.Core.Bool.{Bool, true, false}
 use mathlib.Core.Logic.{_↔_, _≢_}
 use mathlib.Core.Path.{_≡_, refl, sym, ap, _∙_, subst}
 use Prim.Native.Nat.{ℕ, _%_, _≤_, _<_}
@@ -10,8 +10,9 @@ use borrow.Author.Tests.{leb-false}
 use Rattle.basics.proofs.Cases.{by-test}
 use Rattle.basics.proofs.Lists.{not-every}
 use Rattle.protocol.specs.declared.Entry.{Entry}
-use Rattle.protocol.specs.Tables.{Tables, laterOf}
-use Rattle.protocol.specs.HandOver.{handedOver, noLater, standing}
+use Rattle.protocol.specs.Tables.{Tables}
+use Rattle.protocol.specs.HandOver.{takenOver, handedOver, noLater, standingBy}
+use Rattle.protocol.specs.HandOver.{standing}
 use Rattle.protocol.proofs.Tells.{tells}
 use Rattle.protocol.proofs.Put.{put-same, put-other, put-every}
 use Rattle.protocol.proofs.Behaviour.{later-one, later-other}
@@ -21,7 +22,7 @@ use Rattle.protocol.proofs.Ranges.Values.{IsClient}
 
 module _ (t : Tables) (giver receiver : ℕ) where
   abbrev raised : ℕ → Entry
-  raised k = laterOf (t .view receiver k) (t .view giver k)
+  raised = takenOver t giver receiver
 
   abbrev view : ℕ → ℕ → Entry
   view = handedOver t giver receiver .view
@@ -79,16 +80,13 @@ module _ (t : Tables) where
   )
 
   -- both tests by the answer
-  abbrev byTests : Bool → Bool → ℕ
-  byTests a b = cond a (cond b 0 1) (cond b 2 3)
-
-  tested : (a b : Bool) → (a ≡ ltb (byTests a b) 2) × (b ≡ eqb (byTests a b % 2) 0)
+  tested : (a b : Bool) → (a ≡ ltb (standingBy a b) 2) × (b ≡ eqb (standingBy a b % 2) 0)
   tested true true = (refl, refl)
   tested true false = (refl, refl)
   tested false true = (refl, refl)
   tested false false = (refl, refl)
 
-  tells-standing : (d e : ℕ) (a b : Bool) → (standing t d e ≡ byTests a b)
+  tells-standing : (d e : ℕ) (a b : Bool) → (standing t d e ≡ standingBy a b)
       ↔ ((noLater t d e ≡ a) × (noLater t e d ≡ b))
   unfolding standing
   tells-standing d e a b = (
@@ -140,6 +138,17 @@ module _ (t : Tables) where
     λ p. tells-standing d e false false .1
         (tells-earlier e d .1 (p .1), tells-earlier d e .1 (p .0)),
   )
+
+  -- it has four answers
+  most : (a b : Bool) → standingBy a b ≤ 3
+  most true true = omega arith
+  most true false = omega arith
+  most false true = omega arith
+  most false false = omega arith
+
+  pub standing-most : (d e : ℕ) → standing t d e ≤ 3
+  unfolding standing
+  standing-most d e = most (noLater t d e) (noLater t e d)
 
 -- after a hand-over the giver is the same or behind
 pub handed-behind : (t : Tables) (giver receiver : ℕ) → giver ≢ receiver

@@ -4,7 +4,7 @@ const WORDS: [&str; 18] = [
     "the block is too short or damaged, or no fresh start was accepted yet",
     "sizes outside 1 to 8 clients, 1 to 8 partitions and 1 to 64 items",
     "no such client",
-    "the client isn't idle",
+    "the client, or of a hand-over either, isn't idle",
     "the set is empty or holds an item that doesn't exist",
     "not as many values as items",
     "the client's count or a number in its view is the greatest, 4,294,967,295",

@@ -2,9 +2,9 @@
 //!
 //! A message is of the client whose start put it there, or of the same client as the message whose
 //! delivery did. With the labels go the numbers that make a write's: a client learns a number by
-//! writing, by a hand-over, and by a got, which has that of its item's latest write when the get was
-//! delivered. The number of a got's version its client knew already, since it asked for it. And with
-//! them go the writes that count as each client's own.
+//! writing, by a hand-over, and by a got, which has that of its item's latest write when the get
+//! was delivered. The number of a got's version its client knew already, since it asked for it. And
+//! with them go the writes that count as each client's own.
 
 use crate::frames::hex;
 use crate::frames::log::LogFrame;
@@ -248,8 +248,8 @@ impl History {
         self.freed = self.freed.max(gone);
     }
 
-    /// An accepted hand-over: the receiver learns of all that the giver knows of, and what counts as
-    /// the giver's own counts as the receiver's.
+    /// An accepted hand-over: the receiver learns of all that the giver knows of, and what counts
+    /// as the giver's own counts as the receiver's.
     pub(super) fn hand_over(&mut self, giver: u64, receiver: u64) {
         let known = self.known.get(&giver).copied().unwrap_or_default();
         self.learn(receiver, known);

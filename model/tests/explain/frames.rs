@@ -55,7 +55,7 @@ fn every_refusal_is_said() {
         ),
         ("02", "refused by 2: sizes outside 1 to 8 clients, 1 to 8 partitions and 1 to 64 items"),
         ("03", "refused by 3: no such client"),
-        ("04", "refused by 4: the client isn't idle"),
+        ("04", "refused by 4: the client, or of a hand-over either, isn't idle"),
         ("05", "refused by 5: the set is empty or holds an item that doesn't exist"),
         ("06", "refused by 6: not as many values as items"),
         (
@@ -130,7 +130,10 @@ fn a_clearing_is_said_with_how_many_went() {
 fn a_hand_over_is_said_with_who_takes_over() {
     let asked = "client 1 is to hand over to client 2";
     assert_eq!(said("410102", "00220102"), format!("{asked}: client 1 hands over to client 2"));
-    assert_eq!(said("410102", "04"), format!("{asked}: refused by 4: the client isn't idle"));
+    assert_eq!(
+        said("410102", "04"),
+        format!("{asked}: refused by 4: the client, or of a hand-over either, isn't idle")
+    );
 }
 
 #[test]

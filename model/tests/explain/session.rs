@@ -124,7 +124,7 @@ fn frame_answer_and_sentence_stand_side_by_side() {
     let expected = "\
 01020202                              00            fresh start with 2 clients, 2 partitions, 2 items: accepted
 030100000000000000030000000700000008  000002        client 1 starts to write item 0, value 7; item 1, value 8: accepted, 2 messages in flight
-0501                                  04            client 1 is asked what it ended last: refused by 4: the client isn't idle
+0501                                  04            client 1 is asked what it ended last: refused by 4: the client, or of a hand-over either, isn't idle
 ";
     assert_eq!(session(frames, answers), expected);
 }

@@ -28,6 +28,7 @@ fn damages_meet_every_call_and_refusal() {
 fn edges_meet_starts_deliveries_and_their_refusals() {
     let met = crate::edge_calls(&Modelled::default()).expect("the model's own answers");
     assert!(met.reads.min(met.writes).min(met.shown).min(met.cleared) >= 10, "{met:?}");
+    assert!(met.handed_over.min(met.compared.iter().sum()) >= 10, "{met:?}");
     met.assert_refused(&[1, 2, 3, 4, 5, 6, 7, 8, 9, 10, 13, 14, 17, 18], 1);
 }
 

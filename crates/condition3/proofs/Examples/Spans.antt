@@ -151,7 +151,8 @@ correction = startWrite 2 1 (0 ∷ 0 ∷ 0 ∷ 9 ∷ [])
 abbrev numbers : Bool
 numbers =
     let v = later capacities w 2 (startRead 2 3) between during (deliver 1) [] room [] in
-    let shownOwn = output capacities w 2 correction corrected (deliver 1 ∷ []) (deliver 1) [] room in
+    let shownOwn =
+    output capacities w 2 correction corrected (deliver 1 ∷ []) (deliver 1) [] room in
     let next = later capacities w 2 correction corrected (deliver 1 ∷ []) (deliver 1) [] room
     (deliver 0 ∷ []) in
     accepts capacities v correction

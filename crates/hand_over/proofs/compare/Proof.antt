@@ -5,16 +5,16 @@ use Prim.Native.Nat.{_-_}
 use lib.Dec.{leb}
 use borrow.Author.Needs.{needs}
 use Rattle.gather.proofs.Tested.{SoFar, tested-none, tested-next, tested-all}
-use Rattle.hand_over.proofs.Compared.{below, standing-read}
+use Rattle.hand_over.proofs.Compared.{noLaterAt, standing-read}
 use Rattle.hand_over.proofs.compare.Statement.{statement}
 use Rattle.hand_over.proofs.compare.Tie as tie
 
 abbrev Inv-loop : tie.InvT-loop
-Inv-loop b first second items under₀ over₀ k₀ under over k =
-    SoFar items (below b first second) k under × SoFar items (below b second first) k over
+Inv-loop b first second items below₀ above₀ k₀ below above k =
+    SoFar items (noLaterAt b first second) k below × SoFar items (noLaterAt b second first) k above
 
 abbrev μ-loop : tie.MeasureT-loop
-μ-loop b first second items under₀ over₀ k₀ under over k = items - k
+μ-loop b first second items below₀ above₀ k₀ below above k = items - k
 
 loop-holds : tie.Need-loop-holds Inv-loop μ-loop
 loop-holds c = (tested-none, tested-none)

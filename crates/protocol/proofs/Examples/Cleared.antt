@@ -2,24 +2,17 @@
 -- how many went, and the places freed.
 use mathlib.Core.List.{List, [], _∷_, _++_}
 use Prim.Native.Nat.{ℕ}
-use lib.ListN.{replicate}
 use Rattle.protocol.specs.declared.Message.{Message}
 use Rattle.protocol.specs.declared.Message.the-variants.{Prepare, Prepared, Commit, Get, Got}
 use Rattle.protocol.specs.Tables.{Tables, Client, initial, nothing, fresh, resting, stampOf}
 use Rattle.protocol.specs.Tables.{put, withClient, withView, withLatest, withVersions}
 use Rattle.protocol.specs.Tables.{withMessages, withWrite}
 use Rattle.protocol.specs.Calls.{startRead, startWrite, deliver, show, clear}
-use Rattle.protocol.proofs.Examples.Table.{Row, freshly, on, onEach, _⇒_, versionsAre}
+use Rattle.protocol.proofs.Examples.Table.{Row, freshly, on, onEach, _⇒_, value}
+use Rattle.protocol.proofs.Examples.Table.{room, versionsAre}
 use Rattle.protocol.proofs.Examples.Begin.{strayed}
 use Rattle.protocol.proofs.Examples.Begin.{sizes, entry, version, reader, writer, readOf}
 use Rattle.protocol.proofs.Examples.Begin.{writeOf, holding}
-
--- the bytes of a value below 256, and an output of n bytes
-abbrev value : ℕ → List ℕ
-value v = 0 ∷ 0 ∷ 0 ∷ v ∷ []
-
-abbrev room : ℕ → List ℕ
-room n = replicate n 0xee
 
 -- ---- What spares, and what doesn't
 

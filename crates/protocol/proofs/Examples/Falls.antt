@@ -3,21 +3,14 @@
 use mathlib.Core.Bool.{_&&_}
 use mathlib.Core.List.{List, [], _∷_}
 use Prim.Native.Nat.{ℕ}
-use lib.ListN.{replicate}
 use Rattle.protocol.specs.declared.Version.{Version}
 use Rattle.protocol.specs.declared.Entry.{Entry}
 use Rattle.protocol.specs.declared.Message.the-variants.{Got}
 use Rattle.protocol.specs.Tables.{Tables, initial, withClient, withMessages}
 use Rattle.protocol.specs.Calls.{startRead, startWrite, deliver, show}
-use Rattle.protocol.proofs.Examples.Table.{Row, freshly, on, _⇒_, messagesAre, entryIs}
+use Rattle.protocol.proofs.Examples.Table.{Row, freshly, on, _⇒_, value, room}
+use Rattle.protocol.proofs.Examples.Table.{messagesAre, entryIs}
 use Rattle.protocol.proofs.Examples.Begin.{sizes, entry, version, reader, seeing}
-
--- the bytes of a value below 256, and an output of n bytes
-abbrev value : ℕ → List ℕ
-value v = 0 ∷ 0 ∷ 0 ∷ v ∷ []
-
-abbrev room : ℕ → List ℕ
-room n = replicate n 0xee
 
 -- ---- An entry once shown doesn't go back
 

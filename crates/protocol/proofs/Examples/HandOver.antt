@@ -5,21 +5,15 @@ use mathlib.Core.List.{List, [], _∷_}
 use Prim.Native.Nat.{ℕ, suc}
 use Prim.Native.String.{String}
 use lib.Dec.{eqb}
-use lib.ListN.{getD, replicate}
+use lib.ListN.{getD}
 use Rattle.protocol.specs.declared.Entry.{Entry}
 use Rattle.protocol.specs.Tables.{Tables, Client, nothing, initial, fresh, resting}
 use Rattle.protocol.specs.Tables.{withClient, withView}
 use Rattle.protocol.specs.Calls.{startRead, startWrite, deliver, show, clear, handOver}
 use Rattle.protocol.specs.Calls.{compare}
-use Rattle.protocol.proofs.Examples.Table.{Row, freshly, on, onEach, _⇒_, versionsAre}
+use Rattle.protocol.proofs.Examples.Table.{Row, freshly, on, onEach, _⇒_, value}
+use Rattle.protocol.proofs.Examples.Table.{room, versionsAre}
 use Rattle.protocol.proofs.Examples.Begin.{sizes, entry, reader, writer}
-
--- the bytes of a value below 256, and an output of n bytes
-abbrev value : ℕ → List ℕ
-value v = 0 ∷ 0 ∷ 0 ∷ v ∷ []
-
-abbrev room : ℕ → List ℕ
-room n = replicate n 0xee
 
 -- a view with these entries on its first lines, and whether one has them
 abbrev viewOf : List Entry → ℕ → Entry

@@ -4,21 +4,17 @@ use mathlib.Core.Bool.{Bool, _&&_}
 use mathlib.Core.List.{List, [], _∷_}
 use Prim.Native.Nat.{ℕ}
 use lib.Dec.{eqb}
-use lib.ListN.{replicate}
 use Rattle.protocol.specs.declared.Entry.{Entry}
 use Rattle.protocol.specs.Tables.{Tables, nothing, fresh, initial, resting, withClient}
 use Rattle.protocol.specs.Tables.{withView, withLatest, withVersions}
 use Rattle.protocol.specs.Calls.{startRead, startWrite, deliver, show}
 use Rattle.protocol.proofs.Examples.Table.{Row, on, onEach, _⇒_, anything, messagesAre}
-use Rattle.protocol.proofs.Examples.Table.{entryIs}
+use Rattle.protocol.proofs.Examples.Table.{room, entryIs}
 use Rattle.protocol.proofs.Examples.Begin.{sizes, entry, version, seeing}
 
--- the bytes of value 7, and an output of n bytes
+-- the bytes of value 7
 abbrev seven : List ℕ
 seven = 0 ∷ 0 ∷ 0 ∷ 7 ∷ []
-
-abbrev room : ℕ → List ℕ
-room n = replicate n 0xee
 
 -- ---- An edit that follows a reading wins
 

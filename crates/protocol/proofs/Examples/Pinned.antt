@@ -10,13 +10,9 @@ use Rattle.protocol.specs.Tables.{resting, stampOf, put, withClient, wit
 use Rattle.protocol.specs.Tables.{withMessages, withLast}
 use Rattle.protocol.specs.Calls.{startRead, startWrite, deliver, show}
 use Rattle.protocol.proofs.Examples.Table.{Row, freshly, on, onEach, _⇒_, _keeping_}
-use Rattle.protocol.proofs.Examples.Table.{anything, messagesAre, entryIs}
+use Rattle.protocol.proofs.Examples.Table.{room, anything, messagesAre, entryIs}
 use Rattle.protocol.proofs.Examples.Begin.{sizes, entry, version, reader, writer, loaded}
 use Rattle.protocol.proofs.Examples.Begin.{readOf, writeOf, seeing, spent}
-
--- an output of n bytes
-abbrev room : ℕ → List ℕ
-room n = replicate n 0xee
 
 -- fresh tables of two clients, partitions and items, with client 2 like this
 abbrev withSecond : Client → Tables

@@ -7,7 +7,7 @@ use Prim.Native.Nat.{ℕ, suc, _/_, _%_}
 use Prim.Native.String.{String, slice, _++_ as append}
 use lib.Count.{ones, onesIn}
 use lib.Dec.{eqb}
-use lib.ListN.{drop}
+use lib.ListN.{drop, replicate}
 use lib.Text.{eqt}
 use Rattle.basics.specs.Lists.{every, all, counted, without, dropped}
 use Rattle.hex.specs.Number.{bigEndian, numberAt}
@@ -48,6 +48,13 @@ c ⇒ answer = record { call = c; answer = answer; kept = "" }
 
 abbrev pub _keeping_ : Line → String → Line
 l keeping kept = record { call = l .call; answer = l .answer; kept = kept }
+
+-- what calls are lent: the bytes of a value below 256, and an output of n bytes
+abbrev pub value : ℕ → List ℕ
+value v = 0 ∷ 0 ∷ 0 ∷ v ∷ []
+
+abbrev pub room : ℕ → List ℕ
+room n = replicate n 0xee
 
 -- ---- A row: a fresh start, or tables, with lines and a test of the tables after them
 

@@ -161,8 +161,8 @@ pub fn slowest() -> Slowest {
 }
 
 /// The log on which the proved judge is slowest, of those tried that are clean and within the
-/// limits, with hand-overs as one of these. A few verdicts on each tell which may be, in passes over
-/// all of them, since a machine that is disturbed is so for a while; those then take turns.
+/// limits, with hand-overs as one of these. A few verdicts on each tell which may be, in passes
+/// over all of them, since a machine that is disturbed is so for a while; those then take turns.
 fn slowest_log(hand_overs: &[HandOvers]) -> Log {
     let mut logs = Vec::new();
     for width in [1, 2, 4, 8, 16, 64] {

@@ -3,15 +3,11 @@
 
 use super::{event, own_read};
 use crate::session::session;
-use crate::support::{deliver, fresh, make_all, read, show, write};
+use crate::support::{compare, deliver, fresh, hand_over, make_all, read, show, write};
 use koolvent_model::call::{Call, Event};
 use koolvent_model::promise::{check, Clause, Violation};
 use koolvent_model::store::fault::Fault;
 use koolvent_model::store::Store;
-
-fn hand_over(giver: u64, receiver: u64) -> Call {
-    Call::HandOver { giver, receiver }
-}
 
 /// A write of item 0 by a client, to its end; its commit stays in flight, so that only its client
 /// knows of it.
@@ -138,7 +134,7 @@ fn a_store_that_hands_over_stamps_without_their_sets_is_found() {
 #[test]
 fn a_list_with_hand_overs_throughout_keeps_every_clause() {
     for events in [own_read(), session()] {
-        let compare = Call::Compare { first: 1, second: 2 };
+        let compare = compare(1, 2);
         let calls: Vec<Call> = events
             .iter()
             .flat_map(|event| {
@@ -163,7 +159,7 @@ fn numbers_that_no_hand_over_or_comparison_answers_are_found() {
         check(&events).map(|_| ())
     };
     let none = Err(Violation { event: 1, clause: Clause::Answer });
-    let compare = Call::Compare { first: 1, second: 2 };
+    let compare = compare(1, 2);
     for answer in [0, 1, 3, 4, 18] {
         assert_eq!(found(hand_over(1, 2), answer), Ok(()));
     }

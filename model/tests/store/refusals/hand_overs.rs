@@ -1,19 +1,10 @@
 //! A hand-over is tested 1, 3 of either, 18, 4 of either; a comparison 1 and 3 of either.
 
 use super::{accepted, refused};
-use crate::support::tables;
-use koolvent_model::call::Call;
+use crate::support::{compare, hand_over, tables};
 use koolvent_model::stamp::Stamp;
 use koolvent_model::store::message::Message;
 use koolvent_model::store::tables::{Client, Tables, READING, WRITING};
-
-fn hand_over(giver: u64, receiver: u64) -> Call {
-    Call::HandOver { giver, receiver }
-}
-
-fn compare(first: u64, second: u64) -> Call {
-    Call::Compare { first, second }
-}
 
 /// Numbers that no client has.
 const NOBODY: [u64; 6] = [0, 4, 9, 257, 1 << 32, u64::MAX];

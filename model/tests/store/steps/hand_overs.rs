@@ -1,16 +1,11 @@
 //! Hand-overs and comparisons (document 02, P6): the receiver's view after one, and how one view
 //! stands to another.
 
-use crate::support::{deliver, entry, made, read, tables, version, write};
+use crate::support::{compare, deliver, entry, hand_over, made, read, tables, version, write};
 use koolvent_model::answer::{Answer, AHEAD, BEHIND, NEITHER, SAME};
-use koolvent_model::call::Call;
 use koolvent_model::stamp::{Entry, Stamp};
 use koolvent_model::store::message::Message;
 use koolvent_model::store::tables::{Client, Ended, Tables, READ, READING, WRITING};
-
-fn hand_over(giver: u64, receiver: u64) -> Call {
-    Call::HandOver { giver, receiver }
-}
 
 /// Three clients with these views of the four items that exist.
 fn with_views(views: [[Entry; 4]; 3]) -> Tables {
@@ -36,7 +31,7 @@ fn stands(first: [Entry; 4], standing: u64, second: [Entry; 4]) {
     let before = with_views([first, second, [Entry::INITIAL; 4]]);
     let other_way = [SAME, AHEAD, BEHIND, NEITHER][standing as usize];
     for (one, other, standing) in [(1, 2, standing), (2, 1, other_way)] {
-        let (answer, after, output) = made(&before, Call::Compare { first: one, second: other });
+        let (answer, after, output) = made(&before, compare(one, other));
         assert_eq!(answer, Answer::Compared { standing });
         assert_eq!((after, output), (before.clone(), Vec::new()));
     }
@@ -184,7 +179,7 @@ fn busy_and_equal_clients_are_compared() {
     writing.stamps[0] = Stamp::new(1, 2);
     *before.client_mut(2) = writing;
     for (first, second, standing) in [(1, 2, NEITHER), (1, 1, SAME), (2, 2, SAME), (3, 3, SAME)] {
-        let (answer, after, _) = made(&before, Call::Compare { first, second });
+        let (answer, after, _) = made(&before, compare(first, second));
         assert_eq!((answer, after), (Answer::Compared { standing }, before.clone()));
     }
 }
@@ -194,7 +189,7 @@ fn after_a_hand_over_the_receiver_is_never_behind_the_giver() {
     for (given, held) in [(shift()[0], shift()[1]), (shift()[1], shift()[0]), (INITIAL, shift()[0])]
     {
         let (_, after, _) = made(&with_views([given, held, INITIAL]), hand_over(1, 2));
-        let (answer, _, _) = made(&after, Call::Compare { first: 2, second: 1 });
+        let (answer, _, _) = made(&after, compare(2, 1));
         let known = [SAME, AHEAD].map(|standing| Answer::Compared { standing });
         assert!(known.contains(&answer), "{answer:?}");
     }

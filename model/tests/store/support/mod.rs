@@ -83,6 +83,14 @@ pub fn show_in(client: u64, output: &[u8]) -> Call {
     Call::Show { client, output }
 }
 
+pub fn hand_over(giver: u64, receiver: u64) -> Call {
+    Call::HandOver { giver, receiver }
+}
+
+pub fn compare(first: u64, second: u64) -> Call {
+    Call::Compare { first, second }
+}
+
 pub fn start_read(client: u64, set: u64) -> Call {
     Call::Read { client, set }
 }

@@ -5,9 +5,9 @@ use Prim.Native.Nat.{_-_}
 use native.Mathlib.Nat.{sub-zero}
 use lib.ListN.{getD}
 use Rattle.judge_frames.specs.Cut.{frameIn}
-use Rattle.judge_findings.specs.Tests.{missesAt}
 use Rattle.log.specs.Some.{someFrom}
 use Rattle.log.proofs.Some.{someFrom-here, someFrom-next, someFrom-end}
+use Rattle.findings.specs.Findings.{missesAt}
 use borrow.Author.Needs.{needs}
 use Rattle.judge_findings.proofs.faults.is_missed.Statement.{statement}
 use Rattle.judge_findings.proofs.faults.is_missed.Tie as tie

@@ -1,7 +1,6 @@
 -- `judge_findings::faults::misses_at` meets its contract.
 use mathlib.Core.Path.{sym, ap, _∙_}
-use Rattle.findings.specs.Findings.{outdates}
-use Rattle.judge_findings.specs.Tests.{missesAt}
+use Rattle.findings.specs.Findings.{outdates, missesAt}
 use borrow.Author.Needs.{needs}
 use Rattle.judge_findings.proofs.faults.misses_at.Statement.{statement}
 use Rattle.judge_findings.proofs.faults.misses_at.Tie as tie
