@@ -578,8 +578,8 @@ unfolding hexText bigEndian hexDigit
     linesOf frameOf written Rattle.log.specs.Log.numberOf writtenStamp writtenValue shown shownStamp
     shownValue
     writeAt endOf shaped writeShaped readShaped handOverShaped entriesWhole reaches malformed
-    wrote isUnwritten behind fractures insert withHeir owners outdates missesAt holdsAt lowest firstFrom
-    tooLong judged checked verdict
+    wrote isUnwritten behind fractures insert withHeir owners outdates missesAt holdsAt lowest
+    firstFrom tooLong judged checked verdict
 right r = same (bytesOf (verdict (r .log))) (r .answer)
 
 -- every row of the table
