@@ -5,14 +5,15 @@
  *     example SEED LOG       prints each step and what each client sees, and writes the log to the file LOG
  *     example --seeds N      plays the seeds 0 to N - 1 in silence and judges each log
  *
- * The morning client fills in the sheet; the afternoon client reads it for the first time. Then the morning client
- * corrects tape speed and equaliser curve, which must never be seen apart, while the afternoon client reads on. When
- * all has arrived both read again, and have the same sheet. At the change of shift the morning client notes the minutes
- * done and hands over: the afternoon client, which was behind, reads them at once, whatever of them is still in flight,
- * and the log has a line on it for the judge. Then the afternoon client, which has written nothing so far, corrects the
- * curve that it has read: its one write is later than all of the morning client's, and is what it reads from then on,
- * and the morning client once it has learnt of it. By then nobody knows of the first correction any more: it is cleared
- * away, and both read the sheet as it was.
+ * The morning client fills in the sheet. The afternoon client reads it for the first time, and fast: it knows of no
+ * write, but what is committed is shown at once. Then the morning client corrects tape speed and equaliser curve, which
+ * must never be seen apart, while the afternoon client reads on, the second time fast. When all has arrived both read
+ * again, and have the same sheet. At the change of shift the morning client notes the minutes done and hands over: the
+ * afternoon client, which was behind, reads them at once, whatever of them is still in flight, and the log has a line
+ * on it for the judge. Then the afternoon client, which has written nothing so far, corrects the curve that it has
+ * read: its one write is later than all of the morning client's, and is what it reads from then on, and the morning
+ * client once it has learnt of it. By then nobody knows of the first correction any more: it is cleared away, and both
+ * read the sheet as it was.
  */
 #include <inttypes.h>
 #include <stdio.h>
@@ -26,16 +27,19 @@ enum { SPEED, CURVE, LEVEL, MINUTES, ITEMS };
 
 static const char *const client_names[] = {"nobody", "morning", "afternoon"};
 static const char *const item_names[ITEMS] = {"tape speed", "equaliser curve", "reference level", "minutes done"};
-static const char *const kind_names[] = {"", "prepare", "prepared reply", "commit", "get", "got reply"};
+static const char *const kind_names[] = {"",    "prepare",   "prepared reply", "commit",
+                                        "get", "got reply", "first get",      "first reply"};
 
 #define SET(item) (UINT64_C(1) << (item))
 #define WHOLE_SHEET (SET(ITEMS) - 1)
 
-/* A transaction to come: a write with a value for each item of its set, ascending, or a read where there are none. */
+/* A transaction to come: a write with a value for each item of its set, ascending, or a read where there are none,
+ * which may be fast. */
 struct plan {
     uint64_t set;
     uint32_t values[ITEMS];
     size_t value_count;
+    int fast;
 };
 
 /* What a client has still to do, one after another. */
@@ -43,8 +47,8 @@ struct client {
     const struct plan *plans;
     size_t plans_left;
     int busy;
-    /* What its last read showed. */
-    struct koolvent_entry sheet[ITEMS];
+    /* What its last read showed, and of each item the latest that any of its reads did. */
+    struct koolvent_entry sheet[ITEMS], latest[ITEMS];
 };
 
 /* One play of the shift. */
@@ -105,7 +109,8 @@ static size_t choose(struct shift *shift, size_t choices)
 static void say_start(const struct shift *shift, unsigned client, const struct plan *plan)
 {
     size_t place = 0;
-    printf("%s starts to %s", client_names[client], plan->value_count > 0 ? "write" : "read the sheet");
+    printf("%s starts to %s", client_names[client],
+           plan->value_count > 0 ? "write" : plan->fast ? "read the sheet fast" : "read the sheet");
     for (unsigned item = 0; item < ITEMS && plan->value_count > 0; item++)
         if (plan->set & SET(item)) {
             printf("%s %s %" PRIu32, place > 0 ? "," : "", item_names[item], plan->values[place]);
@@ -154,6 +159,8 @@ static void start(struct shift *shift, unsigned client)
     if (plan->value_count > 0)
         answer = koolvent_start_write(shift->block, KOOLVENT_WORDS, client, plan->set, values,
                                       plan->value_count * KOOLVENT_VALUE_BYTES);
+    else if (plan->fast)
+        answer = koolvent_start_fast_read(shift->block, KOOLVENT_WORDS, client, plan->set);
     else
         answer = koolvent_start_read(shift->block, KOOLVENT_WORDS, client, plan->set);
     shift->messages = koolvent_started_messages(accepted(answer, "a start"));
@@ -170,18 +177,18 @@ static int is_older(struct koolvent_entry entry, struct koolvent_entry other)
     return entry.number < other.number || (entry.number == other.number && entry.client < other.client);
 }
 
-/* Keeps what a read shows. An entry once shown does not go back. Speed and curve are always written together, and so
- * must be seen together. */
+/* Keeps what a read shows. An ordinary read shows nothing older than an earlier read did; a fast read may. Speed and
+ * curve are always written together, and so must be seen together. */
 static void keep_sheet(struct shift *shift, unsigned client, const uint8_t *frame)
 {
-    struct koolvent_entry *sheet = shift->clients[client].sheet;
+    struct koolvent_entry *sheet = shift->clients[client].sheet, *latest = shift->clients[client].latest;
 
     for (unsigned item = 0; item < ITEMS; item++) {
-        struct koolvent_entry entry = koolvent_frame_entry(frame, item);
-
-        if (is_older(entry, sheet[item]))
+        sheet[item] = koolvent_frame_entry(frame, item);
+        if (!is_older(sheet[item], latest[item]))
+            latest[item] = sheet[item];
+        else if (frame[0] != KOOLVENT_FAST_READ_FRAME)
             fail("an entry is older than the client was shown before");
-        sheet[item] = entry;
     }
     if (sheet[SPEED].number != sheet[CURVE].number || sheet[SPEED].client != sheet[CURVE].client)
         fail("speed and curve are of different writes");
@@ -203,7 +210,7 @@ static void show_ended(struct shift *shift, unsigned client)
         return;
     add_to_log(shift, frame, koolvent_shown_bytes(accepted(answer, "a showing")));
     shift->clients[client].busy = 0;
-    if (frame[0] == KOOLVENT_READ_FRAME)
+    if (frame[0] == KOOLVENT_READ_FRAME || frame[0] == KOOLVENT_FAST_READ_FRAME)
         keep_sheet(shift, client, frame);
     else if (shift->aloud)
         printf("%s has written, with number %" PRIu32 "\n", client_names[client], koolvent_frame_number(frame));
@@ -323,11 +330,14 @@ static void compare_sheets(const struct shift *shift, unsigned writer)
 
 static void play(struct shift *shift, uint64_t seed, int aloud)
 {
-    static const struct plan fill_in = {WHOLE_SHEET, {190, 70, 320, 12}, ITEMS};
-    static const struct plan correct = {SET(SPEED) | SET(CURVE), {381, 35}, 2};
-    static const struct plan note_minutes = {SET(MINUTES), {47}, 1};
-    static const struct plan correct_again = {SET(SPEED) | SET(CURVE), {381, 18}, 2};
-    static const struct plan reads[3] = {{WHOLE_SHEET, {0}, 0}, {WHOLE_SHEET, {0}, 0}, {WHOLE_SHEET, {0}, 0}};
+    static const struct plan fill_in = {WHOLE_SHEET, {190, 70, 320, 12}, ITEMS, 0};
+    static const struct plan correct = {SET(SPEED) | SET(CURVE), {381, 35}, 2, 0};
+    static const struct plan note_minutes = {SET(MINUTES), {47}, 1, 0};
+    static const struct plan correct_again = {SET(SPEED) | SET(CURVE), {381, 18}, 2, 0};
+    static const struct plan fast_read = {WHOLE_SHEET, {0}, 0, 1};
+    static const struct plan reads[2] = {{WHOLE_SHEET, {0}, 0, 0}, {WHOLE_SHEET, {0}, 0, 0}};
+    static const struct plan racing_reads[3] = {
+        {WHOLE_SHEET, {0}, 0, 0}, {WHOLE_SHEET, {0}, 0, 1}, {WHOLE_SHEET, {0}, 0, 0}};
 
     memset(shift, 0, sizeof *shift);
     shift->random = seed;
@@ -338,13 +348,16 @@ static void play(struct shift *shift, uint64_t seed, int aloud)
     part(shift, "the morning client fills in the sheet");
     plan(shift, MORNING, &fill_in, 1);
     run(shift);
-    part(shift, "the afternoon client reads for the first time: it knows of no write, and learns of them");
-    plan(shift, AFTERNOON, reads, 1);
+    part(shift, "the afternoon client reads for the first time: it knows of no write, and a fast read shows them");
+    plan(shift, AFTERNOON, &fast_read, 1);
     run(shift);
-    part(shift, "the morning client corrects speed and curve while the afternoon client reads three times");
+    for (unsigned item = 0; item < ITEMS; item++)
+        if (shift->clients[AFTERNOON].sheet[item].value != fill_in.values[item])
+            fail("what is committed is not read fast");
+    part(shift, "the morning client corrects speed and curve while the afternoon client reads three times, once fast");
     shift->racing = 1;
     plan(shift, MORNING, &correct, 1);
-    plan(shift, AFTERNOON, reads, 3);
+    plan(shift, AFTERNOON, racing_reads, 3);
     run(shift);
     shift->racing = 0;
     part(shift, "all has arrived: both read again, the afternoon client twice");

@@ -3,10 +3,18 @@
  *
  * A sheet is a number of items (entries of 32 bits), spread over partitions. Clients read any set of items, and write
  * up to 12 at a time, in transactions. A read that shows one item of a write never shows another item of that write
- * older, never misses what its own client had written before it started, never shows an item older than an earlier
- * read of its client did, and ends after one reply for each item, whatever the order in which messages arrive. A write
- * is later than everything that its client was shown before it started. A client may take over what another has seen:
- * what that one had written by then, or taken over itself, counts as its own for every read that it starts afterwards.
+ * older. An ordinary read never misses what its own client had written before it started, and never shows an item older
+ * than an earlier read of its client did. It ends after one reply for each item, whatever the order in which messages
+ * arrive. A write is later than everything that its client was shown before it started. A client may take over what
+ * another has seen: what that one had written by then, or taken over itself, counts as its own for every ordinary read
+ * that it starts afterwards.
+ *
+ * A fast read asks each partition for the latest committed write of each item, whatever its client knows of. It is
+ * never fractured either. It ends after one reply for each item, and one more for each item that it fetches again; it
+ * fetches no item a third time. It shows no item older than the item's latest was when the partition answered the first
+ * get. So it misses no write, of its own client or another, whose commit the item's partition had got before the fast
+ * read started. It may miss any other write, also where its client wrote that or an earlier read of its client showed
+ * it. No ordinary read that starts after a fast read of its client shows an item older than the fast read did.
  *
  * The host owns all memory and moves all messages. It lends a block of words to each call, and the store keeps
  * everything there: nothing is allocated, no thread is started, no clock is read, nothing is kept elsewhere.
@@ -37,7 +45,7 @@
  *   - a length is no more than what is there: words for a block, bytes for the others;
  *   - no pointer is null, even where the length is 0;
  *   - block, values and output do not overlap;
- *   - there is stack enough: some 40,000 bytes for koolvent_clear, 24,000 for koolvent_judge, 1,100 for any other call;
+ *   - there is stack enough: some 44,000 bytes for koolvent_clear, 24,000 for koolvent_judge, 1,200 for any other call;
  *   - one caller at a time: while a call runs, nobody else reads or writes what was lent to it. Two threads may work on
  *     two blocks, and on the judge beside them: nothing is shared;
  *   - between calls the host leaves the block's words as they are. It may copy them: a copy of all KOOLVENT_WORDS
@@ -59,7 +67,7 @@ extern "C" {
 /* ---- Sizes and limits ---- */
 
 /* The words of 64 bits that a block needs, whatever its sizes. More may be lent: no call changes them. */
-#define KOOLVENT_WORDS 6416
+#define KOOLVENT_WORDS 7440
 
 /* The most clients (desks; numbered from 1), partitions (cabinets; from 0) and items (lines; from 0), 1 being the
  * least of each. Item k lies in partition k mod the number of partitions. */
@@ -70,9 +78,10 @@ extern "C" {
 /* The most items of a write; a read may be of all. A block in which an older store left wider writes stays valid. */
 #define KOOLVENT_MOST_WRITE_ITEMS 12
 
-/* The greatest load: messages in flight (the pile), and for each write under way the items whose prepared reply has
- * come. And the most stored versions, prepares in flight counted with them: koolvent_clear takes away those that
- * nothing names any more, and but for koolvent_fresh nothing else takes one away. */
+/* The greatest load: messages in flight (the pile), for each write under way the items whose prepared reply has come,
+ * and for each fast read that still awaits a first reply the items whose first reply has. And the most stored versions,
+ * prepares in flight counted with them: koolvent_clear takes away those that nothing names any more, and but for
+ * koolvent_fresh nothing else takes one away. */
 #define KOOLVENT_MOST_LOAD 128
 #define KOOLVENT_MOST_VERSIONS 512
 
@@ -91,6 +100,7 @@ extern "C" {
  *     a read        kind 21 (1 byte), client (1), set (8), then for each item the number of the write that is shown
  *                   (4), the client that wrote it (1), and the value (4); all three are 0 where nobody's write is shown
  *     a hand-over   kind 22 (1 byte), giver (1), receiver (1)
+ *     a fast read   kind 23, and then as a read
  *
  * A log is a text: each frame as lowercase hexadecimal digits, two a byte, and then the byte 0a. Its lines are in the
  * order in which transactions ended and hand-overs were made: what the receiver has ended before a hand-over is logged
@@ -98,8 +108,10 @@ extern "C" {
 #define KOOLVENT_WRITE_FRAME 0x20
 #define KOOLVENT_READ_FRAME 0x21
 #define KOOLVENT_HAND_OVER_FRAME 0x22
+#define KOOLVENT_FAST_READ_FRAME 0x23
 
-/* The bytes of a frame of so many items, those of a hand-over's, and room enough for any frame. */
+/* The bytes of a frame of so many items (a fast read's has those of a read's), those of a hand-over's, and room enough
+ * for any frame. */
 #define KOOLVENT_WRITE_FRAME_BYTES(items) (14 + 4 * (items))
 #define KOOLVENT_READ_FRAME_BYTES(items) (10 + 9 * (items))
 #define KOOLVENT_HAND_OVER_FRAME_BYTES 3
@@ -176,6 +188,12 @@ uint64_t koolvent_fresh(uint64_t *block, size_t words, uint64_t clients, uint64_
  * from the replies of later ones, for its next read. Refused by 1, 3, 4, 5 and 8. */
 uint64_t koolvent_start_read(uint64_t *block, size_t words, uint64_t client, uint64_t set);
 
+/* Starts a fast read of the items of a set. It asks for the latest committed write of each item. Where the replies show
+ * that a write of one item also wrote another, which was answered with an earlier one, it asks for that write of the
+ * other as well, and shows what comes then. Its client learns from all replies, as from those of a read. Refused by 1,
+ * 3, 4, 5 and 8. */
+uint64_t koolvent_start_fast_read(uint64_t *block, size_t words, uint64_t client, uint64_t set);
+
 /* Starts a write of the items of a set, at most KOOLVENT_MOST_WRITE_ITEMS, with KOOLVENT_VALUE_BYTES bytes for each, by
  * ascending item. Its number is 1 more than the greatest of the client's own writes and of all that it knows of,
  * whoever wrote them and whatever their items: so it is later than everything that the client has been shown. Refused
@@ -192,16 +210,18 @@ uint64_t koolvent_show(const uint64_t *block, size_t words, uint64_t client, uin
 
 /* Takes away exactly those stored versions whose write, by number and client, no client has as the latest that it wrote
  * of any item, learnt by a reply for it or took over, no item has as its latest committed, no message in flight names,
- * and which isn't under way. The others stay, in their order, and the places freed serve the next writes. It may be
- * called at any time: every read still ends after its own replies, unfractured, no delivery is refused for it, and what
- * a client ended last can still be shown. Refused by 1 alone. It takes some 40,000 bytes of stack. */
+ * which isn't under way, and of which no fast read under way has had a first reply. The others stay, in their order,
+ * and the places freed serve the next writes. It may be called at any time: every read still ends after its own
+ * replies, unfractured, no delivery is refused for it, and what a client ended last can still be shown. Refused by 1
+ * alone. It takes some 44,000 bytes of stack. */
 uint64_t koolvent_clear(uint64_t *block, size_t words);
 
 /* The receiver takes over what the giver has seen, as at a change of shift: of each item it has from then on the later
- * of the two writes that they had as their latest, and what the giver has stays as it was. So the receiver's reads miss
- * nothing that the giver had written, or taken over, before. An accepted hand-over answers 0. A host that keeps a log
- * adds a line with its frame, and the judge then counts the giver's writes above that line, and those that it had taken
- * over by then, as the receiver's own. They must be two different clients, and both idle. Refused by 1, 3, 18 and 4. */
+ * of the two writes that they had as their latest, and what the giver has stays as it was. So the receiver's ordinary
+ * reads miss nothing that the giver had written, or taken over, before. An accepted hand-over answers 0. A host that
+ * keeps a log adds a line with its frame, and the judge then counts the giver's writes above that line, and those that
+ * it had taken over by then, as the receiver's own. They must be two different clients, and both idle. Refused by 1,
+ * 3, 18 and 4. */
 uint64_t koolvent_hand_over(uint64_t *block, size_t words, uint64_t giver, uint64_t receiver);
 
 /* Tells how what the first client knows stands to what the second knows, by what each has as the latest write of each
@@ -222,11 +242,15 @@ enum koolvent_kind {
     /* A partition is asked for a version. */
     KOOLVENT_GET = 4,
     /* It gives the version, with its write set, to the reading client, and says which write is its latest. */
-    KOOLVENT_GOT = 5
+    KOOLVENT_GOT = 5,
+    /* A partition is asked for the version of its latest, by a fast read. */
+    KOOLVENT_FIRST_GET = 6,
+    /* It gives that, as a got. */
+    KOOLVENT_FIRST_REPLY = 7
 };
 
-/* What a delivery ended. The answer does not name the client: of those with a transaction under way it is the one to
- * whom koolvent_show is no longer refused by KOOLVENT_REFUSED_BUSY. */
+/* What a delivery ended, a fast read being a read. The answer does not name the client: of those with a transaction
+ * under way it is the one to whom koolvent_show is no longer refused by KOOLVENT_REFUSED_BUSY. */
 enum koolvent_outcome {
     KOOLVENT_NONE_ENDED = 0,
     KOOLVENT_READ_ENDED = 1,
@@ -296,13 +320,13 @@ enum koolvent_finding {
     /* It shows one item of a write, and another item of that write older. */
     KOOLVENT_FRACTURED = 2,
     /* It shows an item older than its own client had written it, in a line above, or had taken it over: at a hand-over
-     * above, what counted as the giver's own there counts as the receiver's below. */
+     * above, what counted as the giver's own there counts as the receiver's below. A fast read may do so. */
     KOOLVENT_OWN_WRITE_MISSED = 3
 };
 
 /* Judges a log, whoever wrote it: the first read at fault, and there the lowest of the findings above. Refused by 15
  * and 16, the latter tested first. It takes some 24,000 bytes of stack; the calls on a block, but for koolvent_clear,
- * take less than 1,100, of which 512 are a stamp for each item when a read starts. */
+ * take less than 1,200, of which 512 are a stamp for each item when a read starts or a fast read's first part ends. */
 uint64_t koolvent_judge(const uint8_t *log, size_t length);
 
 /* After an accepted judging: an enum koolvent_finding. */
@@ -366,7 +390,7 @@ struct koolvent_entry {
     uint32_t value;
 };
 
-/* The entry at a place, from 0, among the items of a read's frame. */
+/* The entry at a place, from 0, among the items of a read's frame, of a fast one too. */
 static inline struct koolvent_entry koolvent_frame_entry(const uint8_t *frame, unsigned place)
 {
     const uint8_t *bytes = frame + KOOLVENT_READ_FRAME_BYTES((size_t)place);

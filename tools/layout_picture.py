@@ -20,6 +20,7 @@ SECTIONS = {
     'values': ('Values', '#e8c3d9', 'for each client d, item k', ['itemAt'], 'value'),
     'lastStamps': ('Last stamps', '#d9b8a0', 'for each client d, item k', ['itemAt'], 'stamp'),
     'lastValues': ('Last values', '#cfc0e6', 'for each client d, item k', ['itemAt'], 'value'),
+    'firsts': ('First replies', '#b4c7a1', 'for each client d, item k', ['firstAt'], 'stamp|set'),
     'versions': ('Stored versions', '#b9dde0', 'for each version i', ['versionAt'], 'item|value|stamp|set'),
     'messages': ('Messages in flight', '#dfd98f', 'for each message i', ['messageAt'], 'kind|client or partition|item|value|stamp|set|latest stamp|latest set'),
 }
@@ -61,6 +62,7 @@ class Layout:
         parameters, = (n.split()[1:] for n in self.bodies if n.split()[0] == name)
         body = self.numerals(self.bodies[' '.join([name, *parameters])])
         body = re.sub(r'\d+(?: \* \d+)+', lambda m: str(eval(m.group())), body)
+        body = re.sub(r'\((.*) \+ f\)$', r'\1', body)
         return re.sub(r' \+ f$', '', body).replace(' * ', ' · ').replace('-', '−')
 
 

@@ -37,6 +37,11 @@ static uint64_t read_items(uint64_t client, uint64_t set)
     return koolvent_start_read(block, WORDS, client, set);
 }
 
+static uint64_t fast_read_items(uint64_t client, uint64_t set)
+{
+    return koolvent_start_fast_read(block, WORDS, client, set);
+}
+
 static uint64_t write_items(uint64_t client, uint64_t set, size_t value_bytes)
 {
     return koolvent_start_write(block, WORDS, client, set, values, value_bytes);
@@ -50,6 +55,12 @@ static uint64_t deliver(uint64_t place)
 static uint64_t show(uint64_t client, size_t room)
 {
     return koolvent_show(block, WORDS, client, output, room);
+}
+
+/* The set of the first items. */
+static uint64_t first(unsigned items)
+{
+    return ~UINT64_C(0) >> (64 - items);
 }
 
 static void deliver_all(void)
@@ -92,6 +103,58 @@ static void session(void)
     }
 }
 
+/* Of client 1's write item 1's commit stays in flight; client 2 reads both items fast, and fetches that one again. */
+static void fast_reads(void)
+{
+    static const struct {
+        unsigned kind, messages, outcome;
+    } read[] = {
+        {KOOLVENT_FIRST_GET, 3, KOOLVENT_NONE_ENDED},   {KOOLVENT_FIRST_GET, 3, KOOLVENT_NONE_ENDED},
+        {KOOLVENT_FIRST_REPLY, 2, KOOLVENT_NONE_ENDED}, {KOOLVENT_FIRST_REPLY, 2, KOOLVENT_NONE_ENDED},
+        {KOOLVENT_GET, 2, KOOLVENT_NONE_ENDED},         {KOOLVENT_GOT, 1, KOOLVENT_READ_ENDED},
+    };
+
+    fresh(2, 2, 2);
+    koolvent_put_value(values, 7);
+    koolvent_put_value(values + 4, 8);
+    write_items(1, 3, 8);
+    for (unsigned i = 0; i < 5; i++)
+        deliver(0);
+    SAME(koolvent_started_messages(fast_read_items(2, 3)), 3);
+    SAME(fast_read_items(2, 3), KOOLVENT_REFUSED_BUSY);
+    SAME(show(2, ROOM), KOOLVENT_REFUSED_BUSY);
+    for (size_t i = 0; i < sizeof read / sizeof *read; i++) {
+        uint64_t answer = deliver(1);
+        SAME(koolvent_delivered_kind(answer), read[i].kind);
+        SAME(koolvent_delivered_messages(answer), read[i].messages);
+        SAME(koolvent_delivered_outcome(answer), read[i].outcome);
+    }
+    SAME(koolvent_shown_bytes(show(2, ROOM)), KOOLVENT_READ_FRAME_BYTES(2));
+    SAME(output[0], KOOLVENT_FAST_READ_FRAME);
+    SAME(koolvent_frame_set(output), 3);
+    for (unsigned item = 0; item < 2; item++) {
+        SAME(koolvent_frame_entry(output, item).number, 1);
+        SAME(koolvent_frame_entry(output, item).client, 1);
+        SAME(koolvent_frame_entry(output, item).value, 7 + item);
+    }
+
+    /* The own write of client 1 is not committed for item 1. */
+    fast_read_items(1, 2);
+    deliver(1);
+    SAME(koolvent_delivered_outcome(deliver(1)), KOOLVENT_READ_ENDED);
+    show(1, ROOM);
+    SAME(koolvent_frame_entry(output, 0).number, 0);
+
+    SAME(fast_read_items(3, 1), KOOLVENT_REFUSED_CLIENT);
+    SAME(fast_read_items(1, 0), KOOLVENT_REFUSED_SET);
+    SAME(fast_read_items(1, 4), KOOLVENT_REFUSED_SET);
+    SAME(koolvent_start_fast_read(block, KOOLVENT_WORDS - 1, 1, 1), KOOLVENT_REFUSED_BLOCK);
+    fresh(3, 2, 64);
+    SAME(koolvent_started_messages(fast_read_items(1, first(64))), 64);
+    SAME(koolvent_started_messages(fast_read_items(2, first(64))), KOOLVENT_MOST_LOAD);
+    SAME(fast_read_items(3, 1), KOOLVENT_REFUSED_LOAD);
+}
+
 static void sizes(void)
 {
     uint64_t words = 0, clients = 1, partitions = 1, items = 1;
@@ -108,12 +171,6 @@ static void sizes(void)
     while (items < 100 && koolvent_fresh(block, WORDS, 1, 1, items + 1) != KOOLVENT_REFUSED_SIZES)
         items++;
     SAME(items, KOOLVENT_MOST_ITEMS);
-}
-
-/* The set of the first items. */
-static uint64_t first(unsigned items)
-{
-    return ~UINT64_C(0) >> (64 - items);
 }
 
 /* Of a block full of one client's writes of eight items the last stays, and there is room again. */
@@ -341,6 +398,7 @@ static size_t longest(int byte)
 #define HALF_READ_BY(client) "21" client "0000000000000003000000010100000007000000000000000000\n"
 #define HAND_OVER "220102\n"
 #define INITIAL_READ_BY(client) "21" client "0000000000000001000000000000000000\n"
+#define INITIAL_FAST_READ_BY(client) "23" client "0000000000000001000000000000000000\n"
 
 static void verdicts(void)
 {
@@ -362,6 +420,9 @@ static void verdicts(void)
     verdict = judge(WRITE_BY_1 INITIAL_READ_BY("02") HAND_OVER INITIAL_READ_BY("02"));
     SAME(koolvent_verdict_finding(verdict), KOOLVENT_OWN_WRITE_MISSED);
     SAME(koolvent_verdict_line(verdict), 4);
+    verdict = judge(WRITE_BY_1 INITIAL_FAST_READ_BY("01"));
+    SAME(koolvent_refusal(verdict), KOOLVENT_ACCEPTED);
+    SAME(koolvent_verdict_finding(verdict), KOOLVENT_CLEAN);
     SAME(strlen(HAND_OVER), 2 * KOOLVENT_HAND_OVER_FRAME_BYTES + 1);
     for (int line = 1; line < 256; line++)
         strcat(long_log, INITIAL_READ_BY("02"));
@@ -375,6 +436,7 @@ static void verdicts(void)
 int main(void)
 {
     session();
+    fast_reads();
     sizes();
     starts();
     hand_overs();

@@ -71,7 +71,7 @@ impl Answer {
         let answer = match call {
             _ if number & 0xff != 0 => Answer::Refused(number & 0xff),
             Call::Fresh { .. } => Answer::Fresh,
-            Call::Read { .. } | Call::Write { .. } => {
+            Call::Read { .. } | Call::FastRead { .. } | Call::Write { .. } => {
                 Answer::Started { messages: number >> 8 & 0xffff }
             }
             Call::Deliver { .. } => Answer::Delivered {

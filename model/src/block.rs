@@ -11,6 +11,7 @@ use crate::store::Store;
 pub trait Calls {
     fn fresh(&self, block: &mut [u64], clients: u64, partitions: u64, items: u64) -> u64;
     fn start_read(&self, block: &mut [u64], client: u64, set: u64) -> u64;
+    fn start_fast_read(&self, block: &mut [u64], client: u64, set: u64) -> u64;
     fn start_write(&self, block: &mut [u64], client: u64, set: u64, values: &[u8]) -> u64;
     fn deliver(&self, block: &mut [u64], place: u64) -> u64;
     fn show(&self, block: &[u64], client: u64, output: &mut [u8]) -> u64;
@@ -26,6 +27,7 @@ pub trait Calls {
                 self.fresh(block, *clients, *partitions, *items)
             }
             Call::Read { client, set } => self.start_read(block, *client, *set),
+            Call::FastRead { client, set } => self.start_fast_read(block, *client, *set),
             Call::Write { client, set, values } => self.start_write(block, *client, *set, values),
             Call::Deliver { place } => self.deliver(block, *place),
             Call::Show { client, .. } => self.show(block, *client, output),
@@ -95,6 +97,10 @@ impl Calls for Modelled {
 
     fn start_read(&self, block: &mut [u64], client: u64, set: u64) -> u64 {
         self.step(block, None, |store| store.start_read(client, set))
+    }
+
+    fn start_fast_read(&self, block: &mut [u64], client: u64, set: u64) -> u64 {
+        self.step(block, None, |store| store.start_fast_read(client, set))
     }
 
     fn start_write(&self, block: &mut [u64], client: u64, set: u64, values: &[u8]) -> u64 {

@@ -14,6 +14,11 @@ pub enum Call {
         client: u64,
         set: u64,
     },
+    /// A read of the latest committed versions.
+    FastRead {
+        client: u64,
+        set: u64,
+    },
     /// The values as bytes, four an item.
     Write {
         client: u64,

@@ -4,15 +4,20 @@
 //! The checker runs a list of labels beside the calls, as the steps say which messages join and
 //! leave, and never sees the store's tables. By the labels it knows which numbers each client has
 //! learnt of, and so each write's stamp from its start on, shown or not: every clause goes by whole
-//! stamps. It keeps no views, and a capacity for its summary alone, so it doesn't see which of the
-//! entries that the clauses allow a read has to show, nor whether a start has to be refused. Each
-//! clause is one function and one `Clause`. That answers, outputs and tables are those of the steps
-//! and the refusal table is for whoever holds the list against the model's store.
+//! stamps. By the commits that were delivered it knows each item's latest write, and so what the
+//! replies to a fast read bring. It keeps no views, and a capacity for its summary alone, so it
+//! doesn't see which of the entries that the clauses allow an ordinary read has to show, nor
+//! whether a start has to be refused. Each clause is one function and one `Clause`. That answers,
+//! outputs and tables are those of the steps and the refusal table is for whoever holds the list
+//! against the model's store.
 
 mod checker;
 mod clauses;
 mod history;
+mod label;
 mod showings;
+mod summing;
+mod transaction;
 
 use crate::call::Event;
 use checker::Checker;
@@ -36,29 +41,45 @@ pub enum Clause {
     Length,
     /// A read has exactly one message for each item it awaits.
     OneMessageForEachAwaited { client: u64, item: u64 },
+    /// Of an item at most one first reply and one got are delivered to a fast read, ended or not,
+    /// and it sends at most one first get and one get, of an item outside its set none.
+    Bounded { client: u64, item: u64 },
+    /// Until its n-th reply has come a fast read has sent its n first gets alone; from then on, the
+    /// second set having joined with that reply, it sends nothing.
+    TwoRounds { client: u64 },
     /// A read is reported ended by the delivery of its n-th reply and no other, after n requests
-    /// and n replies.
+    /// and n replies; a fast one that fetches m items again by that of its (n + m)-th, after n + m
+    /// of each.
     ReadEnd,
     /// A write is reported ended by the delivery of its last prepared reply and no other.
     WriteEnd,
     /// A showing with room enough after an end and before the client's next start is accepted.
     ShowingAfterAnEnd,
-    /// The frame shown is one of the transaction that ended last, of a write with its number.
+    /// The frame shown is one of the transaction that ended last, of a write with its number, of a
+    /// fast read with its kind.
     Frame,
     /// A shown entry is initial or of an accepted write with that stamp, item and value.
     Unwritten { item: u64 },
     /// Where an entry's write also wrote another shown item, that one isn't shown older.
     Fractured { item: u64, older: u64 },
-    /// An entry's write was stored at all its partitions before the get behind the reply was
-    /// delivered.
+    /// No entry of a fast read is older than a write of that item whose commit at the item's
+    /// partition was delivered before the read's start, the client's own writes included.
+    CommittedMissed { item: u64 },
+    /// No entry of a fast read is older than what was committed last of that item when the first
+    /// get behind its first reply was delivered.
+    Stale { item: u64 },
+    /// Each entry, an initial one too, is what the last of the read's replies for its item brought.
+    NotBrought { item: u64 },
+    /// An entry's write was stored at all its partitions before the get behind the reply that
+    /// brought it was delivered.
     AnsweredBeforeStored { item: u64 },
-    /// No entry is older than a write of that item which the client had ended before the read's
-    /// start, or taken over from another that had ended it or taken it over.
+    /// No entry of an ordinary read is older than a write of that item which the client had ended
+    /// before the read's start, or taken over from another that had ended it or taken it over.
     OwnWriteMissed { item: u64 },
     /// A write is later than every entry that its client was shown before it started.
     OlderThanShown,
-    /// No entry is older than what a read of the client that ended before this one's start showed
-    /// for that item.
+    /// No entry of an ordinary read is older than what a read of the client, ordinary or fast, that
+    /// ended before this one's start showed for that item.
     WentBack { item: u64 },
     /// A clearing is accepted, and no more versions go than are stored.
     Clearing,
@@ -84,14 +105,36 @@ pub struct Summary {
     pub written_entries_shown: usize,
     /// Writes shown that had to be later than another client's, which their client was shown.
     pub corrections: usize,
-    /// Entries shown of items that an earlier read of the client had shown written.
+    /// Entries of an ordinary read of items that an earlier read of the client had shown written.
     pub shown_again: usize,
     /// Versions that clearings took away.
     pub gone: u64,
     /// Writes accepted that 9 would have refused if no version had gone.
     pub served: usize,
-    /// Entries shown of items whose latest write that counts as the client's own it had taken over.
+    /// Entries of an ordinary read of items whose latest write that counts as the client's own it
+    /// had taken over.
     pub taken_over: usize,
+    pub fast_reads_shown: usize,
+    /// Entries that a fast read shows of items that it fetched again.
+    pub fetched_again: usize,
+    /// Entries that a fast read shows older than an earlier read of the client did.
+    pub fallen: usize,
+    /// Entries that a fast read shows older than an own write of the client.
+    pub own_missed: usize,
+    /// Entries of an ordinary read of items that a fast read of the client had shown written.
+    pub fast_shown_again: usize,
+    /// Gots delivered to fast reads, ended or not.
+    pub fast_gots: usize,
+    /// Entries that a fast read shows of writes stored at all their partitions only after the
+    /// item's first get was delivered.
+    pub stored_meanwhile: usize,
+    /// Entries that a fast read shows of items with a write committed before its start.
+    pub committed_before: usize,
+    /// Those of these whose latest such write is the client's own.
+    pub own_committed: usize,
+    /// Entries that a fast read shows of items whose latest write was committed after its start and
+    /// before the item's first get was delivered.
+    pub committed_meanwhile: usize,
 }
 
 /// Whether the events keep every clause of condition 3. The first is an accepted fresh; another

@@ -2,11 +2,12 @@
 //! fifth seed have many items, and sets that are wider than a write's.
 
 use crate::random::Random;
-use crate::set::has;
+use crate::set::{has, items};
 use crate::stamp::{Entry, Stamp};
 use crate::store::message::Message;
 use crate::store::tables::{
-    Client, Ended, Sizes, Tables, Version, IDLE, NONE, READ, READING, WRITE, WRITING,
+    Client, Ended, Sizes, Tables, Version, FAST_READ, FIRST_PART, IDLE, NONE, READ, READING,
+    SECOND_PART, WRITE, WRITING,
 };
 
 /// The tables that a seed gives.
@@ -69,7 +70,9 @@ impl Maker {
     }
 
     fn record(&mut self, client: u64) -> Client {
-        let mode = self.random.pick(&[IDLE, READING, WRITING]);
+        let modes =
+            [IDLE, IDLE, IDLE, READING, WRITING, WRITING, FIRST_PART, FIRST_PART, SECOND_PART];
+        let mode = self.random.pick(&modes);
         let mut one = self.stamp();
         if self.random.percent(70) {
             one = Stamp::new(self.random.between(1, 2), client);
@@ -85,6 +88,9 @@ impl Maker {
             let awaited = self.item();
             record.set |= 1 << awaited;
             record.awaited = record.set & (self.set() | 1 << awaited);
+            if [WRITING, FIRST_PART].contains(&mode) && self.random.percent(60) {
+                record.awaited = 1 << awaited;
+            }
         }
         for item in 0..self.sizes.items as usize {
             if record.set >> item & 1 == 1 {
@@ -92,11 +98,15 @@ impl Maker {
                 record.values[item] = self.random.below(5);
             }
         }
+        for item in items(record.first_replied()) {
+            record.firsts[item as usize] = self.entry();
+        }
         record
     }
 
     fn ended(&mut self) -> Ended {
-        let mut ended = Ended { kind: self.random.pick(&[NONE, READ, WRITE]), ..Ended::NONE };
+        let mut ended =
+            Ended { kind: self.random.pick(&[NONE, READ, WRITE, FAST_READ]), ..Ended::NONE };
         if ended.kind == NONE {
             return ended;
         }
@@ -104,7 +114,7 @@ impl Maker {
         for item in 0..self.sizes.items as usize {
             if ended.set >> item & 1 == 1 {
                 ended.values[item] = self.random.below(5);
-                if ended.kind == READ {
+                if ended.kind != WRITE {
                     ended.stamps[item] = self.stamp();
                 }
             }
@@ -118,35 +128,59 @@ impl Maker {
     /// A message, often one that a client of the tables awaits.
     fn message(&mut self, tables: &Tables) -> Message {
         let (client, item) = (self.client(), self.item());
-        let awaited = tables.client(client).stamps[item as usize];
-        let stamp = if self.random.percent(60) && awaited != Stamp::INITIAL {
-            awaited
-        } else {
-            self.written_stamp()
-        };
-        match self.random.below(5) {
+        let partition = self.random.below(self.sizes.partitions);
+        match self.random.below(7) {
             0 => Message::Prepare(self.version()),
-            1 => Message::Prepared { item, stamp },
-            2 => Message::Commit { partition: self.random.below(self.sizes.partitions), stamp },
+            1 => self.prepared(tables),
+            2 => Message::Commit { partition, stamp: self.written_stamp() },
             3 => Message::Get { client, item, stamp: self.stamp() },
+            4 => Message::FirstGet { client, item },
+            5 => self.first_reply(tables),
             _ => self.got(tables),
         }
+    }
+
+    /// A prepared reply, mostly one that a writing client awaits.
+    fn prepared(&mut self, tables: &Tables) -> Message {
+        let (client, item) = self.awaited(tables, &[WRITING]);
+        let awaited = tables.client(client).stamps[item as usize];
+        let stamp = match awaited == Stamp::INITIAL || self.random.once_in(4) {
+            true => self.written_stamp(),
+            false => awaited,
+        };
+        Message::Prepared { item, stamp }
     }
 
     /// A got, mostly one that a reading client awaits. Its set may lack its item, and the initial
     /// version may have one.
     fn got(&mut self, tables: &Tables) -> Message {
+        let (client, item) = self.awaited(tables, &[READING, SECOND_PART]);
+        let stamp = tables.client(client).stamps[item as usize];
+        let version = Version { item, value: self.random.below(5), stamp, set: self.set() };
+        Message::Got { client, version, latest: self.entry() }
+    }
+
+    /// A first reply, mostly one that a fast read awaits, now and then of any item to that read.
+    /// Its latest may be another write's.
+    fn first_reply(&mut self, tables: &Tables) -> Message {
+        let (client, awaited) = self.awaited(tables, &[FIRST_PART]);
+        let item = if self.random.once_in(4) { self.item() } else { awaited };
+        let Entry { stamp, set } = self.entry();
+        let version = Version { item, value: self.random.below(5), stamp, set };
+        Message::FirstReply { client, version, latest: self.entry() }
+    }
+
+    /// A client and an item, mostly one that it awaits in one of these modes.
+    fn awaited(&mut self, tables: &Tables, modes: &[u64]) -> (u64, u64) {
         let (mut client, mut item) = (self.client(), self.item());
-        for _ in 0..4 {
+        for _ in 0..8 {
             let record = tables.client(client);
-            if record.mode == READING && has(record.awaited, item) {
+            if modes.contains(&record.mode) && has(record.awaited, item) {
                 break;
             }
             (client, item) = (self.client(), self.item());
         }
-        let stamp = tables.client(client).stamps[item as usize];
-        let version = Version { item, value: self.random.below(5), stamp, set: self.set() };
-        Message::Got { client, version, latest: self.entry() }
+        (client, item)
     }
 
     fn tables(&mut self) -> Tables {

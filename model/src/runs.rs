@@ -64,6 +64,8 @@ struct Runner<'a, 'b> {
     clears_when_full: bool,
     /// Before so many calls in a hundred there is a hand-over, and before as many a comparison.
     hand_overs: u64,
+    /// So many reads in a hundred are fast.
+    fast_reads: u64,
     log_lines: usize,
     run: Run,
     watch: &'a mut Watch<'b>,
@@ -133,6 +135,7 @@ impl<'a, 'b> Runner<'a, 'b> {
         let clearings = random.pick(&[0, 0, 2, 15]);
         let clears_when_full = random.percent(50);
         let hand_overs = random.pick(&[0, 1, 5, 15]);
+        let fast_reads = random.pick(&[0, 50, 50, 100]);
         Runner {
             random,
             sort,
@@ -141,6 +144,7 @@ impl<'a, 'b> Runner<'a, 'b> {
             clearings,
             clears_when_full,
             hand_overs,
+            fast_reads,
             log_lines: 0,
             run: Run {
                 events: Vec::new(),
@@ -178,6 +182,7 @@ impl<'a, 'b> Runner<'a, 'b> {
         self.call(fresh(true, 9));
         self.call(fresh(false, clients));
         self.call(Call::Read { client: 1, set: 1 });
+        self.call(Call::FastRead { client: 1, set: 1 });
         self.call(Call::Clear);
         self.call(Call::HandOver { giver: 1, receiver: 2 });
         self.call(Call::Compare { first: 1, second: 1 });

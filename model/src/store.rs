@@ -2,6 +2,7 @@
 
 mod calls;
 mod clear;
+mod fast_read;
 pub mod fault;
 mod hand_over;
 pub mod message;

@@ -10,12 +10,13 @@ pub mod edges;
 pub mod hand_overs;
 mod leftovers;
 mod met;
+pub mod promises;
 pub mod range;
 pub mod runs;
 mod sparing;
 mod views;
 
-pub use brimming::brimming;
+pub use brimming::{brimming, SORTS as BRIMMING_SORTS};
 pub use busy::Busy;
 pub use met::Met;
 

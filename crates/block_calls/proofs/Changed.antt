@@ -4,14 +4,14 @@ use mathlib.Core.Path.{_≡_}
 use Prim.Native.Nat.{ℕ}
 use Rattle.protocol.specs.Tables.{Tables}
 use Rattle.protocol.specs.Range.{capacities}
-use Rattle.protocol.specs.Calls.{Call, startRead, startWrite, deliver, show, clear, handOver}
-use Rattle.protocol.specs.Calls.{compare, refusal, effect}
-use Rattle.protocol.proofs.Refusals.{accepted-read, accepted-write, accepted-deliver}
-use Rattle.protocol.proofs.Refusals.{accepted-clear, accepted-hand-over}
+use Rattle.protocol.specs.Calls.{Call, startRead, startFastRead, startWrite, deliver, show, clear}
+use Rattle.protocol.specs.Calls.{handOver, compare, refusal, effect}
+use Rattle.protocol.proofs.Refusals.{accepted-read, accepted-fast-read, accepted-write}
+use Rattle.protocol.proofs.Refusals.{accepted-deliver, accepted-clear, accepted-hand-over}
 use Rattle.layout.specs.Decode.{tablesOf}
 use Rattle.layout.specs.Encodes.{Encodes}
 use Rattle.layout.proofs.Room.{room-valid}
-use Rattle.start.proofs.EncodesRead.{encodes-read}
+use Rattle.start.proofs.EncodesRead.{encodes-read, encodes-fast-read}
 use Rattle.start.proofs.EncodesWrite.{encodes-write}
 use Rattle.deliver.proofs.Delivered.{encodes-deliver}
 use Rattle.clear.proofs.Cleared.{encodes-clear}
@@ -24,6 +24,8 @@ pub encodes-changed : (b : List ℕ) (t : Tables) (c : Call) → tablesOf b ≡ 
 unfolding changed effect
 encodes-changed b t (startRead d s) same h e =
     encodes-read b t d s h (accepted-read capacities t d s .0 e)
+encodes-changed b t (startFastRead d s) same h e =
+    encodes-fast-read b t d s h (accepted-fast-read capacities t d s .0 e)
 encodes-changed b t (startWrite d s bytes) same h e =
     encodes-write b t d s bytes h (accepted-write capacities t d s bytes .0 e)
 encodes-changed b t (deliver i) same h e =

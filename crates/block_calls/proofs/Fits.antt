@@ -10,9 +10,9 @@ use Rattle.protocol.specs.declared.Answer.the-variants.{Refused, Made, Started,
 use Rattle.protocol.specs.declared.Answer.the-variants.{Cleared, HandedOver, Compared}
 use Rattle.protocol.specs.Tables.{Tables, Sizes}
 use Rattle.protocol.specs.Steps.{messageAt}
-use Rattle.protocol.specs.Calls.{Call, startRead, startWrite, deliver, show, clear, handOver}
-use Rattle.protocol.specs.Calls.{compare, Test, test, first, refusal, effect, reply, step, pick}
-use Rattle.protocol.specs.Calls.{numberOfAnswer}
+use Rattle.protocol.specs.Calls.{Call, startRead, startFastRead, startWrite, deliver, show, clear}
+use Rattle.protocol.specs.Calls.{handOver, compare, Test, test, first, refusal, effect, reply, step}
+use Rattle.protocol.specs.Calls.{pick, readTests, numberOfAnswer}
 use Rattle.protocol.proofs.MessageKinds.{kind-within}
 use Rattle.protocol.proofs.Delivered.{outcome-most}
 use Rattle.protocol.proofs.Refusals.{accepted-clear, accepted-hand-over}
@@ -38,12 +38,16 @@ none : first [] ≤ 18
 unfolding first
 none = omega arith
 
+read-le : (t : Tables) (d s : ℕ) → first (readTests capacities t d s) ≤ 18
+read-le t d s =
+    more 1 _ _ (omega arith) (more 3 _ _ (omega arith)
+    (more 4 _ _ (omega arith) (more 5 _ _ (omega arith) (more 8 _ _ (omega arith) none))))
+
 -- one of the refusal table's numbers, or 0
 pub refusal-le : (t : Tables) (c : Call) → refusal capacities t c ≤ 18
 unfolding refusal
-refusal-le t (startRead d s) =
-    more 1 _ _ (omega arith) (more 3 _ _ (omega arith)
-    (more 4 _ _ (omega arith) (more 5 _ _ (omega arith) (more 8 _ _ (omega arith) none))))
+refusal-le t (startRead d s) = read-le t d s
+refusal-le t (startFastRead d s) = read-le t d s
 refusal-le t (startWrite d s bytes) =
     more 1 _ _ (omega arith)
     (more 3 _ _ (omega arith)
@@ -82,6 +86,10 @@ reply-fits : (t : Tables) (c : Call) → refusal capacities t c ≡ 0 → Fits (
 unfolding reply effect
 reply-fits t (startRead d s) e = omega
     (arith, few-messages (effect t (startRead d s)) (valid-kept capacities t (startRead d s) e))
+reply-fits t (startFastRead d s) e = omega (
+  arith,
+  few-messages (effect t (startFastRead d s)) (valid-kept capacities t (startFastRead d s) e),
+)
 reply-fits t (startWrite d s bytes) e =
     omega (
       arith,
@@ -140,6 +148,7 @@ low-byte (Compared n) f = omega arith
 reply-accepts : (t : Tables) (c : Call) → refusalOf (reply t c) ≡ 0
 unfolding refusalOf reply
 reply-accepts t (startRead d s) = refl
+reply-accepts t (startFastRead d s) = refl
 reply-accepts t (startWrite d s bytes) = refl
 reply-accepts t (deliver i) = refl
 reply-accepts t (show d output) = refl

@@ -1,29 +1,30 @@
 -- What the calls' code has done, step by step, is what the calls are to give; and what its parts
 -- require.
-use mathlib.Core.Bool.{Bool, true, cond, _&&_}
+use mathlib.Core.Bool.{Bool, true, false, cond, _&&_}
 use mathlib.Core.List.{List, _++_}
 use mathlib.Core.Logic.{_≢_}
 use mathlib.Core.Path.{_≡_, refl, sym, ap, _∙_}
-use Prim.Native.Nat.{ℕ, zero, suc, _+_, _*_, _^_, _≤_, _<_}
+use Prim.Native.Nat.{ℕ, zero, suc, _*_, _^_, _≤_, _<_}
 use native.Mathlib.Omega.{arith}
 use lib.ListN.{length, drop}
 use Rattle.basics.proofs.Cases.{between, and-left, and-right}
 use Rattle.itemset.specs.Set.{count}
 use Rattle.protocol.specs.declared.Answer.the-variants.{Refused, Started, Shown, Cleared}
 use Rattle.protocol.specs.declared.Answer.the-variants.{HandedOver, Compared}
-use Rattle.protocol.specs.Tables.{Sizes}
+use Rattle.protocol.specs.Tables.{Sizes, Tables}
 use Rattle.protocol.specs.Range.{capacities, isClient, load, occupied}
 use Rattle.protocol.specs.Clear.{gone}
 use Rattle.protocol.specs.HandOver.{standing}
 use Rattle.protocol.specs.Calls.{Call, startRead, startWrite, show, clear, handOver, compare}
 use Rattle.protocol.specs.Calls.{effect, reply, written, lent, pick, shownFrame, refusal, first}
 use Rattle.protocol.proofs.Ranges.Tables.{Valid, valid-facts}
-use Rattle.protocol.proofs.Refusals.{accepted-read, accepted-write, accepted-show}
+use Rattle.protocol.proofs.Refusals.{AcceptedStart, accepted-read, accepted-fast-read}
+use Rattle.protocol.proofs.Refusals.{accepted-write, accepted-show}
 use Rattle.protocol.proofs.Refusals.{accepted-hand-over, accepted-compare}
 use Rattle.layout.specs.Layout.{mostVersions, mostMessages, header, at, clientsAt, itemsAt}
 use Rattle.layout.specs.Layout.{messagesAt, needed}
 use Rattle.layout.specs.Decode.{sizesIn, tablesOf, validBlock}
-use Rattle.start.specs.Start.{readStarted, greatestOn, writeStarted}
+use Rattle.start.specs.Start.{greatestOn, writeStarted}
 use Rattle.start.proofs.Ready.{ready-start, ready-write}
 use Rattle.show.specs.Show.{frameIn}
 use Rattle.show.proofs.LogFrames.{shownFrame-tablesOf}
@@ -31,7 +32,7 @@ use Rattle.clear.specs.Clear.{clearedBlock}
 use Rattle.hand_over.specs.HandOver.{handedOverBlock}
 use Rattle.encoding.proofs.WellFormed.{client-test, tells-valid-block}
 use Rattle.block_calls.specs.Calls.{refusalOn, answerOn, outputOn, tablesAfter, changed}
-use Rattle.block_calls.specs.Calls.{blockAfter}
+use Rattle.block_calls.specs.Calls.{blockAfter, readCall, readChanged}
 use Rattle.block_calls.proofs.Accepted.{valid-tables, accepted-holds, accepted-tables}
 use Rattle.block_calls.proofs.Accepted.{answer-accepted, output-accepted, block-accepted}
 use Rattle.block_calls.proofs.Accepted.{count-accepted, answer-refused, output-refused}
@@ -79,42 +80,64 @@ module _ (b : List ℕ) (c : Call) (e : refusalOn b c ≡ 0) (after : List ℕ)
       → n ≡ length (effect (tablesOf b) c .messages)
   count-given n m = m ∙ (ap (λ (l : List ℕ). at l header messagesAt) a ∙ count-accepted b c e)
 
-module _ (b : List ℕ) (d s : ℕ) (e : refusalOn b (startRead d s) ≡ 0) where
-  pub read-ready : (items n : ℕ) → items ≡ at b header itemsAt → n ≡ at b header messagesAt
-      → (1 ≤ d) × (d ≤ 8) × (items ≤ 64) × (n + count s ≤ mostMessages)
-      × (items ≡ at b header itemsAt)
-      × (n ≡ at b header messagesAt)
-      × (needed ≤ length b)
-  read-ready items n i m =
+-- a fast read is tested as a read, and begins as one
+
+pub read-refusal : (b : List ℕ) (fast : Bool) (d s : ℕ)
+    → refusalOn b (startRead d s) ≡ refusalOn b (readCall fast d s)
+unfolding refusalOn refusal
+read-refusal b true d s = refl
+read-refusal b false d s = refl
+
+accepted-reading : (t : Tables) (fast : Bool) (d s : ℕ)
+    → refusal capacities t (readCall fast d s) ≡ 0 → AcceptedStart capacities t d s
+accepted-reading t true d s = accepted-fast-read capacities t d s .0
+accepted-reading t false d s = accepted-read capacities t d s .0
+
+read-changed : (b : List ℕ) (fast : Bool) (d s : ℕ)
+    → readChanged fast b d s ≡ changed b (readCall fast d s)
+unfolding changed
+read-changed b true d s = refl
+read-changed b false d s = refl
+
+read-reply : (t : Tables) (fast : Bool) (d s : ℕ)
+    → Started (length (effect t (readCall fast d s) .messages)) ≡ reply t (readCall fast d s)
+unfolding reply effect
+read-reply t true d s = refl
+read-reply t false d s = refl
+
+module _ (b : List ℕ) (fast : Bool) (d s : ℕ) (e : refusalOn b (readCall fast d s) ≡ 0) where
+  abbrev call : Call
+  call = readCall fast d s
+
+  pub read-ready : (items : ℕ) → items ≡ at b header itemsAt
+      → (1 ≤ d) × (d ≤ 8) × (items ≤ 64) × (items ≡ at b header itemsAt) × (needed ≤ length b)
+  read-ready items i =
       let r =
-      ready-start b (tablesOf b) d s (accepted-holds b (startRead d s) e .encodes)
-      (accepted-read capacities (tablesOf b) d s .0 (accepted-tables b (startRead d s) e)) in (
+      ready-start b (tablesOf b) d s (accepted-holds b call e .encodes)
+      (accepted-reading (tablesOf b) fast d s (accepted-tables b call e)) in (
         r .first,
         r .last,
         omega (arith, r .items),
-        omega (arith, r .messages),
         i,
-        m,
-        tells-valid-block b .0 (accepted-valid b (startRead d s) e) .wellFormed .long,
+        tells-valid-block b .0 (accepted-valid b call e) .wellFormed .long,
       )
 
-  pub read-given : (after : List ℕ) (n : ℕ) → after ≡ readStarted b d s
+  pub read-given : (after : List ℕ) (n : ℕ) → after ≡ readChanged fast b d s
       → n ≡ at after header messagesAt
-      → (Started n ≡ answerOn b (startRead d s)) × (after ≡ blockAfter b (startRead d s))
-  unfolding changed reply effect
-  read-given after n a m = (
-    ap Started (count-given b (startRead d s) e after a n m)
-        ∙ sym (answer-accepted b (startRead d s) e),
-    block-given b (startRead d s) e after a,
-  )
+      → (Started n ≡ answerOn b (readCall fast d s)) × (after ≡ blockAfter b (readCall fast d s))
+  read-given after n a m =
+      let whole = a ∙ read-changed b fast d s in (
+        ap Started (count-given b call e after whole n m)
+            ∙ read-reply (tablesOf b) fast d s
+            ∙ sym (answer-accepted b call e),
+        block-given b call e after whole,
+      )
 
 module _ (b : List ℕ) (d s : ℕ) (bytes : List ℕ) (e : refusalOn b (startWrite d s bytes) ≡ 0) where
-  pub write-ready : (items n : ℕ) → items ≡ at b header itemsAt → n ≡ at b header messagesAt
-      → (1 ≤ d) × (d ≤ 8) × (items ≤ 64) × (n + count s ≤ mostMessages)
-      × (items ≡ at b header itemsAt)
-      × (n ≡ at b header messagesAt)
+  pub write-ready : (items : ℕ) → items ≡ at b header itemsAt
+      → (1 ≤ d) × (d ≤ 8) × (items ≤ 64) × (items ≡ at b header itemsAt)
       × (greatestOn b d items < 2 ^ 32) × (needed ≤ length b) × (4 * count s ≤ length bytes)
-  write-ready items n i m =
+  write-ready items i =
       let w =
       ready-write b (tablesOf b) d s bytes (accepted-holds b (startWrite d s bytes) e .encodes)
       (accepted-write capacities (tablesOf b) d s
@@ -123,10 +146,7 @@ module _ (b : List ℕ) (d s : ℕ) (bytes : List ℕ) (e : refusalOn b (startWr
         r .first,
         r .last,
         omega (arith, r .items),
-        omega
-            (arith, r .messages),
         i,
-        m,
         rw i (w .numberFits),
         w .long,
         w .values,

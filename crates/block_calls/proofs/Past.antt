@@ -3,13 +3,14 @@ use mathlib.Core.List.{List}
 use mathlib.Core.Path.{_≡_, refl}
 use Prim.Native.Nat.{ℕ, zero, suc}
 use Rattle.protocol.specs.Range.{capacities}
-use Rattle.protocol.specs.Calls.{Call, startRead, startWrite, deliver, show, clear, handOver}
-use Rattle.protocol.specs.Calls.{compare, pick}
-use Rattle.protocol.proofs.Refusals.{accepted-read, accepted-write, accepted-clear}
+use Rattle.protocol.specs.Calls.{Call, startRead, startFastRead, startWrite, deliver, show, clear}
+use Rattle.protocol.specs.Calls.{handOver, compare, pick}
+use Rattle.protocol.proofs.Refusals.{accepted-read, accepted-fast-read, accepted-write}
+use Rattle.protocol.proofs.Refusals.{accepted-clear}
 use Rattle.layout.specs.Layout.{header, at, partitionsAt, itemsAt, versionsAt, messagesAt}
 use Rattle.layout.specs.Decode.{messageIn, tablesOf}
 use Rattle.layout.proofs.Past.{SamePast, past-none}
-use Rattle.start.proofs.Beyond.{beyond-read, beyond-write}
+use Rattle.start.proofs.Beyond.{beyond-read, beyond-fast-read, beyond-write}
 use Rattle.deliver_tests.specs.Tests.{testedIn}
 use Rattle.deliver.specs.Deliver.{countsIn, deliveredBlock}
 use Rattle.deliver.proofs.Past.{past-deliver}
@@ -25,6 +26,9 @@ unfolding changed deliveredBlock
 past-changed b (startRead d s) e =
     beyond-read b (tablesOf b) d s (accepted-holds b (startRead d s) e .encodes)
     (accepted-read capacities (tablesOf b) d s .0 (accepted-tables b (startRead d s) e))
+past-changed b (startFastRead d s) e =
+    beyond-fast-read b (tablesOf b) d s (accepted-holds b (startFastRead d s) e .encodes)
+    (accepted-fast-read capacities (tablesOf b) d s .0 (accepted-tables b (startFastRead d s) e))
 past-changed b (startWrite d s bytes) e =
     beyond-write b (tablesOf b) d s bytes (accepted-holds b (startWrite d s bytes) e .encodes)
     (accepted-write capacities (tablesOf b) d s bytes .0

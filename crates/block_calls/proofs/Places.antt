@@ -20,7 +20,7 @@ use Rattle.protocol.specs.Calls.{deliver, refusal, reply, test, first, unexpect
 use Rattle.protocol.specs.Calls.{effect, outcomeOf}
 use Rattle.protocol.proofs.Ranges.Values.{MessageInRange}
 use Rattle.protocol.proofs.Ranges.Tables.{Valid, valid-facts}
-use Rattle.protocol.proofs.Refusals.{Expected, accepted-deliver}
+use Rattle.protocol.proofs.Refusals.{accepted-deliver, accepted-message}
 use Rattle.protocol.specs.Range.{capacities}
 use Rattle.layout.specs.Store.{takeOut}
 use Rattle.layout.specs.Layout.{mostVersions, mostMessages, header, needed, at, partitionsAt}
@@ -31,11 +31,12 @@ use Rattle.layout.proofs.Held.{kind-read as kind-of-read}
 use Rattle.slots.proofs.ReadBack.{read-message}
 use Rattle.encoding.proofs.WellFormed.{WellFormed, tells-valid-block}
 use Rattle.deliver_tests.specs.declared.Tested.{Tested}
-use Rattle.deliver_tests.specs.Tests.{Bounded, testedIn}
+use Rattle.deliver_tests.specs.Tests.{Bounded, testedIn, outcomeIn}
 use Rattle.deliver.specs.Deliver.{messageDelivered, deliveredBlock}
 use Rattle.deliver_tests.proofs.Bounds.{bounded}
-use Rattle.deliver.proofs.Delivered.{delivered-block}
+use Rattle.deliver.proofs.Delivered.{encodes-deliver, delivered-block}
 use Rattle.deliver_tests.proofs.TestedTables.{Tells, tested-tables}
+use Rattle.deliver_tests.proofs.Outcomes.{outcome-told}
 use Rattle.block_calls.specs.Calls.{refusalOn, answerOn, changed, blockAfter}
 use Rattle.block_calls.proofs.Accepted.{valid-tables, holds-tables, refusal-valid}
 use Rattle.block_calls.proofs.Accepted.{accepted-valid, answer-accepted}
@@ -77,7 +78,7 @@ module _ (b : List ℕ) (i : ℕ) (v : validBlock b ≡ true) where
     pub long-enough : needed ≤ length b
     long-enough = words .long
 
-    message-read : messageIn b i ≡ messageAt t i
+    pub message-read : messageIn b i ≡ messageAt t i
     message-read = read-message held i place (Commit 0 0)
 
     in-range : MessageInRange (t .sizes) (messageAt t i)
@@ -108,10 +109,6 @@ module _ (b : List ℕ) (i : ℕ) (v : validBlock b ≡ true) where
     told-refusal x m n h k e = ap (λ (y : Tested). y .refusal) e
         ∙ (rw (h, k) refl ∙ sym refusal-told)
 
-    pub outcome-told : Expected t (messageAt t i)
-        → testedIn b (at b header versionsAt) (messageIn b i) .outcome ≡ outcomeOf t (messageAt t i)
-    outcome-told = told-tables .outcome
-
     pub kind-read : kindIn b i ≡ kindOf (messageAt t i)
     kind-read = sym (kind-of-read b i (words .someKind i l) (words .kind i l))
         ∙ ap kindOf message-read
@@ -132,14 +129,15 @@ module _ (b : List ℕ) (i : ℕ) (e : refusalOn b (deliver i) ≡ 0) where
       (λ p. absurd (never (sym (past-end b i v (leb-true (at b header messagesAt) i p)) ∙ e)))
       (λ p. leb-false (at b header messagesAt) i p)
 
-  outcome : (x : Tested) (m : Message) → m ≡ messageIn b i
-      → x ≡ testedIn b (at b header versionsAt) m
-      → x .outcome ≡ outcomeOf (tablesOf b) (messageAt (tablesOf b) i)
-  outcome x m h y =
-      ap (λ (z : Tested). z .outcome) (y ∙ ap (testedIn b (at b header versionsAt)) h)
-      ∙ outcome-told b i v accepted-place
-      (accepted-deliver capacities (tablesOf b) i .0 (sym (refusal-valid b (deliver i) v) ∙ e)
-      .expected)
+  -- the outcome, told from the block after it
+  outcome-after : outcomeIn (deliveredBlock b i) (messageIn b i)
+      ≡ outcomeOf (tablesOf b) (messageAt (tablesOf b) i)
+  outcome-after =
+      let a = accepted-deliver capacities (tablesOf b) i .0
+      (sym (refusal-valid b (deliver i) v) ∙ e) in
+      rw (message-read b i v accepted-place)
+      (outcome-told (messageAt (tablesOf b) i) _ (encodes-deliver i (held b i v) a)
+      (a .valid .inRange) (accepted-message capacities (tablesOf b) i a) (a .expected))
 
   -- what the code requires
   pub deliver-ready : (n p k w : ℕ) (m : Message) → n ≡ at b header messagesAt
@@ -165,14 +163,14 @@ module _ (b : List ℕ) (i : ℕ) (e : refusalOn b (deliver i) ≡ 0) where
   pub deliver-given : (n p k w : ℕ) (x : Tested) (m : Message) → n ≡ at b header messagesAt
       → p ≡ at b header partitionsAt → k ≡ at b header itemsAt
       → w ≡ at b header versionsAt → m ≡ messageIn b i → x ≡ testedIn b (at b header versionsAt) m
-      → (after : List ℕ) (count kind : ℕ)
+      → (after : List ℕ) (count kind outcome : ℕ)
       → after ≡ messageDelivered (takeOut b n i)
       (record { partitions = p; items = k; versions = w }) (x .found) m
-      → count ≡ at after header messagesAt → kind ≡ kindIn b i
-      → (Delivered kind count (x .outcome) ≡ answerOn b (deliver i))
+      → count ≡ at after header messagesAt → kind ≡ kindIn b i → outcome ≡ outcomeIn after m
+      → (Delivered kind count outcome ≡ answerOn b (deliver i))
       × (after ≡ blockAfter b (deliver i))
   unfolding changed reply effect
-  deliver-given n p k w x m en ep ek ew em ex after count kind a c h =
+  deliver-given n p k w x m en ep ek ew em ex after count kind outcome a c h o =
       let whole : after ≡ deliveredBlock b i =
       a ∙ delivered-block b n i (record { partitions = p; items = k; versions = w }) (x .found) m en
       (rw (ep, ek, ew) refl) em (ap (λ (y : Tested). y .found) ex) in (
@@ -180,7 +178,8 @@ module _ (b : List ℕ) (i : ℕ) (e : refusalOn b (deliver i) ≡ 0) where
           h ∙ kind-read b i v accepted-place,
           count-given b
               (deliver i) e after whole count c,
-          outcome x m em ex,
+          o ∙ (ap (λ (x : List ℕ). outcomeIn x m) whole
+              ∙ (ap (outcomeIn (deliveredBlock b i)) em ∙ outcome-after)),
         )
             (sym (answer-accepted b (deliver i) e)),
         block-given b (deliver i) e after whole,

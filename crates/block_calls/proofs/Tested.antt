@@ -3,7 +3,7 @@ use mathlib.Core.Bool.{Bool, true, false, cond, not, _&&_, _||_, and-true}
 use mathlib.Core.List.{List}
 use mathlib.Core.Path.{_≡_, refl, sym, _∙_}
 use Prim.Native.Nat.{ℕ, _+_, _*_}
-use lib.Dec.{eqb, ltb, leb}
+use lib.Dec.{eqb, ltb}
 use lib.ListN.{length}
 use Rattle.basics.proofs.Cases.{by-test, between, and-left, and-right}
 use Rattle.itemset.specs.Set.{allBelow, count}
@@ -12,7 +12,7 @@ use Rattle.protocol.specs.Steps.{greatestOf}
 use Rattle.protocol.specs.Calls.{startRead, startWrite, show, handOver, compare, refusal, first}
 use Rattle.protocol.specs.Calls.{isNothing}
 use Rattle.layout.specs.Layout.{mostVersions, mostMessages, mostWriteItems, header, scalars, at}
-use Rattle.layout.specs.Layout.{itemsAt, modeAt, awaitedAt, lastKindAt}
+use Rattle.layout.specs.Layout.{itemsAt, modeAt, awaitedAt, lastKindAt, isWriteMode}
 use Rattle.layout.specs.Decode.{sizesIn, clientIn, tablesOf, validBlock}
 use Rattle.encoding.proofs.WellFormed.{tells-valid-block}
 use Rattle.show.specs.Show.{frameIn}
@@ -31,7 +31,7 @@ sizes-read b = refl
 idle-words : (b : List ℕ) (d : ℕ) → isIdle (clientIn b d) ≡ eqb (at b scalars (awaitedAt d)) 0
 unfolding clientIn
 idle-words b d =
-    by-test (leb 2 (at b scalars (modeAt d))) (λ e. rw e refl)
+    by-test (isWriteMode (at b scalars (modeAt d))) (λ e. rw e refl)
     (λ e. rw e (and-true (eqb (at b scalars (awaitedAt d)) 0)))
 
 module _ (b : List ℕ) (d : ℕ) (c : isClient (sizesIn b) d ≡ true) where

@@ -1,7 +1,7 @@
 -- What a call gives on a block, whatever its words: the answer, the output, and every word after
 -- it; and which tables it then holds. The protocol's definitions give them on the tables that the
 -- block holds; a block that holds none is refused by 1.
-use mathlib.Core.Bool.{cond, not}
+use mathlib.Core.Bool.{Bool, cond, not}
 use mathlib.Core.List.{List, [], _∷_}
 use Prim.Native.Nat.{ℕ, _^_, _<_}
 use lib.Dec.{ltb}
@@ -11,12 +11,12 @@ use Rattle.protocol.specs.declared.Answer.the-variants.{Refused, Made, Started,
 use Rattle.protocol.specs.declared.Answer.the-variants.{Cleared, HandedOver, Compared}
 use Rattle.protocol.specs.Tables.{Sizes, Tables, fresh}
 use Rattle.protocol.specs.Range.{capacities, sizesInRange}
-use Rattle.protocol.specs.Calls.{Call, startRead, startWrite, deliver, show, clear, handOver}
-use Rattle.protocol.specs.Calls.{compare, test, first, pick, refusal, step, lent}
+use Rattle.protocol.specs.Calls.{Call, startRead, startFastRead, startWrite, deliver, show, clear}
+use Rattle.protocol.specs.Calls.{handOver, compare, test, first, pick, refusal, step, lent}
 use Rattle.layout.specs.Layout.{needed, header, at, itemsAt}
 use Rattle.layout.specs.Decode.{tablesOf, validBlock}
 use Rattle.layout.specs.Store.{freshBlock}
-use Rattle.start.specs.Start.{readStarted, writeStarted}
+use Rattle.start.specs.Start.{readStarted, fastReadStarted, writeStarted}
 use Rattle.deliver.specs.Deliver.{deliveredBlock}
 use Rattle.clear.specs.Clear.{clearedBlock}
 use Rattle.hand_over.specs.HandOver.{handedOverBlock}
@@ -54,6 +54,7 @@ tablesAfter b c = cond (validBlock b) (step capacities (tablesOf b) c .tables) (
 -- every word after an accepted call, and after any call
 unfoldable pub changed : List ℕ → Call → List ℕ
 changed b (startRead d s) = readStarted b d s
+changed b (startFastRead d s) = fastReadStarted b d s
 changed b (startWrite d s bytes) = writeStarted b d s bytes
 changed b (deliver i) = deliveredBlock b i
 changed b (show d output) = b
@@ -63,6 +64,14 @@ changed b (compare d e) = b
 
 unfoldable pub blockAfter : List ℕ → Call → List ℕ
 blockAfter b c = pick (refusalOn b c) (changed b c) b
+
+-- ---- a read, ordinary or fast
+
+abbrev pub readCall : Bool → ℕ → ℕ → Call
+readCall fast d s = cond fast (startFastRead d s) (startRead d s)
+
+abbrev pub readChanged : Bool → List ℕ → ℕ → ℕ → List ℕ
+readChanged fast b d s = cond fast (fastReadStarted b d s) (readStarted b d s)
 
 -- ---- the parts of an answer fit the bits that tell them
 

@@ -17,8 +17,9 @@ use Rattle.protocol.specs.Clear.{goes, cleared, gone}
 use Rattle.protocol.proofs.Cleared.{length-cleared}
 use Rattle.protocol.proofs.Ranges.Values.{initial-not}
 use Rattle.protocol.proofs.Ranges.Tables.{Valid}
-use Rattle.layout.specs.Layout.{mostVersions, versionWords, header, versions, messages, base}
-use Rattle.layout.specs.Layout.{needed, at, store, versionsAt, messagesAt, versionAt, messageAt}
+use Rattle.layout.specs.Layout.{mostClients, mostVersions, versionWords, header, versions, messages}
+use Rattle.layout.specs.Layout.{base, needed, at, store, clientsAt, versionsAt, messagesAt}
+use Rattle.layout.specs.Layout.{versionAt, messageAt}
 use Rattle.layout.specs.Decode.{versionIn, tablesOf, validBlock}
 use Rattle.layout.specs.Store.{wordsOfVersion}
 use Rattle.layout.specs.Encodes.{Encodes, HoldsVersion}
@@ -43,6 +44,9 @@ module _ (b : List ℕ) (v : validBlock b ≡ true) where
 
   pub few : n ≤ mostVersions
   few = tells-valid-block b .0 v .wellFormed .versionCount
+
+  pub clients-few : at b header clientsAt ≤ mostClients
+  clients-few = tells-valid-block b .0 v .wellFormed .sizes .clients
 
   pub long : needed ≤ length b
   long = tells-valid-block b .0 v .wellFormed .long

@@ -1,5 +1,5 @@
 -- What the code reads, test by test, is what the definitions say.
-use mathlib.Core.Bool.{true, false, not, _&&_}
+use mathlib.Core.Bool.{Bool, true, false, not, _&&_, _||_}
 use mathlib.Core.List.{List, [], _∷_, _++_}
 use mathlib.Core.Logic.{_≢_}
 use mathlib.Core.Path.{_≡_, refl, sym, ap, ap₂, _∙_, subst}
@@ -11,12 +11,16 @@ use lib.ListN.{length, getD, set, take}
 use lib.Seq.{take-suc, take-suc-set, take-all}
 use borrow.Author.Tests.{eq-eqb, ne-eqb}
 use Rattle.basics.specs.Lists.{table}
-use Rattle.layout.specs.Layout.{mostItems, entryWords, header, scalars, latest, at, clientsAt}
-use Rattle.layout.specs.Layout.{itemsAt, messagesAt, modeAt, setAt, stampAt}
-use Rattle.layout.specs.Decode.{kindIn}
+use Rattle.itemset.specs.Set.{has}
+use Rattle.protocol.specs.Range.{hasFirst}
+use Rattle.layout.specs.Layout.{mostItems, entryWords, header, scalars, latest, firsts, at}
+use Rattle.layout.specs.Layout.{clientsAt, itemsAt, messagesAt, modeAt, setAt, awaitedAt, stampAt}
+use Rattle.layout.specs.Decode.{readIn, kindIn}
 use Rattle.layout.specs.Encodes.{word}
+use Rattle.layout.proofs.FirstWords.{stage-first, stage-second}
 use Rattle.slots.proofs.Chosen.{when, unless}
-use Rattle.clear.specs.Stamps.{entryStamp, messageStamp, writeStamp, slotOf, marked, Marks}
+use Rattle.clear.specs.Stamps.{entryStamp, messageStamp, writeStamp, firstStamp, slotOf}
+use Rattle.clear.specs.Stamps.{marked, Marks}
 use Rattle.clear.proofs.Slots.{marks-next}
 
 -- ---- a stamp, if there is one
@@ -37,27 +41,49 @@ module _ (b : List ℕ) (p : ℕ) {clients items : ℕ} (c : clients ≡ at b he
 
 module _ (b : List ℕ) (kind f i : ℕ) {messages own : ℕ} (c : messages ≡ at b header messagesAt)
     (o : own ≡ kindIn b i) where
-  pub message-some : {r : ℕ} → (ltb i messages && leb kind own) ≡ true → r ≡ word b i f
-      → r ≡ messageStamp b kind f i
+  pub message-some : {r : ℕ} → (ltb i messages && leb kind own && not (eqb own 6)) ≡ true
+      → r ≡ word b i f → r ≡ messageStamp b kind f i
   unfolding messageStamp
-  message-some e h =
-      when _ _ _ _ (ap₂ (λ (x y : ℕ). ltb i x && leb kind y) (sym c) (sym o) ∙ e) h
+  message-some e h = when _ _ _ _ (rw (c, o) at e) h
 
-  pub message-none : (ltb i messages && leb kind own) ≡ false → 0 ≡ messageStamp b kind f i
+  pub message-none : (ltb i messages && leb kind own && not (eqb own 6)) ≡ false
+      → 0 ≡ messageStamp b kind f i
   unfolding messageStamp
-  message-none e =
-      unless _ _ _ _ (ap₂ (λ (x y : ℕ). ltb i x && leb kind y) (sym c) (sym o) ∙ e) refl
+  message-none e = unless _ _ _ _ (rw (c, o) at e) refl
 
 module _ (b : List ℕ) (i : ℕ) {clients mode s : ℕ} (c : clients ≡ at b header clientsAt)
     (m : mode ≡ at b scalars (modeAt (i + 1))) (o : s ≡ at b scalars (setAt (i + 1))) where
-  pub write-some : {r : ℕ} → (ltb i clients && leb 2 mode && not (eqb s 0)) ≡ true
+  pub write-some : {r : ℕ} → (ltb i clients && eqb mode 2 && not (eqb s 0)) ≡ true
       → r ≡ at b scalars (stampAt (i + 1)) → r ≡ writeStamp b i
   unfolding writeStamp
   write-some e h = when _ _ _ _ (rw (c, m, o) at e) h
 
-  pub write-none : (ltb i clients && leb 2 mode && not (eqb s 0)) ≡ false → 0 ≡ writeStamp b i
+  pub write-none : (ltb i clients && eqb mode 2 && not (eqb s 0)) ≡ false → 0 ≡ writeStamp b i
   unfolding writeStamp
   write-none e = unless _ _ _ _ (rw (c, m, o) at e) refl
+
+pub come-read : (b : List ℕ) (d k : ℕ) {mode s a : ℕ} {own left : Bool}
+    → mode ≡ at b scalars (modeAt d) → s ≡ at b scalars (setAt d) → a ≡ at b scalars (awaitedAt d)
+    → own ≡ has s k → left ≡ not (has a k)
+    → (own && (eqb mode 4 || (eqb mode 3 && left))) ≡ hasFirst (readIn b d) k
+unfolding hasFirst
+come-read b d k m s a p q =
+    let mode = at b scalars (modeAt d) in
+    rw (p, q, s, a, m, stage-first mode, stage-second mode) refl
+
+module _ (b : List ℕ) (p : ℕ) {clients items : ℕ} {come : Bool}
+    (c : clients ≡ at b header clientsAt) (i : items ≡ at b header itemsAt)
+    (h : come ≡ hasFirst (readIn b (p / mostItems + 1)) (p % mostItems)) where
+  pub first-some : {r : ℕ}
+      → (ltb (p / mostItems) clients && ltb (p % mostItems) items && come) ≡ true
+      → r ≡ at b firsts (entryWords * p) → r ≡ firstStamp b p
+  unfolding firstStamp
+  first-some e g = when _ _ _ _ (rw (c, i, h) at e) g
+
+  pub first-none : (ltb (p / mostItems) clients && ltb (p % mostItems) items && come) ≡ false
+      → 0 ≡ firstStamp b p
+  unfolding firstStamp
+  first-none e = unless _ _ _ _ (rw (c, i, h) at e) refl
 
 -- ---- the stamps, one after another
 
@@ -67,11 +93,14 @@ unfolding table
 gathered-next f l p v h e g =
     rw add-one (take-suc-set l p v h ∙ ap₂ (λ (xs : List ℕ) (x : ℕ). xs ++ x ∷ []) e g)
 
+pub gathered-front : (f : ℕ → ℕ) (l : List ℕ) (p n : ℕ) → take p l ≡ table p f → p ≡ n
+    → take n l ≡ table n f
+gathered-front f l p n e same = subst (λ (k : ℕ). take k l ≡ table k f) same e
+
 pub gathered-all : (f : ℕ → ℕ) (l : List ℕ) (p n : ℕ) → take p l ≡ table p f → length l ≡ n
     → p ≤ n → n ≤ p → l ≡ table n f
 gathered-all f l p n e h low high =
-    let same : p ≡ n = omega arith in
-    sym (take-all p l (omega arith)) ∙ e ∙ ap (λ (k : ℕ). table k f) same
+    sym (take-all n l (omega arith)) ∙ gathered-front f l p n e (omega arith)
 
 -- ---- the marks, one after another
 

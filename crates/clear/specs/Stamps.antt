@@ -1,6 +1,6 @@
--- The stamps in use as the code gathers them: one for each entry, message, message's latest and
--- client that there are words for, 0 where there is none; and a table of slots that tells of most
--- stamps at one look whether they are among them.
+-- The stamps in use as the code gathers them: one for each entry, message, message's latest, client
+-- and first reply that there are words for, 0 where there is none; and a table of slots that tells
+-- of most stamps at one look whether they are among them.
 use mathlib.Core.Bool.{Bool, cond, not, _&&_}
 use mathlib.Core.List.{List}
 use mathlib.Core.Logic.{_≢_}
@@ -8,12 +8,14 @@ use mathlib.Core.Path.{_≡_}
 use Prim.Native.Nat.{ℕ, _+_, _-_, _*_, _/_, _%_, _<_}
 use lib.Dec.{eqb, ltb, leb}
 use lib.ListN.{length, getD, set}
-use Rattle.basics.specs.Lists.{In, all, table, dropped}
+use Rattle.basics.specs.Lists.{In, all, every, table, dropped}
 use Rattle.protocol.specs.declared.Version.{Version}
 use Rattle.protocol.specs.Tables.{numberOf, writerOf}
+use Rattle.protocol.specs.Range.{hasFirst}
 use Rattle.layout.specs.Layout.{mostClients, mostItems, mostMessages, entryWords, header, scalars}
-use Rattle.layout.specs.Layout.{latest, at, clientsAt, itemsAt, messagesAt, modeAt, setAt, stampAt}
-use Rattle.layout.specs.Decode.{versionIn, kindIn}
+use Rattle.layout.specs.Layout.{latest, firsts, at, clientsAt, itemsAt, messagesAt, modeAt, setAt}
+use Rattle.layout.specs.Layout.{stampAt, inFirstPart, isWriteMode}
+use Rattle.layout.specs.Decode.{readIn, versionIn, kindIn}
 use Rattle.layout.specs.Encodes.{word}
 
 -- ---- the stamps
@@ -28,20 +30,31 @@ entryStamp b p =
     cond (leb (p / mostItems) (at b header clientsAt) && ltb (p % mostItems) (at b header itemsAt))
     (at b latest (entryWords * p)) 0
 
--- word f of message i, if its kind is this one or a greater
+-- word f of message i, if its kind is this one or a greater; a first get (kind 6) has no stamp
 unfoldable pub messageStamp : List ℕ → ℕ → ℕ → ℕ → ℕ
 messageStamp b kind f i =
-    cond (ltb i (at b header messagesAt) && leb kind (kindIn b i)) (word b i f) 0
+    cond (ltb i (at b header messagesAt) && leb kind (kindIn b i) && not (eqb (kindIn b i) 6))
+    (word b i f) 0
 
 -- the stamp of a write under way of client i + 1
 unfoldable pub writeStamp : List ℕ → ℕ → ℕ
 writeStamp b i =
-    cond (ltb i (at b header clientsAt) && leb 2 (at b scalars (modeAt (i + 1)))
+    cond (ltb i (at b header clientsAt) && isWriteMode (at b scalars (modeAt (i + 1)))
     && not (eqb (at b scalars (setAt (i + 1))) 0))
     (at b scalars (stampAt (i + 1))) 0
 
--- where the messages' stamps start, those of their latest and those of writes under way; and how
--- many there are in all
+-- the stamp of first reply p, if it has come: those of each client's items, one client behind the
+-- other
+unfoldable pub firstStamp : List ℕ → ℕ → ℕ
+firstStamp b p =
+    let i = p / mostItems in
+    let k = p % mostItems in
+    cond (ltb i (at b header clientsAt) && ltb k (at b header itemsAt)
+    && hasFirst (readIn b (i + 1)) k)
+    (at b firsts (entryWords * p)) 0
+
+-- where the messages' stamps start, those of their latest, those of writes under way and those of
+-- first replies; and how many there are in all
 abbrev pub messageStamps : ℕ
 messageStamps = mostEntries
 
@@ -51,19 +64,30 @@ latestStamps = messageStamps + mostMessages
 abbrev pub writeStamps : ℕ
 writeStamps = latestStamps + mostMessages
 
-abbrev pub mostStamps : ℕ
-mostStamps = writeStamps + mostClients
+abbrev pub firstStamps : ℕ
+firstStamps = writeStamps + mostClients
 
--- every kind has its stamp in word 4, and the last kind its latest's in word 6
+abbrev pub mostStamps : ℕ
+mostStamps = firstStamps + mostItems * mostClients
+
+-- a kind that has a stamp has it in word 4, and from kind 5 on its latest's in word 6
 unfoldable pub stampIn : List ℕ → ℕ → ℕ
 stampIn b p =
     cond (ltb p messageStamps) (entryStamp b p)
     (cond (ltb p latestStamps) (messageStamp b 1 4 (p - messageStamps))
     (cond (ltb p writeStamps) (messageStamp b 5 6 (p - latestStamps))
-    (writeStamp b (p - writeStamps))))
+    (cond (ltb p firstStamps) (writeStamp b (p - writeStamps))
+    (firstStamp b (p - firstStamps)))))
+
+-- where no client is in a fast read, first replies aren't looked at
+unfoldable pub noneFast : List ℕ → Bool
+noneFast b = every (at b header clientsAt) (λ i. ltb (at b scalars (modeAt (i + 1))) inFirstPart)
+
+abbrev pub stampCount : List ℕ → ℕ
+stampCount b = cond (noneFast b) firstStamps mostStamps
 
 abbrev pub stampsIn : List ℕ → List ℕ
-stampsIn b = table mostStamps (stampIn b)
+stampsIn b = table (stampCount b) (stampIn b)
 
 -- s is none of these stamps
 abbrev pub absent : List ℕ → ℕ → Bool

@@ -1,5 +1,5 @@
-// The fields of a client (document 01: desk) but its view: eight of its own, and four words for
-// each item.
+// The fields of a client (document 01: desk) but its view and its first replies: eight of its own,
+// and four words for each item.
 ghost use mathlib.Core.Path.{_≡_};
 ghost use Prim.Native.Nat.{_≤_, _<_};
 ghost use Rattle.layout.specs.Layout.{at, store, scalars, asked, values, lastStamps, lastValues};
@@ -30,7 +30,7 @@ fn put_scalar(b: &mut [u64], d: u64, f: u64, v: u64)
     put_word(b, (SCALARS + (CLIENT_WORDS * (d - 1) + f)) as usize, v);
 }
 
-// 0 idle, 1 reading, 2 writing.
+// 0 idle, 1 reading, 2 writing, 3 or 4 in the first or the second part of a fast read.
 pub fn mode(b: &[u64], d: u64) -> u64
     requires { ⌜ (1 ≤ d) × (d ≤ 8) ⌝ }
     ensures { λ r. ⌜ r ≡ at (now (b .entry)) scalars (modeAt d) ⌝ }
@@ -105,7 +105,7 @@ pub fn put_stamp(b: &mut [u64], d: u64, v: u64)
     put_scalar(b, d, 4, v);
 }
 
-// Its last ended transaction: 0 none yet, 1 a read, 2 a write.
+// Its last ended transaction: 0 none yet, 1 a read, 2 a write, 3 a fast read.
 pub fn last_kind(b: &[u64], d: u64) -> u64
     requires { ⌜ (1 ≤ d) × (d ≤ 8) ⌝ }
     ensures { λ r. ⌜ r ≡ at (now (b .entry)) scalars (lastKindAt d) ⌝ }
@@ -180,7 +180,7 @@ pub fn put_value(b: &mut [u64], d: u64, k: u64, v: u64)
     put_word(b, (VALUES + (MOST_ITEMS * (d - 1) + k)) as usize, v);
 }
 
-// The stamp of item `k` in the last ended transaction, a read.
+// The stamp of item `k` in the last ended transaction, a read or a fast read.
 pub fn last_read_stamp(b: &[u64], d: u64, k: u64) -> u64
     requires { ⌜ (1 ≤ d) × (d ≤ 8) × (k < 64) ⌝ }
     ensures { λ r. ⌜ r ≡ at (now (b .entry)) lastStamps (itemAt d k) ⌝ }

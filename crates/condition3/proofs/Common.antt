@@ -8,14 +8,15 @@ use native.Mathlib.Nat.{not-suc-le-zero}
 use native.Mathlib.Omega.{arith}
 use lib.Dec.{eqb, ltb, leb}
 use borrow.Author.Tests.{eqb-true, eqb-false, ne-eqb, ltb-true, ltb-false, leb-false, le-leb}
-use Rattle.basics.proofs.Cases.{by-test, and-left, and-right, not-true}
+use Rattle.basics.proofs.Cases.{by-test, and-left, and-right, not-true, or-cases}
 use Rattle.basics.specs.Lists.{In, counted}
 use Rattle.basics.proofs.Lists.{counted-append}
 use Rattle.itemset.specs.Set.{has, remove, upto, only, members}
 use Rattle.itemset.proofs.Laws.{has-empty, has-above}
 use Rattle.protocol.specs.declared.Message.{Message}
 use Rattle.protocol.specs.Tables.{Tables, Client, Side, ofRead, ofWrite, writerOf}
-use Rattle.protocol.specs.Message.{kindOf, isCommit, itemOf, namesClient, ownerOf}
+use Rattle.protocol.specs.Message.{kindOf, isCommit, isGot, isFirstReply, isAnyGot, itemOf}
+use Rattle.protocol.specs.Message.{namesClient, ownerOf}
 use Rattle.protocol.specs.Steps.{joined, isLast}
 use Rattle.protocol.proofs.Delivered.{joined-each}
 use Rattle.condition3.specs.World.{Write, labelled}
@@ -25,7 +26,8 @@ use Rattle.condition3.specs.World.{Write, labelled}
 abbrev pub hasItem : Message → Bool
 hasItem m = not (isCommit m)
 
--- of a read part the gets and gots, of a write part the prepares and prepared replies
+-- of a read part the gets and gots, of either kind, of a write part the prepares and prepared
+-- replies
 abbrev pub ofSide : Side → Message → Bool
 ofSide ofRead m = namesClient m
 ofSide ofWrite m = leb (kindOf m) 2
@@ -57,9 +59,16 @@ pub record Like (c c′ : Client) : Type 0 where
   pub writes : c′ .write .set ≡ c .write .set
   pub stamp : c′ .write .stamp ≡ c .write .stamp
   pub asked : (k : ℕ) → c′ .read .asked k ≡ c .read .asked k
+  pub stage : c′ .read .stage ≡ c .read .stage
 
 pub like-self : (c : Client) → Like c c
-like-self c = record { reads = refl; writes = refl; stamp = refl; asked = λ k. refl }
+like-self c = record {
+  reads = refl;
+  writes = refl;
+  stamp = refl;
+  asked = λ k. refl;
+  stage = refl;
+}
 
 -- what side τ of c still awaits once item k of side σ is struck
 abbrev pub leftOf : Side → Client → ℕ → Side → ℕ
@@ -97,7 +106,14 @@ pub joined-owner : (t : Tables) (m j : Message)
 joined-owner t m j own =
     joined-each (λ x. ownerOf x ≡ ownerOf m) t m (λ x r. r .owner)
     (λ p stamp some o. ⊎-elim (λ e. e)
-    (λ e. ap writerOf e ∙ own (ownerOf m) refl some) o) j
+    (λ e. ap writerOf e ∙ own (ownerOf m) refl some) o)
+    (λ f k stamp. refl) j
+
+-- a got of either kind names its client
+pub got-names : (m : Message) → isAnyGot m ≡ true → namesClient m ≡ true
+got-names m e =
+    ⊎-elim (λ f. rw (eqb-true (kindOf m) 5 f) refl) (λ f. rw (eqb-true (kindOf m) 7 f) refl)
+    (or-cases (isGot m) (isFirstReply m) e)
 
 -- ---- one message to an item
 

@@ -11,25 +11,32 @@ use lib.ListN.{replicate, length-replicate}
 use Rattle.basics.proofs.Cases.{by-test}
 use Rattle.basics.specs.Lists.{counted}
 use Rattle.itemset.specs.Set.{has, count}
+use Rattle.itemset.proofs.Laws.{has-empty}
 use Rattle.protocol.specs.Tables.{Sizes}
 use Rattle.protocol.specs.Range.{Capacities, sizesInRange}
-use Rattle.protocol.specs.Calls.{Call, startRead, refusal, effect, step, pick}
+use Rattle.protocol.specs.Calls.{Call, startRead, startFastRead, refusal, effect, step, pick}
 use Rattle.condition3.specs.World.{World, Labelled, begin, moved, passed, next, after}
 use Rattle.condition3.specs.World.{isReplyFor}
-use Rattle.condition3.specs.Condition3.{Shows, Condition3}
-use Rattle.protocol.proofs.Ranges.Values.{IsClient}
-use Rattle.protocol.proofs.Refusals.{accepted-read}
+use Rattle.condition3.specs.Condition3.{Manner, startOf, EndedBy, sent, came, Shows}
+use Rattle.condition3.specs.Condition3.{Condition3}
+use Rattle.condition3.specs.Condition3.Manner.{ordinary, fast}
+use Rattle.protocol.proofs.Refusals.{accepted-read, accepted-fast-read}
 use Rattle.condition3.proofs.Link.{Inv}
 use Rattle.condition3.proofs.Link.Step.{begin-inv}
-use Rattle.condition3.proofs.Runs.Run.{after-append, after-inv, after-sizes}
-use Rattle.condition3.proofs.Runs.ReadSpan.{Reading}
+use Rattle.condition3.proofs.Runs.Run.{after-append, after-inv, still-client}
+use Rattle.condition3.proofs.Runs.Replies.{Awaiting}
+use Rattle.condition3.proofs.Runs.Ended.{EndedRead}
 use Rattle.condition3.proofs.Runs.Provenance.{writes-iff, stores-iff}
 use Rattle.condition3.proofs.Runs.Deliverable.{deliverable}
 use Rattle.condition3.proofs.Runs.OneMessage.{one-message}
-use Rattle.condition3.proofs.Runs.ReadCounts.{inv-at, asked, left, is-reading, ends-iff}
-use Rattle.condition3.proofs.Runs.ReadCounts.{counts-exact}
+use Rattle.condition3.proofs.Runs.ReadCounts.{inv-at, left, is-reading, ends-iff}
+use Rattle.condition3.proofs.Runs.ReadCounts.{counts-exact, ended-read}
+use Rattle.condition3.proofs.Runs.FastCounts.{is-awaited, is-fast, two-rounds, bounded}
+use Rattle.condition3.proofs.Runs.FastCounts.{ends-iff as fast-ends-iff}
+use Rattle.condition3.proofs.Runs.FastCounts.{counts-exact as fast-counts-exact, ended-fast}
 use Rattle.condition3.proofs.Runs.ReadShows.{shows, silent, wins}
 use Rattle.condition3.proofs.Runs.Falls.{never-falls}
+use Rattle.condition3.proofs.Runs.Latest.{committed-latest, latest-from}
 use Rattle.condition3.proofs.Runs.Freed.{clears, serves}
 use Rattle.condition3.proofs.Runs.WriteShows.{own-shown, own-head, own-number}
 use Rattle.condition3.proofs.Runs.WriteShows.{wins-own}
@@ -46,24 +53,24 @@ next-step caps w c = go (refusal caps (w .tables) c) refl
     go (suc r) e = rw (eqb·suc-zero r) refl
 
 -- an item of the set that has had no reply is awaited
-awaited : (d s : ℕ) (asked : ℕ → ℕ) (v : World) (left : List Labelled) → Reading d s asked v left
+awaited : (d s : ℕ) (v : World) (left : List Labelled) → Awaiting d s 0 v left
     → (k : ℕ) → has s k ≡ true
     → counted (isReplyFor d k) left ≡ 0 → has (v .tables .client d .read .awaited) k ≡ true
-awaited d s asked v left r k m none =
+awaited d s v left r k m none =
     by-test (has (v .tables .client d .read .awaited) k) (λ e. e)
     (λ e. absurd (never (ap (λ (b : Bool). counted (isReplyFor d k) left + cond b 1 0) (sym e)
-    ∙ r .once k ∙ rw m refl)))
+    ∙ r .once k ∙ rw (m, has-empty k) refl)))
   where
     never : counted (isReplyFor d k) left + 0 ≡ 1 → ⊥
     never e = omega arith
 
-is-client : (caps : Capacities) (w : World) (d s : ℕ) (before during : List Call)
-    → refusal caps (after caps w before .tables) (startRead d s) ≡ 0
-    → IsClient (after caps w (before ++ startRead d s ∷ during) .tables .sizes) d
-is-client caps w d s before during e =
-    subst (λ (z : Sizes). IsClient z d)
-    (after-sizes caps w before ∙ sym (after-sizes caps w (before ++ startRead d s ∷ during)))
-    (accepted-read caps (after caps w before .tables) d s .0 e .client)
+-- a read that ended, of either manner
+ended : (caps : Capacities) (w : World) → Inv caps w → (μ : Manner) (d s : ℕ)
+    (before during : List Call) (end : Call) → EndedBy caps w d (startOf μ d s) before during end
+    → EndedRead caps w μ d s before during end
+ended caps w inv ordinary d s before during end e = ended-read caps w inv d s before during end e
+ended caps w inv fast d s before during end e =
+    ended-fast caps w inv d s before during (e .underWay) end (e .ended)
 
 pub condition-3-from : (caps : Capacities) (w : World) → Inv caps w → (calls : List Call)
     → Condition3 caps w calls
@@ -79,25 +86,40 @@ condition-3-from caps w inv calls =
       history = writes-iff caps w calls;
       preparations = stores-iff caps w calls;
       oneMessage = λ before during rest d s e u k m none.
-          let r = is-reading caps w inv d s before during u in
-          one-message caps (after caps w (before ++ startRead d s ∷ during))
-          (inv-at caps w inv d s before during u) d
-          (is-client caps w d s before during (u .accepted)) k
-          (awaited d s (asked caps w inv d s before during u)
-          (after caps w (before ++ startRead d s ∷ during))
-          (left caps w inv d s before during u) r k m none);
+          let v = after caps w (before ++ startRead d s ∷ during) in
+          one-message caps v (inv-at caps w inv d s before during u) d
+          (still-client caps w d before (startRead d s ∷ during)
+          (accepted-read caps (after caps w before .tables) d s .0 (u .accepted) .client)) k
+          (awaited d s v (left caps w inv d s before during u)
+          (is-reading caps w inv d s before during u .awaiting) k m none);
+      oneMessageFast = λ before during rest d s e u k m open′.
+          let v = after caps w (before ++ startFastRead d s ∷ during) in
+          one-message caps v (after-inv caps w inv (before ++ startFastRead d s ∷ during)) d
+          (still-client caps w d before (startFastRead d s ∷ during)
+          (accepted-fast-read caps (after caps w before .tables) d s .0 (u .accepted) .client)) k
+          (is-awaited d s v (came caps w (startFastRead d s) before during)
+          (sent caps w (startFastRead d s) before during)
+          (is-fast caps w inv d s before during u) k m open′);
       ends = λ before during rest d s c e u. ends-iff caps w inv d s before during u c;
-      silent = λ before during until rest d s end e u quietly.
-          silent caps w inv d s before during end until []
-          (replicate (10 + 9 * count s) 0) u quietly
+      endsFast = λ before during rest d s c e u. fast-ends-iff caps w inv d s before during u c;
+      silent = λ μ before during until rest d s end e u quietly.
+          silent caps w inv μ d s before during end (ended caps w inv μ d s before during end u)
+          until [] (replicate (10 + 9 * count s) 0) quietly
           (le-of-eq (sym (length-replicate (10 + 9 * count s) 0)));
       counts = λ before during rest d s end e u.
           counts-exact caps w inv d s before during (u .underWay) end (u .ended);
-      shows = λ before during until rest d s end room e u quietly enough.
-          subst (λ (cs : List Call). Shows caps w cs d s before during end until room) (sym e)
-          (shows caps w inv d s before during end until rest room u quietly enough);
-      wins = λ before during until between rest d s end room v bytes e u quietly enough a k m.
-          wins caps w inv d s before during end until [] room u quietly enough between k m;
+      countsFast = λ before during rest d s end e u.
+          fast-counts-exact caps w inv d s before during (u .underWay) end (u .ended);
+      twoRounds = λ before during rest d s c e u. two-rounds caps w inv d s before during u c;
+      boundedFast = λ before during rest d s c e u.
+          bounded caps w inv d s before during u c;
+      shows = λ μ before during until rest d s end room e u quietly enough.
+          subst (λ (cs : List Call). Shows caps w cs μ d s before during end until room) (sym e)
+          (shows caps w inv μ d s before during end (ended caps w inv μ d s before during end u)
+          until rest room quietly enough);
+      wins = λ μ before during until between rest d s end room v bytes e u quietly enough a k m.
+          wins caps w inv μ d s before during end (ended caps w inv μ d s before during end u)
+          until [] room quietly enough between k m;
       showsOwn = λ before during until rest d z written end room e u quietly enough. (
         own-shown caps w inv d z written before during end until room u quietly enough,
         own-head caps w inv d z written before during end until room u quietly enough,
@@ -105,10 +127,16 @@ condition-3-from caps w inv calls =
       );
       winsOwn = λ before during until between rest d z written end room v bytes e u quietly enough
           a. wins-own caps w inv d z written before during end until room u quietly enough between;
-      neverFalls = λ before during until between before′ during′ until′ rest d s s′ end end′ room
+      neverFalls = λ μ before during until between before′ during′ until′ rest d s s′ end end′ room
           room′ split e u quietly enough u′ quietly′ enough′.
-          never-falls caps w inv d s before during end until room u quietly enough
-          s′ between before′ during′ end′ until′ room′ split u′ quietly′ enough′;
+          never-falls caps w inv μ d s before during end
+          (ended caps w inv μ d s before during end u) until room quietly enough
+          s′ between before′ during′ end′ (ended-read caps w inv d s′ before′ during′ end′ u′)
+          until′ room′ split quietly′ enough′;
+      latestCommitted = λ before rest e k. (
+        λ a i h x. committed-latest caps w inv before k a i h x,
+        latest-from caps k w inv before,
+      );
       clears = λ before rest e. clears caps w inv before;
       serves = λ before between rest n d s bytes e. serves caps w inv before between n d s bytes;
       deliverable =

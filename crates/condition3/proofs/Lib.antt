@@ -5,4 +5,5 @@ pub mod Never
 pub mod Sound
 pub mod Link
 pub mod Condition3
+pub mod Committed
 pub mod Examples

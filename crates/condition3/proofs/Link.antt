@@ -17,7 +17,7 @@ use Rattle.itemset.specs.Set.{has}
 use Rattle.protocol.specs.declared.Version.{Version}
 use Rattle.protocol.specs.declared.Message.{Message}
 use Rattle.protocol.specs.Tables.{Client}
-use Rattle.protocol.specs.Message.{partsOf, isPrepare, isGot, ownerOf}
+use Rattle.protocol.specs.Message.{partsOf, isPrepare, isAnyGot, ownerOf}
 use Rattle.protocol.specs.Range.{Capacities}
 use Rattle.condition3.specs.World.{World, Label, Labelled, Write, Store}
 use Rattle.condition3.proofs.Sound.{Ledger, Counted, SoundBy}
@@ -41,8 +41,8 @@ pub record Landed (writes : List Write) (stores : List Store) (time s k : ℕ) :
   pub same : write .stamp ≡ s
   pub before : LandedBefore stores write k time
 
--- where a message comes from: a prepare from its write's own start, a got from a write that had
--- landed when the get was answered
+-- where a message comes from: a prepare from its write's own start, a got, of either kind, from a
+-- write that had landed when the get was answered
 pub record FromStart (writes : List Write) (l : Label) (s : ℕ) : Type 0 where
   pub write : Write
   pub isIn : In write writes
@@ -58,7 +58,7 @@ pub record FromAnswer (writes : List Write) (stores : List Store) (l : Label) (s
 pub record Comes (writes : List Write) (stores : List Store) (l : Label)
     (m : Message) : Type 0 where
   pub prepare : isPrepare m ≡ true → FromStart writes l (partsOf m .stamp)
-  pub got : isGot m ≡ true → FromAnswer writes stores l (partsOf m .stamp)
+  pub got : isAnyGot m ≡ true → FromAnswer writes stores l (partsOf m .stamp)
 
 pub record Inv (caps : Capacities) (w : World) : Type 0 where
   pub ledger : Ledger

@@ -12,8 +12,8 @@ use borrow.Author.Tests.{leb-false}
 use Rattle.basics.proofs.Cases.{by-test}
 use Rattle.protocol.specs.Tables.{Sizes}
 use Rattle.protocol.specs.Range.{Capacities, sizesInRange, valid, load, occupied}
-use Rattle.protocol.specs.Calls.{Call, startRead, startWrite, deliver, show, clear, handOver}
-use Rattle.protocol.specs.Calls.{compare, Test, test, first, refusal}
+use Rattle.protocol.specs.Calls.{Call, startRead, startFastRead, startWrite, deliver, show, clear}
+use Rattle.protocol.specs.Calls.{handOver, compare, Test, test, first, readTests, refusal}
 use Rattle.condition3.specs.World.{World, begin, after}
 use Rattle.protocol.proofs.Ranges.Tables.{facts-valid}
 use Rattle.condition3.proofs.Link.{Inv}
@@ -60,13 +60,17 @@ module _ (caps : Capacities) (w : World) (inv : Inv caps w) where
   is-valid : not (valid caps (w .tables)) ≡ false
   is-valid = rw (facts-valid caps (w .tables) (inv .sound .valid)) refl
 
-  pub mild : (c : Call) → Mild (refusal caps (w .tables) c)
-  unfolding refusal
-  mild (startRead d s) =
+  mild-read : (d s : ℕ) → Mild (first (readTests caps (w .tables) d s))
+  mild-read d s =
       passes 1 _ _ is-valid
       (mild-test 3 _ _ (omega arith)
       (mild-test 4 _ _ (omega arith)
       (mild-test 5 _ _ (omega arith) (mild-test 8 _ _ (omega arith) mild-none))))
+
+  pub mild : (c : Call) → Mild (refusal caps (w .tables) c)
+  unfolding refusal
+  mild (startRead d s) = mild-read d s
+  mild (startFastRead d s) = mild-read d s
   mild (startWrite d s bytes) =
       passes 1 _ _ is-valid
       (mild-test 3 _ _ (omega arith)

@@ -2,8 +2,10 @@
 -- of condition 3.
 pub mod Run
 pub mod Touch
+pub mod Replies
 pub mod ReadSpan
 pub mod ReadStep
+pub mod Ended
 pub mod Spans
 pub mod WriteSpan
 pub mod Rising
@@ -13,6 +15,13 @@ pub mod Provenance
 pub mod Deliverable
 pub mod OneMessage
 pub mod ReadCounts
+pub mod Latest
+pub mod FirstReplies
+pub mod FastKinds
+pub mod FastSpan
+pub mod FastStep
+pub mod FastCounts
+pub mod Fresh
 pub mod Shows
 pub mod ReadShows
 pub mod Falls

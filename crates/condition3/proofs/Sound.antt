@@ -10,6 +10,7 @@ pub mod Counts
 pub mod End
 pub mod Start
 pub mod StartRead
+pub mod StartFast
 pub mod StartWrite
 pub mod Step
 pub mod DeliverPrepare
@@ -17,6 +18,7 @@ pub mod DeliverPrepared
 pub mod DeliverCommit
 pub mod DeliverGet
 pub mod DeliverGot
+pub mod DeliverFirst
 use mathlib.Core.Bool.{Bool, true, false, cond, not, _&&_, _||_}
 use mathlib.Core.List.{List, [], _∷_}
 use mathlib.Core.Logic.{_≢_}
@@ -29,10 +31,11 @@ use Rattle.protocol.specs.declared.Version.{Version}
 use Rattle.protocol.specs.declared.Entry.{Entry}
 use Rattle.protocol.specs.declared.Message.{Message}
 use Rattle.protocol.specs.declared.Message.the-variants.{Prepare, Prepared, Commit, Get, Got}
+use Rattle.protocol.specs.declared.Message.the-variants.{FirstGet, FirstReply}
 use Rattle.protocol.specs.Tables.{Tables, Client, Side, awaitedOf, Ended, showsWrite, stampOf}
 use Rattle.protocol.specs.Tables.{entryOf, numberOf, writerOf}
 use Rattle.protocol.specs.Message.{ownerOf}
-use Rattle.protocol.specs.Range.{Capacities}
+use Rattle.protocol.specs.Range.{Capacities, hasFirst}
 use Rattle.protocol.specs.Steps.{stored}
 use Rattle.protocol.proofs.Ranges.Values.{IsClient}
 use Rattle.protocol.proofs.Ranges.Tables.{Valid}
@@ -108,13 +111,28 @@ pub record FitsCommit (L : Ledger) (vs : List Version) (s : ℕ) : Type 0 where
 
 pub record FitsGet (L : Ledger) (vs : List Version) (c : Client) (k s : ℕ) : Type 0 where
   pub mode : c .read .set ≢ 0
+  pub byStamp : c .read .stage ≢ 1
   pub asked : c .read .asked k ≡ s
   pub good : Good L vs k s
 
 pub record FitsGot (L : Ledger) (vs : List Version) (c : Client) (v : Version)
     (e : Entry) : Type 0 where
   pub mode : c .read .set ≢ 0
+  pub byStamp : c .read .stage ≢ 1
   pub asked : c .read .asked (v .item) ≡ v .stamp
+  pub version : GoodEntry L vs (v .item) (entryOf v)
+  pub value : v .value ≡ L .value (v .stamp) (v .item)
+  pub latest : GoodEntry L vs (v .item) e
+
+-- a first get and a first reply fit a first part, whatever the stamp
+pub record FitsFirstGet (c : Client) : Type 0 where
+  pub mode : c .read .set ≢ 0
+  pub byItem : c .read .stage ≡ 1
+
+pub record FitsFirstReply (L : Ledger) (vs : List Version) (c : Client) (v : Version)
+    (e : Entry) : Type 0 where
+  pub mode : c .read .set ≢ 0
+  pub byItem : c .read .stage ≡ 1
   pub version : GoodEntry L vs (v .item) (entryOf v)
   pub value : v .value ≡ L .value (v .stamp) (v .item)
   pub latest : GoodEntry L vs (v .item) e
@@ -125,6 +143,8 @@ Fits L vs c (Prepared k s) = FitsPrepared vs c k s
 Fits L vs c (Commit p s) = FitsCommit L vs s
 Fits L vs c (Get d k s) = FitsGet L vs c k s
 Fits L vs c (Got d v e) = FitsGot L vs c v e
+Fits L vs c (FirstGet d k) = FitsFirstGet c
+Fits L vs c (FirstReply d v e) = FitsFirstReply L vs c v e
 
 pub record SoundBy (caps : Capacities) (L : Ledger) (t : Tables) : Type 0 where
   pub valid : Valid caps t
@@ -139,6 +159,9 @@ pub record SoundBy (caps : Capacities) (L : Ledger) (t : Tables) : Type 0 where
   pub writes : (d : ℕ) → IsClient (t .sizes) d → t .client d .write .set ≢ 0
       → Writes L (t .versions) d (t .client d)
   pub last : (d : ℕ) → IsClient (t .sizes) d → Last L (t .client) (t .client d .last)
+  -- first replies that have come, until the read ends
+  pub firsts : (d k : ℕ) → IsClient (t .sizes) d → hasFirst (t .client d .read) k ≡ true
+      → GoodEntry L (t .versions) k (t .client d .read .firsts k)
   -- each item awaited, of either part, has exactly one message, and every other message is a commit
   pub one : (σ : Side) (d k : ℕ) → IsClient (t .sizes) d
       → counted (isFor σ d k) (t .messages) ≡ cond (has (awaitedOf σ (t .client d)) k) 1 0

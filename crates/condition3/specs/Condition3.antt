@@ -3,25 +3,42 @@
 -- of the condition is one field, with the clause's own words above it; document 01's line is an
 -- item here, its desk a client, its cabinet a partition. It is proved for all capacities, all sizes
 -- that refusal 2 allows and all lists: `condition-3`, proofs/Condition3.antt.
-use mathlib.Core.Bool.{true}
+use mathlib.Core.Bool.{true, cond}
 use mathlib.Core.List.{List, [], _∷_, _++_, map}
 use mathlib.Core.Logic.{_⊎_, _↔_}
 use mathlib.Core.Path.{_≡_}
-use Prim.Native.Nat.{ℕ, _+_, _*_, _≤_, _<_}
+use Prim.Native.Nat.{ℕ, suc, _+_, _*_, _≤_, _<_}
 use lib.ListN.{length, take}
 use Rattle.basics.specs.Lists.{In, counted}
 use Rattle.hex.specs.Number.{numberAt, bigEndian}
 use Rattle.itemset.specs.Set.{has, count, rank}
+use Rattle.protocol.specs.declared.Message.{Message}
+use Rattle.protocol.specs.declared.Message.the-variants.{Commit, FirstGet}
 use Rattle.protocol.specs.declared.Answer.the-variants.{Shown, Cleared}
-use Rattle.protocol.specs.Tables.{numberOf, writerOf}
-use Rattle.protocol.specs.Message.{isPrepare, ownerOf}
+use Rattle.protocol.specs.Tables.{numberOf, writerOf, partitionOf}
+use Rattle.protocol.specs.Message.{partsOf, isPrepare, ownerOf}
 use Rattle.protocol.specs.Range.{Capacities}
 use Rattle.protocol.specs.Steps.{nextStamp}
-use Rattle.protocol.specs.Calls.{Call, startRead, startWrite, deliver, show, clear, handOver}
-use Rattle.protocol.specs.Calls.{refusal, step}
-use Rattle.condition3.specs.World.{World, Labelled, Write, Store, begun, storing, after}
-use Rattle.condition3.specs.World.{joiningOver, leavingOver, isRequest, isReply, isReplyFor}
+use Rattle.protocol.specs.Calls.{Call, startRead, startFastRead, startWrite, deliver, show, clear}
+use Rattle.protocol.specs.Calls.{handOver, refusal, step}
+use Rattle.condition3.specs.World.{World, Labelled, Write, Store, placed, begun, storing}
+use Rattle.condition3.specs.World.{after, joiningOver, leavingOver, isRequest, isReply}
+use Rattle.condition3.specs.World.{isRequestFor, isReplyFor, isFirstReplyFor, isGotFor}
 use Rattle.condition3.specs.World.{isReadMessage, outcomeIn, endsFor, stays, rests}
+
+-- ---- How a read is made: as an ordinary one, or as a fast one (document 02, P7)
+
+pub data Manner : Type 0 where
+  ordinary fast : Manner
+
+-- its start, and its log frame's first byte
+abbrev pub startOf : Manner → ℕ → ℕ → Call
+startOf ordinary d s = startRead d s
+startOf fast d s = startFastRead d s
+
+abbrev pub byteOf : Manner → ℕ
+byteOf ordinary = 0x21
+byteOf fast = 0x23
 
 -- ---- What a showing tells, in its output bytes: of a read of s, of each item k
 
@@ -69,6 +86,11 @@ abbrev pub StoredBefore : List Store → Write → ℕ → Type 0
 StoredBefore stores a t = (j : ℕ) → has (a .set) j ≡ true → (σ : Store) × In σ stores
     × (σ .start ≡ a .start) × (σ .item ≡ j) × (σ .time < t)
 
+-- the last reply of client d for item k among these
+abbrev pub LastReply : ℕ → ℕ → List Labelled → Labelled → Type 0
+LastReply d k ls reply = (above below : List Labelled) × (ls ≡ above ++ reply ∷ below)
+    × (isReplyFor d k reply ≡ true) × (counted (isReplyFor d k) below ≡ 0)
+
 -- 'The cabinet answers a line when the get behind its reply is delivered': a got joins at the
 -- delivery of its get
 abbrev pub answeredAt : Labelled → ℕ
@@ -101,16 +123,31 @@ module _ (caps : Capacities) (w : World) where
         → Own e v bytes earlier giver above
         → Own e v bytes earlier client before
 
-  -- the world now, what joined and what was delivered, from the start of a read of s by client d
-  -- on, over the calls `during`
-  abbrev pub now : ℕ → ℕ → List Call → List Call → World
-  now d s before during = after caps w (before ++ startRead d s ∷ during)
+  -- the world now, what joined and what was delivered, from a read's start on, over the calls
+  -- `during`
+  abbrev pub now : Call → List Call → List Call → World
+  now start before during = after caps w (before ++ start ∷ during)
 
-  abbrev pub sent : ℕ → ℕ → List Call → List Call → List Labelled
-  sent d s before during = joiningOver caps (after caps w before) (startRead d s ∷ during)
+  abbrev pub sent : Call → List Call → List Call → List Labelled
+  sent start before during = joiningOver caps (after caps w before) (start ∷ during)
 
-  abbrev pub came : ℕ → ℕ → List Call → List Call → List Labelled
-  came d s before during = leavingOver caps (after caps w before) (startRead d s ∷ during)
+  abbrev pub came : Call → List Call → List Call → List Labelled
+  came start before during = leavingOver caps (after caps w before) (start ∷ during)
+
+  -- a read 'awaits the lines of its set without a reply', and 'a line fetched again is awaited
+  -- again' (document 02, P7): until its second request has its reply too
+  abbrev pub Awaited : ℕ → ℕ → Call → List Call → List Call → Type 0
+  Awaited d k start before during =
+      (counted (isReplyFor d k) (came start before during) ≡ 0)
+      ⊎ (counted (isReplyFor d k) (came start before during)
+      < counted (isRequestFor d k) (sent start before during))
+
+  -- an accepted call of the list delivers message m
+  abbrev pub DeliveredBy : List Call → Message → Type 0
+  DeliveredBy calls m =
+      (above below : List Call) × ((i : ℕ) × (calls ≡ above ++ deliver i ∷ below)
+      × (refusal caps (after caps w above .tables) (deliver i) ≡ 0)
+      × (placed (after caps w above) i .message ≡ m))
 
   -- an accepted call of the list adds x
   abbrev pub AddedBy : {A : Type 0} → (World → Call → List A) → List Call → A → Type 0
@@ -136,41 +173,64 @@ module _ (caps : Capacities) (w : World) where
 
   -- what a read of s by client d shows
 
-  abbrev pub outputOfRead : ℕ → ℕ → List Call → List Call → Call → List Call → List ℕ → List ℕ
-  outputOfRead d s before during end until room =
-      output d (startRead d s) before during end until room
+  abbrev pub outputOfRead : Manner → ℕ → ℕ → List Call → List Call → Call → List Call → List ℕ
+      → List ℕ
+  outputOfRead μ d s before during end until room =
+      output d (startOf μ d s) before during end until room
 
-  pub record Shows (calls : List Call) (d s : ℕ) (before during : List Call) (end : Call)
-      (until : List Call) (room : List ℕ) : Type 0 where
+  pub record Shows (calls : List Call) (μ : Manner) (d s : ℕ) (before during : List Call)
+      (end : Call) (until : List Call) (room : List ℕ) : Type 0 where
     -- 'A read shows what a showing of its desk with room enough gives after its end and before the
-    -- desk's next start': it is accepted, and the frame's head is `21`, client, set
-    pub shown : step caps (shownAt (startRead d s) before during end until .tables)
+    -- desk's next start': it is accepted, and the frame's head is `21`, or `23` of a fast read,
+    -- client, set
+    pub shown : step caps (shownAt (startOf μ d s) before during end until .tables)
         (show d room) .answer ≡ Shown (10 + 9 * count s)
-    pub head : take 10 (outputOfRead d s before during end until room) ≡ 0x21 ∷ d ∷ bigEndian 8 s
+    pub head : take 10 (outputOfRead μ d s before during end until room)
+        ≡ byteOf μ ∷ d ∷ bigEndian 8 s
     -- 'wherever it shows an entry of a write that also wrote another line it shows, that other line
     -- isn't shown older'
     pub unfractured : (a : Write) → In a (after caps w calls .writes) → (j k : ℕ) → has s j ≡ true
         → has s k ≡ true
-        → ShownWith s (outputOfRead d s before during end until room) j (a .stamp)
+        → ShownWith s (outputOfRead μ d s before during end until room) j (a .stamp)
         → has (a .set) j ≡ true → has (a .set) k ≡ true
-        → ShownOlder s (outputOfRead d s before during end until room) k (a .stamp) → ⊥
-    -- 'each entry that isn't initial is what a write in the list put on that line, and that write
-    -- was stored in all its cabinets before the cabinet answered the line'
+        → ShownOlder s (outputOfRead μ d s before during end until room) k (a .stamp) → ⊥
+    -- each entry is what the last reply for its line brought, and 'each entry that isn't initial is
+    -- what a write in the list put on that line, and that write was stored in all its cabinets
+    -- before the cabinet answered the line' with that reply
     pub written : (k : ℕ) → has s k ≡ true
-        → Initial s (outputOfRead d s before during end until room) k
+        → (reply : Labelled)
+        × LastReply d k (came (startOf μ d s) before (during ++ end ∷ [])) reply
+        × ShownWith s (outputOfRead μ d s before during end until room) k
+        (partsOf (reply .message) .stamp)
+        × (shownValue s (outputOfRead μ d s before during end until room) k
+        ≡ partsOf (reply .message) .value)
+        × (Initial s (outputOfRead μ d s before during end until room) k
         ⊎ ((a : Write) × In a (after caps w calls .writes)
-        × ShownWith s (outputOfRead d s before during end until room) k (a .stamp)
+        × ShownWith s (outputOfRead μ d s before during end until room) k (a .stamp)
         × (has (a .set) k ≡ true) × (a .values k ≡ shownValue s
-        (outputOfRead d s before during end until room) k)
-        × ((reply : Labelled) × In reply (came d s before (during ++ end ∷ []))
-        × (isReplyFor d k reply ≡ true)
+        (outputOfRead μ d s before during end until room) k)
         × StoredBefore (after caps w calls .stores) a (answeredAt reply)))
     -- 'no entry is older than a write of that line which the desk itself had ended before starting
-    -- the read', with those that count as its own after a hand-over 'for reads started after it'
-    pub own : (e v : ℕ) (bytes : List ℕ) (earlier : List Call) → Own e v bytes earlier d before
+    -- the read', with those that count as its own after a hand-over 'for reads started after it'; a
+    -- fast read 'may miss the desk's own uncommitted write' (document 02, P7)
+    pub own : μ ≡ ordinary
+        → (e v : ℕ) (bytes : List ℕ) (earlier : List Call) → Own e v bytes earlier d before
         → (k : ℕ) → has s k ≡ true → has v k ≡ true
-        → ShownOlder s (outputOfRead d s before during end until room) k
+        → ShownOlder s (outputOfRead μ d s before during end until room) k
         (nextStamp (after caps w earlier .tables) e) → ⊥
+    -- 'A first get (kind 6) asks for the latest committed version' (document 02, P7): the first
+    -- reply for a line has the stamp of the line's latest (`latestCommitted`) when the first get
+    -- behind it was delivered, after the calls `early` since the start, and nothing older is shown
+    pub fresh : μ ≡ fast → (k : ℕ) → has s k ≡ true
+        → (reply : Labelled) × In reply (came (startOf μ d s) before (during ++ end ∷ []))
+        × (isFirstReplyFor d k reply ≡ true)
+        × ((early late : List Call) × ((i : ℕ) × (during ++ end ∷ [] ≡ early ++ deliver i ∷ late)
+        × (placed (now (startOf μ d s) before early) i .message ≡ FirstGet d k)
+        × (answeredAt reply ≡ now (startOf μ d s) before early .time)
+        × (partsOf (reply .message) .stamp
+        ≡ now (startOf μ d s) before early .tables .latest k .stamp)
+        × (ShownOlder s (outputOfRead μ d s before during end until room) k
+        (now (startOf μ d s) before early .tables .latest k .stamp) → ⊥)))
 
   -- ---- The condition
 
@@ -198,51 +258,106 @@ module _ (caps : Capacities) (w : World) where
     pub oneMessage : (before during rest : List Call) (d s : ℕ)
         → calls ≡ before ++ startRead d s ∷ during ++ rest
         → UnderWay d (startRead d s) before during
-        → (k : ℕ) → has s k ≡ true → counted (isReplyFor d k) (came d s before during) ≡ 0
-        → counted (isReadMessage d k) (now d s before during .inFlight) ≡ 1
+        → (k : ℕ) → has s k ≡ true
+        → counted (isReplyFor d k) (came (startRead d s) before during) ≡ 0
+        → counted (isReadMessage d k) (now (startRead d s) before during .inFlight) ≡ 1
+    -- and a fast read for each line it awaits, in either part
+    pub oneMessageFast : (before during rest : List Call) (d s : ℕ)
+        → calls ≡ before ++ startFastRead d s ∷ during ++ rest
+        → UnderWay d (startFastRead d s) before during
+        → (k : ℕ) → has s k ≡ true → Awaited d k (startFastRead d s) before during
+        → counted (isReadMessage d k) (now (startFastRead d s) before during .inFlight) ≡ 1
     -- 'the delivery of its n-th reply, and no other, reports it ended'
     pub ends : (before during rest : List Call) (d s : ℕ) (c : Call)
         → calls ≡ before ++ startRead d s ∷ during ++ c ∷ rest
         → UnderWay d (startRead d s) before during
-        → (endsFor caps (now d s before during) d c ≡ true)
-        ↔ ((counted (isReply d) (came d s before during) < count s)
-        × (counted (isReply d) (came d s before (during ++ c ∷ [])) ≡ count s))
+        → (endsFor caps (now (startRead d s) before during) d c ≡ true)
+        ↔ ((counted (isReply d) (came (startRead d s) before during) < count s)
+        × (counted (isReply d) (came (startRead d s) before (during ++ c ∷ [])) ≡ count s))
+    -- of a fast read the delivery of the last reply to its requests, which are more than n where
+    -- lines are fetched again
+    pub endsFast : (before during rest : List Call) (d s : ℕ) (c : Call)
+        → calls ≡ before ++ startFastRead d s ∷ during ++ c ∷ rest
+        → UnderWay d (startFastRead d s) before during
+        → (endsFor caps (now (startFastRead d s) before during) d c ≡ true)
+        ↔ ((counted (isReply d) (came (startFastRead d s) before during)
+        < counted (isRequest d) (sent (startFastRead d s) before during))
+        × (counted (isReply d) (came (startFastRead d s) before (during ++ c ∷ []))
+        ≡ counted (isRequest d) (sent (startFastRead d s) before (during ++ c ∷ []))))
     -- and none after it, up to the client's next accepted start
-    pub silent : (before during until rest : List Call) (d s : ℕ) (end : Call)
-        → calls ≡ before ++ startRead d s ∷ during ++ end ∷ until ++ rest
-        → EndedBy d (startRead d s) before during end
-        → rests caps (shownAt (startRead d s) before during end []) d until ≡ true
-        → stays caps (shownAt (startRead d s) before during end []) d until ≡ true
+    pub silent : (μ : Manner) (before during until rest : List Call) (d s : ℕ) (end : Call)
+        → calls ≡ before ++ startOf μ d s ∷ during ++ end ∷ until ++ rest
+        → EndedBy d (startOf μ d s) before during end
+        → rests caps (shownAt (startOf μ d s) before during end []) d until ≡ true
+        → stays caps (shownAt (startOf μ d s) before during end []) d until ≡ true
     -- 'after exactly n requests and n replies', one for each line; its outcome is 01, a read ended
     pub counts : (before during rest : List Call) (d s : ℕ) (end : Call)
         → calls ≡ before ++ startRead d s ∷ during ++ end ∷ rest
         → EndedBy d (startRead d s) before during end
-        → (counted (isRequest d) (sent d s before (during ++ end ∷ [])) ≡ count s)
-        × (counted (isReply d) (came d s before (during ++ end ∷ [])) ≡ count s)
+        → (counted (isRequest d) (sent (startRead d s) before (during ++ end ∷ [])) ≡ count s)
+        × (counted (isReply d) (came (startRead d s) before (during ++ end ∷ [])) ≡ count s)
         × ((k : ℕ) → has s k ≡ true
-        → counted (isReplyFor d k) (came d s before (during ++ end ∷ [])) ≡ 1)
-        × (outcomeIn (step caps (now d s before during .tables) end .answer) ≡ 1)
+        → counted (isReplyFor d k) (came (startRead d s) before (during ++ end ∷ [])) ≡ 1)
+        × (outcomeIn (step caps (now (startRead d s) before during .tables) end .answer) ≡ 1)
+    -- of a fast read 'a line fetched again is awaited again, and adds one request and one reply to
+    -- the n' (document 02, P7): `again` are these lines, each fetched again once
+    pub countsFast : (before during rest : List Call) (d s : ℕ) (end : Call)
+        → calls ≡ before ++ startFastRead d s ∷ during ++ end ∷ rest
+        → EndedBy d (startFastRead d s) before during end
+        → (again : ℕ) × ((k : ℕ) → has again k ≡ true → has s k ≡ true)
+        × (counted (isRequest d) (sent (startFastRead d s) before (during ++ end ∷ []))
+        ≡ count s + count again)
+        × (counted (isReply d) (came (startFastRead d s) before (during ++ end ∷ []))
+        ≡ count s + count again)
+        × ((k : ℕ) → has s k ≡ true
+        → (counted (isRequestFor d k) (sent (startFastRead d s) before (during ++ end ∷ []))
+        ≡ suc (cond (has again k) 1 0))
+        × (counted (isReplyFor d k) (came (startFastRead d s) before (during ++ end ∷ []))
+        ≡ suc (cond (has again k) 1 0)))
+        × (outcomeIn (step caps (now (startFastRead d s) before during .tables) end .answer) ≡ 1)
+    -- 'lines found older than a sibling shows are fetched by stamp in a second set of gets': until
+    -- the n-th reply has come a fast read has sent its n first gets alone, and from then on, the
+    -- second set having joined with that reply, it sends nothing
+    pub twoRounds : (before during rest : List Call) (d s : ℕ) (c : Call)
+        → calls ≡ before ++ startFastRead d s ∷ during ++ c ∷ rest
+        → UnderWay d (startFastRead d s) before during
+        → (counted (isReply d) (came (startFastRead d s) before during) < count s
+        → counted (isRequest d) (sent (startFastRead d s) before during) ≡ count s)
+        × (count s ≤ counted (isReply d) (came (startFastRead d s) before during)
+        → counted (isRequest d) (sent (startFastRead d s) before (during ++ c ∷ []))
+        ≡ counted (isRequest d) (sent (startFastRead d s) before during))
+    -- ended or not, it asks for a line of its set at most twice, for no other, and has at most one
+    -- first reply and one got of a line
+    pub boundedFast : (before during rest : List Call) (d s : ℕ) (c : Call)
+        → calls ≡ before ++ startFastRead d s ∷ during ++ c ∷ rest
+        → UnderWay d (startFastRead d s) before during
+        → (k : ℕ)
+        → (counted (isRequestFor d k) (sent (startFastRead d s) before (during ++ c ∷ []))
+        ≤ cond (has s k) 2 0)
+        × (counted (isFirstReplyFor d k) (came (startFastRead d s) before (during ++ c ∷ [])) ≤ 1)
+        × (counted (isGotFor d k) (came (startFastRead d s) before (during ++ c ∷ [])) ≤ 1)
     -- what the read shows
-    pub shows : (before during until rest : List Call) (d s : ℕ) (end : Call) (room : List ℕ)
-        → calls ≡ before ++ startRead d s ∷ during ++ end ∷ until ++ show d room ∷ rest
-        → EndedBy d (startRead d s) before during end
-        → rests caps (shownAt (startRead d s) before during end []) d until ≡ true
+    pub shows : (μ : Manner) (before during until rest : List Call) (d s : ℕ) (end : Call)
+        (room : List ℕ)
+        → calls ≡ before ++ startOf μ d s ∷ during ++ end ∷ until ++ show d room ∷ rest
+        → EndedBy d (startOf μ d s) before during end
+        → rests caps (shownAt (startOf μ d s) before during end []) d until ≡ true
         → 10 + 9 * count s ≤ length room
-        → Shows calls d s before during end until room
+        → Shows calls μ d s before during end until room
     -- 'Each write is later than every entry its desk was shown before' (document 02, P1): whatever
     -- a read showed is older than each write that its client starts after the showing
-    pub wins : (before during until between rest : List Call) (d s : ℕ) (end : Call) (room : List ℕ)
-        (v : ℕ) (bytes : List ℕ)
-        → calls ≡ before ++ startRead d s ∷ during ++ end ∷ until ++ show d room ∷ between
+    pub wins : (μ : Manner) (before during until between rest : List Call) (d s : ℕ) (end : Call)
+        (room : List ℕ) (v : ℕ) (bytes : List ℕ)
+        → calls ≡ before ++ startOf μ d s ∷ during ++ end ∷ until ++ show d room ∷ between
         ++ startWrite d v bytes ∷ rest
-        → EndedBy d (startRead d s) before during end
-        → rests caps (shownAt (startRead d s) before during end []) d until ≡ true
+        → EndedBy d (startOf μ d s) before during end
+        → rests caps (shownAt (startOf μ d s) before during end []) d until ≡ true
         → 10 + 9 * count s ≤ length room
-        → refusal caps (later d (startRead d s) before during end until room between .tables)
+        → refusal caps (later d (startOf μ d s) before during end until room between .tables)
         (startWrite d v bytes) ≡ 0
         → (k : ℕ) → has s k ≡ true
-        → ShownOlder s (outputOfRead d s before during end until room) k
-        (nextStamp (later d (startRead d s) before during end until room between .tables) d)
+        → ShownOlder s (outputOfRead μ d s before during end until room) k
+        (nextStamp (later d (startOf μ d s) before during end until room between .tables) d)
     -- what a write shows: a frame of head `20`, client, set, with the write's own number behind it
     pub showsOwn : (before during until rest : List Call) (d z : ℕ) (written : List ℕ)
         (end : Call) (room : List ℕ)
@@ -271,20 +386,31 @@ module _ (caps : Capacities) (w : World) where
         between .tables) d)
     -- 'Two reads of one line by one desk, the second started after the first ended, then show
     -- stamps that never fall' (document 02, P2). The first shows before its client's next start, so
-    -- before the second's.
-    pub neverFalls : (before during until between before′ during′ until′ rest : List Call)
+    -- before the second's. The first may be a fast read, the second not: a fast read's 'stamps may
+    -- fall against earlier reads' (P7).
+    pub neverFalls : (μ : Manner)
+        (before during until between before′ during′ until′ rest : List Call)
         (d s s′ : ℕ) (end end′ : Call) (room room′ : List ℕ)
-        → before′ ≡ before ++ startRead d s ∷ during ++ end ∷ until ++ show d room ∷ between
+        → before′ ≡ before ++ startOf μ d s ∷ during ++ end ∷ until ++ show d room ∷ between
         → calls ≡ before′ ++ startRead d s′ ∷ during′ ++ end′ ∷ until′ ++ show d room′ ∷ rest
-        → EndedBy d (startRead d s) before during end
-        → rests caps (shownAt (startRead d s) before during end []) d until ≡ true
+        → EndedBy d (startOf μ d s) before during end
+        → rests caps (shownAt (startOf μ d s) before during end []) d until ≡ true
         → 10 + 9 * count s ≤ length room
         → EndedBy d (startRead d s′) before′ during′ end′
         → rests caps (shownAt (startRead d s′) before′ during′ end′ []) d until′ ≡ true
         → 10 + 9 * count s′ ≤ length room′
         → (k : ℕ) → has s k ≡ true → has s′ k ≡ true
-        → Falls s (outputOfRead d s before during end until room) s′
-        (outputOfRead d s′ before′ during′ end′ until′ room′) k → ⊥
+        → Falls s (outputOfRead μ d s before during end until room) s′
+        (outputOfRead ordinary d s′ before′ during′ end′ until′ room′) k → ⊥
+    -- what is latest of a line: no older than a write of the line whose commit its cabinet has got,
+    -- and what such a commit brought, where it isn't w's own still (in freshly made tables initial)
+    pub latestCommitted : (before rest : List Call) → calls ≡ before ++ rest → (k : ℕ)
+        → ((a : Write) → In a (after caps w before .writes) → has (a .set) k ≡ true
+        → DeliveredBy before (Commit (partitionOf (w .tables) k) (a .stamp))
+        → a .stamp ≤ after caps w before .tables .latest k .stamp)
+        × ((after caps w before .tables .latest k .stamp ≡ w .tables .latest k .stamp)
+        ⊎ DeliveredBy before (Commit (partitionOf (w .tables) k)
+        (after caps w before .tables .latest k .stamp)))
     -- a clearing 'returns how many went' (document 02, P5): it is accepted, and so many versions
     -- fewer are stored after it
     pub clears : (before rest : List Call) → calls ≡ before ++ clear ∷ rest

@@ -10,10 +10,10 @@ use Rattle.basics.specs.Lists.{without}
 use Rattle.protocol.specs.declared.Message.{Message}
 use Rattle.protocol.specs.declared.Message.the-variants.{Commit}
 use Rattle.protocol.specs.declared.Answer.{Answer}
-use Rattle.protocol.specs.declared.Answer.the-variants.{Refused, Made, Started, Delivered}
-use Rattle.protocol.specs.declared.Answer.the-variants.{Shown, Cleared, HandedOver, Compared}
+use Rattle.protocol.specs.declared.Answer.the-variants.{Refused, Made, Started, Delivered, Shown}
+use Rattle.protocol.specs.declared.Answer.the-variants.{Cleared, HandedOver, Compared}
 use Rattle.protocol.specs.Tables.{Tables, Sizes, WritePart, fresh}
-use Rattle.protocol.specs.Message.{isGet, isGot, itemOf}
+use Rattle.protocol.specs.Message.{isGot, isFirstReply, isAnyGet, isAnyGot, itemOf}
 use Rattle.protocol.specs.Range.{Capacities}
 use Rattle.protocol.specs.Calls.{isStart, Call, refusal, Origin, nobody, starts, follows, Effects}
 use Rattle.protocol.specs.Calls.{effects, effect, step}
@@ -150,16 +150,26 @@ leavingOver caps w (c ∷ cs) = cond (accepts caps w c) (leaving w c) [] ++ leav
 
 -- ---- Whose, and of which item
 
--- a request and a reply of client d, by its label
+-- a request and a reply of client d, by its label: a get and a got, of either kind
 abbrev pub isRequest : ℕ → Labelled → Bool
-isRequest d l = eqb (l .label .client) d && isGet (l .message)
+isRequest d l = eqb (l .label .client) d && isAnyGet (l .message)
 
 abbrev pub isReply : ℕ → Labelled → Bool
-isReply d l = eqb (l .label .client) d && isGot (l .message)
+isReply d l = eqb (l .label .client) d && isAnyGot (l .message)
 
--- a reply of client d for item k, and a get or got of that client and item
+-- of client d for item k: a request, a reply, and either of the two
+abbrev pub isRequestFor : ℕ → ℕ → Labelled → Bool
+isRequestFor d k l = isRequest d l && eqb (itemOf (l .message)) k
+
 abbrev pub isReplyFor : ℕ → ℕ → Labelled → Bool
 isReplyFor d k l = isReply d l && eqb (itemOf (l .message)) k
+
+-- a reply of one kind: a first reply, a got
+abbrev pub isFirstReplyFor : ℕ → ℕ → Labelled → Bool
+isFirstReplyFor d k l = isReplyFor d k l && isFirstReply (l .message)
+
+abbrev pub isGotFor : ℕ → ℕ → Labelled → Bool
+isGotFor d k l = isReplyFor d k l && isGot (l .message)
 
 abbrev pub isReadMessage : ℕ → ℕ → Labelled → Bool
 isReadMessage d k l = (isRequest d l || isReply d l) && eqb (itemOf (l .message)) k

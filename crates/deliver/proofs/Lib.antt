@@ -3,7 +3,9 @@
 pub mod Rows
 pub mod Struck
 pub mod Replied
+pub mod Answered
 pub mod Got
+pub mod First
 pub mod Worked
 pub mod Delivered
 pub mod Past

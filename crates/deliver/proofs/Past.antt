@@ -1,6 +1,6 @@
 -- A delivery keeps the block's length, and every word past the length that a block needs.
 use mathlib.Core.Bool.{_&&_}
-use mathlib.Core.List.{List, []}
+use mathlib.Core.List.{List}
 use Prim.Native.Nat.{ℕ, _+_, _-_, _*_, _%_, _≤_, _<_}
 use native.Mathlib.Omega.{arith}
 use lib.Dec.{eqb, ltb, lit<}
@@ -9,9 +9,11 @@ use borrow.Author.Tests.{ltb-true}
 use Rattle.basics.proofs.Cases.{and-right}
 use Rattle.itemset.specs.Set.{remove}
 use Rattle.protocol.specs.declared.Version.{Version}
+use Rattle.protocol.specs.declared.Entry.{Entry}
 use Rattle.protocol.specs.declared.Message.{Message}
 use Rattle.protocol.specs.declared.Message.the-variants.{Prepare, Prepared, Commit, Get, Got}
-use Rattle.protocol.specs.Tables.{writerOf}
+use Rattle.protocol.specs.declared.Message.the-variants.{FirstGet, FirstReply}
+use Rattle.protocol.specs.Tables.{entryOf, writerOf}
 use Rattle.protocol.proofs.Put.{by-cond}
 use Rattle.layout.specs.Layout.{mostMessages, messageWords, scalars, latest, views, values}
 use Rattle.layout.specs.Layout.{versions, messages, base, at, messagesAt, awaitedAt, latestAt}
@@ -20,16 +22,17 @@ use Rattle.layout.specs.Decode.{versionIn}
 use Rattle.layout.specs.Store.{takeOut}
 use Rattle.slots.proofs.Runs.{run-length, run-behind}
 use Rattle.layout.proofs.Past.{SamePast, past-none, past-trans, past-when, past-each, past-store}
-use Rattle.layout.proofs.Past.{past-entry}
-use Rattle.ends.proofs.Past.{past-keep, past-send, past-scalar, past-read-ended}
-use Rattle.ends.proofs.Past.{past-write-ended}
+use Rattle.layout.proofs.Past.{past-entry, past-first}
+use Rattle.slots.proofs.PastLists.{past-keep, past-send}
+use Rattle.ends.proofs.Past.{past-scalar, past-read-ended, past-write-ended}
+use Rattle.second_part.proofs.Past.{past-second}
 use Rattle.slots.specs.Room.{keep}
 use Rattle.commit.specs.Commit.{commitVersion, commitDelivered}
 use Rattle.deliver.specs.declared.Counts.{Counts}
 use Rattle.deliver_tests.specs.Tests.{Bounded}
 use Rattle.deliver.specs.Deliver.{prepareDelivered, preparedDelivered}
-use Rattle.deliver.specs.Deliver.{getDelivered, keptAnswer, gotDelivered}
-use Rattle.deliver.specs.Deliver.{messageDelivered}
+use Rattle.deliver.specs.Deliver.{getDelivered, keptAnswer, gotDelivered, firstGetDelivered}
+use Rattle.deliver.specs.Deliver.{keptFirst, firstDelivered, messageDelivered}
 
 past-take-out : (b : List ℕ) (n i : ℕ) → i < n → n ≤ mostMessages → SamePast b (takeOut b n i)
 unfolding takeOut
@@ -45,10 +48,16 @@ past-take-out b n i l h =
 
 -- ---- messages
 
+past-answer : (b : List ℕ) (d : ℕ) (v : Version) (e : Entry) → 1 ≤ d → d ≤ 8 → v .item < 64
+    → SamePast b (keptAnswer b d v e)
+past-answer b d v e first last l =
+    past-trans (past-entry b views (viewAt d (v .item)) _ (omega arith))
+    (past-store _ values (itemAt d (v .item)) (v .value) (omega arith))
+
 past-work : (b : List ℕ) (n : Counts) (found : Version) (m : Message) → n .items ≤ 64 → Bounded m
     → SamePast b (messageDelivered b n found m)
 unfolding messageDelivered prepareDelivered preparedDelivered commitDelivered getDelivered
-    gotDelivered
+    gotDelivered firstGetDelivered firstDelivered
 past-work b n found (Prepare v) h r =
     past-trans (past-keep b v) (past-send (keep b v) (Prepared (v .item) (v .stamp)))
 past-work b n found (Prepared k stamp) h r =
@@ -69,13 +78,20 @@ past-work b n found (Commit p stamp) h r =
     (λ e. past-none c)))
 past-work b n found (Get d k stamp) h r = past-send b _
 past-work b n found (Got d v entry) h r =
-    past-trans
-    (past-trans (past-entry b views (viewAt d (v .item)) _ (omega arith))
-    (past-store _ values (itemAt d (v .item)) (v .value) (omega arith)))
+    past-trans (past-answer b d v entry (r .0) (r .1) (r .2))
     (by-cond (SamePast (keptAnswer b d v entry))
     (eqb (remove (at b scalars (awaitedAt d)) (v .item)) 0) _ _
     (λ e. past-read-ended d (r .0) (r .1) (keptAnswer b d v entry) (n .items) h)
     (λ e. past-scalar d (r .0) (r .1) (keptAnswer b d v entry) 3 _ (lit< tt)))
+past-work b n found (FirstGet d k) h r = past-send b _
+past-work b n found (FirstReply d v entry) h r =
+    past-trans
+    (past-trans (past-answer b d v entry (r .0) (r .1) (r .2))
+    (past-first d (r .0) (r .1) (keptAnswer b d v entry) (v .item) (entryOf v) (r .2)))
+    (by-cond (SamePast (keptFirst b d v entry))
+    (eqb (remove (at b scalars (awaitedAt d)) (v .item)) 0) _ _
+    (λ e. past-second d (r .0) (r .1) (keptFirst b d v entry) (n .items) h)
+    (λ e. past-scalar d (r .0) (r .1) (keptFirst b d v entry) 3 _ (lit< tt)))
 
 -- of n messages the one at place i
 pub past-deliver : (b : List ℕ) (n i : ℕ) (counts : Counts) (found : Version) (m : Message) → i < n

@@ -12,13 +12,15 @@ use Rattle.protocol.specs.declared.Version.{Version}
 use Rattle.protocol.specs.declared.Entry.{Entry}
 use Rattle.protocol.specs.declared.Message.{Message}
 use Rattle.protocol.specs.declared.Message.the-variants.{Prepare, Prepared, Commit, Get, Got}
+use Rattle.protocol.specs.declared.Message.the-variants.{FirstGet, FirstReply}
 use Rattle.protocol.specs.Tables.{Tables, ofRead, withVersions, withMessages}
 use Rattle.protocol.specs.Steps.{version, found, delivered, joined, isLast, commits}
 use Rattle.protocol.proofs.Ranges.Values.{MessageInRange}
 use Rattle.protocol.proofs.Ranges.Tables.{InRange}
 use Rattle.protocol.proofs.Ranges.Clients.{ClientInRange}
-use Rattle.protocol.proofs.Refusals.{Expected, tells-prepared, tells-got}
+use Rattle.protocol.proofs.Refusals.{Expected, tells-prepared, tells-got, tells-first-reply}
 use Rattle.protocol.proofs.Commits.{no-commits}
+use Rattle.layout.specs.Decode.{latestIn}
 use Rattle.layout.specs.Encodes.{Encodes}
 use Rattle.layout.proofs.Room.{HasRoom}
 use Rattle.layout.proofs.Parts.{awaits-answer, writes-nothing}
@@ -28,11 +30,12 @@ use Rattle.deliver_tests.proofs.TestedTables.{answerOf}
 use Rattle.slots.proofs.EncodesRoom.{encodes-keep, encodes-send}
 use Rattle.layout.specs.Layout.{mostVersions, mostMessages}
 use Rattle.deliver.specs.declared.Counts.{Counts}
-use Rattle.deliver.specs.Deliver.{prepareDelivered, getDelivered}
-use Rattle.deliver.specs.Deliver.{gotDelivered, messageDelivered}
+use Rattle.deliver.specs.Deliver.{prepareDelivered, getDelivered, gotDelivered}
+use Rattle.deliver.specs.Deliver.{firstGetDelivered, messageDelivered}
 use Rattle.commit.proofs.Committed.{latest-held, encodes-committed}
 use Rattle.deliver.proofs.Replied.{encodes-prepared}
 use Rattle.deliver.proofs.Got.{encodes-got}
+use Rattle.deliver.proofs.First.{encodes-first}
 
 abbrev pub countsOf : Tables → Counts
 countsOf t = record {
@@ -63,21 +66,16 @@ module _ {b : List ℕ} (t : Tables) (ms : List Message) (n : Encodes b (withMes
       })
       (omega (arith, length-append ms (Prepared (v .item) (v .stamp) ∷ [])))
 
-  -- the reply to a get, with the version found
-  abbrev replyWith : ℕ → ℕ → ℕ → Version → Message
-  replyWith d k stamp v = Got d (version k (v .value) stamp (v .set)) (t .latest k)
-
-  encodes-get : (d k stamp : ℕ) (v : Version) → k < t .sizes .items
-      → length (ms ++ replyWith d k stamp v ∷ []) ≤ mostMessages
-      → Encodes (getDelivered b v d k stamp) (withMessages t (ms ++ replyWith d k stamp v ∷ []))
-  unfolding getDelivered
-  encodes-get d k stamp v item room =
+  -- a reply to a get that is made with the item's latest
+  encodes-reply : (made : Entry → Message) (k : ℕ) → k < t .sizes .items
+      → length (ms ++ made (t .latest k) ∷ []) ≤ mostMessages
+      → Encodes (send b (made (latestIn b k))) (withMessages t (ms ++ made (t .latest k) ∷ []))
+  encodes-reply made k item room =
       subst
-      (λ (e : Entry). Encodes (send b (Got d (version k (v .value) stamp (v .set)) e))
-      (withMessages t (ms ++ replyWith d k stamp v ∷ [])))
+      (λ (e : Entry). Encodes (send b (made e)) (withMessages t (ms ++ made (t .latest k) ∷ [])))
       (sym (latest-held k (n .latest k item)))
-      (encodes-send (replyWith d k stamp v) n r
-      (omega (arith, length-append ms (replyWith d k stamp v ∷ []))))
+      (encodes-send (made (t .latest k)) n r
+      (omega (arith, length-append ms (made (t .latest k) ∷ []))))
 
   -- with no write part no commit joins
   got-joins : (d : ℕ) (v : Version) → ClientInRange (t .sizes) (t .client d)
@@ -96,7 +94,7 @@ module _ {b : List ℕ} (t : Tables) (ms : List Message) (n : Encodes b (withMes
       → length (delivered t m .versions) ≤ mostVersions → length (ms ++ joined t m) ≤ mostMessages
       → Encodes (messageDelivered b (countsOf t) v m)
       (withMessages (delivered t m) (ms ++ joined t m))
-  unfolding messageDelivered delivered joined answerOf
+  unfolding messageDelivered getDelivered firstGetDelivered delivered joined answerOf
   encodes-work (Prepare v) u z i e same versions messages = encodes-prepare v versions messages
   encodes-work (Prepared k stamp) u z i e same versions messages =
       let w = i .written (omega arith) .writer in
@@ -110,16 +108,26 @@ module _ {b : List ℕ} (t : Tables) (ms : List Message) (n : Encodes b (withMes
       (sym (append-nil ms))
       (encodes-committed (withMessages t ms) r p stamp n (λ v h. z .versions v h .item))
   encodes-work (Get d k stamp) v z i e same versions messages =
-      let answer = found (t .versions) k stamp in
-      subst (λ (x : Version). Encodes (getDelivered b x d k stamp)
-      (withMessages t (ms ++ replyWith d k stamp answer ∷ []))) (sym same)
-      (encodes-get d k stamp answer (i .item) messages)
+      let u = found (t .versions) k stamp in
+      rw same
+      (encodes-reply (Got d (version k (u .value) stamp (u .set))) k (i .item) messages)
   encodes-work (Got d v latest) u z i e same versions messages =
       let w = i .client (omega arith) in
-      let awaited = tells-got t d v latest .0 e .awaited in
+      let x = tells-got t d v latest .0 e in
+      let awaited = x .awaited in
       subst (λ (x : List Message). Encodes (gotDelivered b (t .sizes .items) d v latest)
       (withMessages (delivered t (Got d v latest)) x))
       (sym (ap (λ (x : List Message). ms ++ x)
       (got-joins d v (z .client d w) awaited)
       ∙ append-nil ms))
-      (encodes-got d v latest n r (w .0) (w .1) (i .item) (z .client d w) awaited)
+      (encodes-got d v latest n r (w .0) (w .1) (i .item) (z .client d w) (x .byStamp) awaited)
+  encodes-work (FirstGet d k) v z i e same versions messages =
+      let u = found (t .versions) k (t .latest k .stamp) in
+      rw same
+      (encodes-reply (λ x. FirstReply d (version k (u .value) (x .stamp) (u .set)) x) k (i .item)
+      messages)
+  encodes-work (FirstReply d v latest) u z i e same versions messages =
+      let w = i .client (omega arith) in
+      let x = tells-first-reply t d v latest .0 e in
+      encodes-first t ms d v latest n r (w .0) (w .1) (i .item) (z .client d w) (x .byItem)
+      (x .awaited) messages

@@ -1,6 +1,6 @@
--- The five deliveries as changes of the block.
+-- The seven deliveries as changes of the block.
 use mathlib.Core.Bool.{cond}
-use mathlib.Core.List.{List, []}
+use mathlib.Core.List.{List}
 use Prim.Native.Nat.{ℕ}
 use lib.Dec.{eqb}
 use Rattle.itemset.specs.Set.{remove}
@@ -8,17 +8,19 @@ use Rattle.protocol.specs.declared.Version.{Version}
 use Rattle.protocol.specs.declared.Entry.{Entry}
 use Rattle.protocol.specs.declared.Message.{Message}
 use Rattle.protocol.specs.declared.Message.the-variants.{Prepare, Prepared, Commit, Get, Got}
-use Rattle.protocol.specs.Tables.{writerOf}
+use Rattle.protocol.specs.declared.Message.the-variants.{FirstGet, FirstReply}
+use Rattle.protocol.specs.Tables.{entryOf, writerOf}
 use Rattle.protocol.specs.Steps.{version, offered}
 use Rattle.layout.specs.Layout.{header, scalars, values, at, store, partitionsAt, itemsAt}
 use Rattle.layout.specs.Layout.{versionsAt, messagesAt, awaitedAt, itemAt}
 use Rattle.layout.specs.Decode.{latestIn, viewIn, messageIn}
-use Rattle.layout.specs.Store.{storeView, takeOut}
+use Rattle.layout.specs.Store.{storeView, storeFirst, takeOut}
 use Rattle.slots.specs.Room.{keep, send}
 use Rattle.commit.specs.Commit.{commitDelivered}
 use Rattle.deliver.specs.declared.Counts.{Counts}
 use Rattle.deliver_tests.specs.Tests.{testedIn}
 use Rattle.ends.specs.Ends.{readEnded, writeEnded}
+use Rattle.second_part.specs.SecondPart.{secondBegun}
 
 -- ---- Prepare: the version is stored, the reply joins
 
@@ -53,6 +55,25 @@ gotDelivered b items d v latest =
     let kept = keptAnswer b d v latest in
     cond (eqb rest 0) (readEnded kept items d) (store kept scalars (awaitedAt d) rest)
 
+-- ---- First get: the reply joins, with the version found, of the latest's stamp
+
+unfoldable pub firstGetDelivered : List ℕ → Version → ℕ → ℕ → List ℕ
+firstGetDelivered b v d k =
+    let e = latestIn b k in
+    send b (FirstReply d (version k (v .value) (e .stamp) (v .set)) e)
+
+-- ---- First reply: as a got, and its version's stamp and set are kept too; with the last one the
+-- first part is over
+
+abbrev pub keptFirst : List ℕ → ℕ → Version → Entry → List ℕ
+keptFirst b d v latest = storeFirst (keptAnswer b d v latest) d (v .item) (entryOf v)
+
+unfoldable pub firstDelivered : List ℕ → ℕ → ℕ → Version → Entry → List ℕ
+firstDelivered b items d v latest =
+    let rest = remove (at b scalars (awaitedAt d)) (v .item) in
+    let kept = keptFirst b d v latest in
+    cond (eqb rest 0) (secondBegun kept items d) (store kept scalars (awaitedAt d) rest)
+
 -- ---- the message at place i is taken out, and does its work
 
 unfoldable pub messageDelivered : List ℕ → Counts → Version → Message → List ℕ
@@ -63,6 +84,8 @@ messageDelivered b n found (Commit p stamp) =
     commitDelivered b (n .partitions) (n .versions) p stamp
 messageDelivered b n found (Get d k stamp) = getDelivered b found d k stamp
 messageDelivered b n found (Got d v latest) = gotDelivered b (n .items) d v latest
+messageDelivered b n found (FirstGet d k) = firstGetDelivered b found d k
+messageDelivered b n found (FirstReply d v latest) = firstDelivered b (n .items) d v latest
 
 abbrev pub countsIn : List ℕ → Counts
 countsIn b =

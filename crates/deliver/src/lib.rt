@@ -53,6 +53,12 @@ fn work(b: &mut [u64], counts: Counts, found: Version, m: Message)
             version,
             latest,
         } => replies::got(b, counts.items, client, version, latest),
+        Message::FirstGet { client, item } => requests::first_get(b, found, client, item),
+        Message::FirstReply {
+            client,
+            version,
+            latest,
+        } => replies::first_reply(b, counts.items, client, version, latest),
     }
 }
 

@@ -1,19 +1,24 @@
-// Prepared and got replies: each strikes its item from those awaited, and the last one ends the
-// transaction.
+// Prepared and got replies and first replies: each strikes its item from those awaited, and the
+// last one ends the transaction, or the first part of a fast read.
 ghost use mathlib.Core.Path.{_≡_};
 ghost use Prim.Native.Nat.{_≤_, _<_};
+ghost use lib.ListN.{length};
 ghost use Rattle.protocol.specs.Tables.{writerOf};
+ghost use Rattle.layout.specs.Layout.{needed};
 ghost use Rattle.deliver.specs.Deliver.{preparedDelivered, keptAnswer, gotDelivered};
+ghost use Rattle.deliver.specs.Deliver.{keptFirst, firstDelivered};
 use client_fields::awaited;
 use client_fields::put_awaited;
 use client_fields::put_value;
 use ends::read::read_end;
 use ends::write::write_end;
 use itemset::remove;
+use layout::entry::put_first;
 use layout::entry::put_view;
 use layout::entry::view;
 use protocol::Entry;
 use protocol::Version;
+use second_part::second_part;
 
 // The prepared reply for `item`, to the client of this stamp.
 pub fn prepared(b: &mut [u64], partitions: u64, items: u64, item: u64, stamp: u64)
@@ -50,6 +55,37 @@ pub fn got(b: &mut [u64], items: u64, d: u64, v: Version, latest: Entry)
     answer(b, d, v, latest);
     if rest == 0 {
         read_end(b, items, d);
+    } else {
+        put_awaited(b, d, rest);
+    }
+}
+
+// The version is the answer so far, and its stamp and set are kept.
+fn keep_first(b: &mut [u64], d: u64, v: Version, latest: Entry)
+    requires { ⌜ (1 ≤ d) × (d ≤ 8) × (v .item < 64) ⌝ }
+    ensures { λ _. ⌜ now (b .exit) ≡ keptFirst (now (b .entry)) d v latest ⌝ }
+{
+    answer(b, d, v, latest);
+    put_first(
+        b,
+        d,
+        v.item,
+        Entry {
+            stamp: v.stamp,
+            set: v.set,
+        },
+    );
+}
+
+// The first reply to client `d` (document 02, P7).
+pub fn first_reply(b: &mut [u64], items: u64, d: u64, v: Version, latest: Entry)
+    requires { ⌜ (items ≤ 64) × (1 ≤ d) × (d ≤ 8) × (v .item < 64) × (needed ≤ length (now b)) ⌝ }
+    ensures { λ _. ⌜ now (b .exit) ≡ firstDelivered (now (b .entry)) items d v latest ⌝ }
+{
+    let rest = remove(awaited(b, d), v.item);
+    keep_first(b, d, v, latest);
+    if rest == 0 {
+        second_part(b, items, d);
     } else {
         put_awaited(b, d, rest);
     }

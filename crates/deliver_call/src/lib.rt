@@ -10,6 +10,7 @@ ghost use Rattle.block_calls.specs.Calls.{refusalOn, answerOn, blockAfter, tabl
 use deliver::Counts;
 use deliver::deliver_message;
 use deliver_tests::Tested;
+use deliver_tests::outcome;
 use deliver_tests::test;
 use messages::kind;
 use messages::message;
@@ -33,10 +34,11 @@ fn deliver_on(b: &mut [u64], i: u64, t: Tested, m: Message) -> Answer
     let messages = layout::message_count(b);
     deliver_message(b, messages, i, counts, t.found, m);
     let length = layout::message_count(b);
+    let outcome = outcome(b, m);
     Answer::Delivered {
         kind,
         length,
-        outcome: t.outcome,
+        outcome,
     }
 }
 

@@ -1,4 +1,4 @@
 -- What is told of a message is what the tables say.
-pub mod Rows
 pub mod Bounds
 pub mod TestedTables
+pub mod Outcomes

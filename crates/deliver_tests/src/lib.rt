@@ -1,33 +1,38 @@
-// What is told of a message before it is delivered: refusal 11 or 12, the outcome, and the version
-// that answers a get.
-ghost use mathlib.Core.Bool.{cond, _||_};
+// What is told of a message: before it is delivered refusal 11 or 12 and the version that answers a
+// get, and after it the outcome.
+ghost use mathlib.Core.Bool.{cond};
 ghost use mathlib.Core.Path.{_≡_};
 ghost use Prim.Native.Nat.{_≤_, _<_};
-ghost use lib.Dec.{eqb};
 ghost use lib.ListN.{length};
-ghost use Rattle.basics.specs.Lists.{table};
-ghost use Rattle.protocol.specs.Steps.{stored, found};
-ghost use Rattle.layout.specs.Decode.{versionIn};
-ghost use Rattle.deliver_tests.specs.Tests.{Bounded, told, replyTested, testedIn};
+ghost use Rattle.protocol.specs.Tables.{writerOf};
 ghost use Rattle.layout.specs.Layout.{mostVersions, needed};
+ghost use Rattle.deliver_tests.specs.Tests.{Bounded, replyTested, getTested, rightPrepared};
+ghost use Rattle.deliver_tests.specs.Tests.{rightGot, testedIn, over, outcomeIn};
 use client_fields::asked;
 use client_fields::awaited;
 use client_fields::mode;
 use client_fields::stamp;
 use itemset::has;
-use itemset::remove;
+use layout::FIRST_PART;
+use layout::IDLE;
+use layout::READING;
+use layout::SECOND_PART;
+use layout::WRITING;
+use layout::entry::latest;
 use protocol::Message;
 use protocol::Version;
+use protocol::outcome::NONE_ENDED;
+use protocol::outcome::READ_ENDED;
+use protocol::outcome::WRITE_ENDED;
 use versions::Found;
 use versions::find;
 use versions::is_stored;
 use versions::version;
 
-// What is told of a message before it is delivered: the refusal (11, 12 or 0), the outcome (0 none
-// ended, 1 a read ended, 2 a write ended), and the version that answers a get.
+// What is told of a message before it is delivered: the refusal (11, 12 or 0), and the version that
+// answers a get.
 pub struct Tested {
     pub refusal: u64,
-    pub outcome: u64,
     pub found: Version,
 }
 
@@ -45,15 +50,13 @@ fn pick(test: bool, yes: u64, no: u64) -> u64
     if test { yes } else { no }
 }
 
-// A reply for `item` to client `d`, which is to be in this mode; its stamp is right or not.
-fn reply(b: &[u64], d: u64, kind: u64, item: u64, right: bool) -> Tested
+// A reply for `item` to client `d`, right in mode and stamp or not.
+fn reply(b: &[u64], d: u64, item: u64, right: bool) -> Tested
     requires { ⌜ (1 ≤ d) × (d ≤ 8) ⌝ }
-    ensures { λ r. ⌜ r ≡ replyTested (now (b .entry)) d kind item right ⌝ }
+    ensures { λ r. ⌜ r ≡ replyTested (now (b .entry)) d item right ⌝ }
 {
-    let rest = awaited(b, d);
     Tested {
-        refusal: pick((mode(b, d) == kind) & has(rest, item) & right, 0, 11),
-        outcome: pick(remove(rest, item) == 0, kind, 0),
+        refusal: pick(has(awaited(b, d), item) & right, 0, 11),
         found: NONE,
     }
 }
@@ -62,19 +65,16 @@ fn reply(b: &[u64], d: u64, kind: u64, item: u64, right: bool) -> Tested
 // stored, and its value and set.
 fn get(b: &[u64], n: u64, item: u64, stamp: u64) -> Tested
     requires { ⌜ (n ≤ mostVersions) × (needed ≤ length (now b)) ⌝ }
-    ensures { λ r. ⌜ r ≡ told (cond (eqb stamp 0 || stored (table n (versionIn (now (b .entry))))
-        item stamp) 0 12) 0 (found (table n (versionIn (now (b .entry)))) item stamp) ⌝ }
+    ensures { λ r. ⌜ r ≡ getTested (now (b .entry)) n item stamp ⌝ }
 {
     let place = find(b, n, item, stamp);
     match place {
         Found::At(i) => Tested {
             refusal: 0,
-            outcome: 0,
             found: version(b, i),
         },
         Found::Nothing => Tested {
             refusal: pick(stamp == 0, 0, 12),
-            outcome: 0,
             found: Version {
                 item,
                 value: 0,
@@ -85,6 +85,23 @@ fn get(b: &[u64], n: u64, item: u64, stamp: u64) -> Tested
     }
 }
 
+// Whether a got of `item` with this stamp is one that client `d` awaits in its mode.
+fn is_asked(b: &[u64], d: u64, item: u64, stamp: u64) -> bool
+    requires { ⌜ (1 ≤ d) × (d ≤ 8) × (item < 64) ⌝ }
+    ensures { λ r. ⌜ r ≡ rightGot (now (b .entry)) d item stamp ⌝ }
+{
+    let mode = mode(b, d);
+    ((mode == READING) | (mode == SECOND_PART)) & (asked(b, d, item) == stamp)
+}
+
+// Whether a prepared reply with stamp `s` is one that its client awaits in its mode.
+fn is_written(b: &[u64], s: u64) -> bool
+    requires { ⌜ (1 ≤ writerOf s) × (writerOf s ≤ 8) ⌝ }
+    ensures { λ r. ⌜ r ≡ rightPrepared (now (b .entry)) s ⌝ }
+{
+    (mode(b, s % 16) == WRITING) & (stamp(b, s % 16) == s)
+}
+
 // Message `m`, with `n` stored versions.
 pub fn test(b: &[u64], n: u64, m: Message) -> Tested
     requires { ⌜ (n ≤ mostVersions) × Bounded m × (needed ≤ length (now b)) ⌝ }
@@ -93,16 +110,14 @@ pub fn test(b: &[u64], n: u64, m: Message) -> Tested
     match m {
         Message::Prepare(v) => Tested {
             refusal: pick(is_stored(b, n, v.item, v.stamp), 11, 0),
-            outcome: 0,
             found: NONE,
         },
-        Message::Prepared { item, stamp: s } => reply(b, s % 16, 2, item, stamp(b, s % 16) == s),
+        Message::Prepared { item, stamp: s } => reply(b, s % 16, item, is_written(b, s)),
         Message::Commit {
             partition: _,
             stamp: _,
         } => Tested {
             refusal: 0,
-            outcome: 0,
             found: NONE,
         },
         Message::Get {
@@ -114,6 +129,51 @@ pub fn test(b: &[u64], n: u64, m: Message) -> Tested
             client,
             version: v,
             latest: _,
-        } => reply(b, client, 1, v.item, asked(b, client, v.item) == v.stamp),
+        } => reply(b, client, v.item, is_asked(b, client, v.item, v.stamp)),
+        Message::FirstGet { client: _, item } => get(b, n, item, latest(b, item).stamp),
+        Message::FirstReply {
+            client,
+            version: v,
+            latest: _,
+        } => reply(b, client, v.item, mode(b, client) == FIRST_PART),
+    }
+}
+
+// The outcome of a reply to client `d`, after its delivery: this one where it was the last.
+fn over(b: &[u64], d: u64, outcome: u64) -> u64
+    requires { ⌜ (1 ≤ d) × (d ≤ 8) ⌝ }
+    ensures { λ r. ⌜ r ≡ over (now (b .entry)) d outcome ⌝ }
+{
+    pick(mode(b, d) == IDLE, outcome, NONE_ENDED)
+}
+
+// The outcome of message `m`, after its delivery.
+pub fn outcome(b: &[u64], m: Message) -> u64
+    requires { ⌜ Bounded m ⌝ }
+    ensures { λ r. ⌜ r ≡ outcomeIn (now (b .entry)) m ⌝ }
+{
+    match m {
+        Message::Prepare(_) => NONE_ENDED,
+        Message::Prepared { item: _, stamp: s } => over(b, s % 16, WRITE_ENDED),
+        Message::Commit {
+            partition: _,
+            stamp: _,
+        } => NONE_ENDED,
+        Message::Get {
+            client: _,
+            item: _,
+            stamp: _,
+        } => NONE_ENDED,
+        Message::Got {
+            client,
+            version: _,
+            latest: _,
+        } => over(b, client, READ_ENDED),
+        Message::FirstGet { client: _, item: _ } => NONE_ENDED,
+        Message::FirstReply {
+            client,
+            version: _,
+            latest: _,
+        } => over(b, client, READ_ENDED),
     }
 }

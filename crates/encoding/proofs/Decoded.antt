@@ -1,12 +1,12 @@
 -- A block that holds tables decodes to them, where they are initial outside their sizes and sets.
 use mathlib.Core.Bool.{true, false, cond, _&&_}
 use mathlib.Core.List.{List}
-use mathlib.Core.Path.{_≡_, refl, sym, fun-ext}
+use mathlib.Core.Path.{_≡_, refl, sym, ap, _∙_, fun-ext}
 use Prim.Native.Nat.{ℕ, _+_, _≤_, min}
 use native.Mathlib.Omega.{arith}
-use lib.Dec.{leb}
+use lib.Dec.{eqb}
 use lib.ListN.{length}
-use borrow.Author.Tests.{ltb-true}
+use borrow.Author.Tests.{ltb-true, eqb-false, ne-eqb}
 use Rattle.basics.proofs.Cases.{by-test, between}
 use Rattle.basics.specs.Lists.{table}
 use Rattle.itemset.specs.Set.{has}
@@ -14,20 +14,21 @@ use Rattle.protocol.specs.declared.Entry.{Entry}
 use Rattle.protocol.specs.declared.Message.the-variants.{Commit}
 use Rattle.protocol.specs.Tables.{Sizes, Tables, Client, ReadPart, WritePart, noRead, noWrite}
 use Rattle.protocol.specs.Tables.{Ended, nothing, showsRead, showsWrite, initial, resting}
-use Rattle.protocol.specs.Range.{capacities, isClient, isItem, isIdle, isWriting, load}
+use Rattle.protocol.specs.Range.{capacities, isClient, isItem, isIdle, isWriting, hasFirst, load}
 use Rattle.protocol.specs.Range.{occupied, valid}
+use Rattle.protocol.proofs.FastRead.{first-same}
 use Rattle.protocol.specs.Steps.{version}
 use Rattle.protocol.proofs.Ranges.Clients.{ClientInRange}
 use Rattle.protocol.proofs.Ranges.Tables.{InRange, Valid, valid-facts}
 use Rattle.layout.specs.Layout.{mostVersions, mostMessages}
 use Rattle.layout.specs.Layout.{Section, header, scalars, latest, views, at, messagesAt, versionsAt}
-use Rattle.layout.specs.Layout.{modeAt, lastKindAt, latestAt, viewAt}
-use Rattle.layout.specs.Decode.{sizesIn, latestIn, viewIn, within, readOf, writeOf, readIn, writeIn}
-use Rattle.layout.specs.Decode.{lastReadIn, lastWriteIn, endedIn, clientIn}
-use Rattle.layout.specs.Decode.{versionIn, messageIn, tablesOf}
+use Rattle.layout.specs.Layout.{modeAt, lastKindAt, latestAt, viewAt, isWriteMode}
+use Rattle.layout.specs.Decode.{sizesIn, latestIn, viewIn, within, comeOf, readOf, writeOf, readIn}
+use Rattle.layout.specs.Decode.{writeIn, lastReadIn, lastWriteIn, endedIn, clientIn, versionIn}
+use Rattle.layout.specs.Decode.{messageIn, tablesOf}
 use Rattle.layout.specs.Encodes.{numberOfMode, HoldsEntry, HeldRead, HeldWrite, HoldsEnded}
 use Rattle.layout.specs.Encodes.{HoldsClient, Encodes}
-use Rattle.layout.proofs.Masked.{Only, MaskedEnded, MaskedClient, Masked}
+use Rattle.layout.proofs.Masked.{Only, OnlyCome, MaskedEnded, MaskedClient, Masked}
 use Rattle.layout.proofs.Parts.{mode-writing}
 use Rattle.layout.proofs.Held.{version-held, message-held}
 use Rattle.encoding.proofs.Folds.{table-of}
@@ -39,16 +40,36 @@ only-words : (s : ℕ) (words f : ℕ → ℕ) → ((k : ℕ) → has s k ≡ tr
     → (k : ℕ) → within s words k ≡ f k
 only-words s words f h o k = by-test (has s k) (λ e. rw e (h k e)) (λ e. rw e (sym (o k e)))
 
-read-of : {s awaits : ℕ} {stamps vs : ℕ → ℕ} (p : ReadPart) → HeldRead s awaits stamps vs p
-    → Only (p .set) (p .asked) → Only (p .set) (p .values) → readOf s awaits stamps vs ≡ p
-read-of {s} {awaits} {stamps} {vs} p h asks answers =
+-- the first replies that have come are those of p
+only-come : (p q : ReadPart) → q .set ≡ p .set → q .awaited ≡ p .awaited → q .stage ≡ p .stage
+    → ((k : ℕ) → hasFirst p k ≡ true → q .firsts k ≡ p .firsts k) → OnlyCome p
+    → (k : ℕ) → comeOf q k ≡ p .firsts k
+only-come p q s a n h o k =
+    rw (first-same p q k s a n)
+    (by-test (hasFirst p k) (λ e. rw e (h k e)) (λ e. rw e (sym (o k e))))
+
+read-of : {s awaits stage : ℕ} {stamps vs : ℕ → ℕ} {replies : ℕ → Entry} (p : ReadPart)
+    → HeldRead s awaits stage stamps vs replies p
+    → Only (p .set) (p .asked) → Only (p .set) (p .values) → OnlyCome p
+    → readOf s awaits stage stamps vs replies ≡ p
+read-of {s} {awaits} {stage} {stamps} {vs} {replies} p h asks answers come =
     let σ = fun-ext (only-words (p .set) stamps (p .asked) (h .asked) asks) in
     let ν = fun-ext (only-words (p .set) vs (p .values) (h .values) answers) in
-    rw (h .set, h .awaited) (λ i. record {
+    let φ = fun-ext (only-come p (record {
+      set = p .set;
+      awaited = p .awaited;
+      asked = stamps;
+      values = vs;
+      stage = p .stage;
+      firsts = replies;
+    }) refl refl refl (h .firsts) come) in
+    rw (h .set, h .awaited, h .stage) (λ i. record {
       set = p .set;
       awaited = p .awaited;
       asked = σ i;
       values = ν i;
+      stage = p .stage;
+      firsts = φ i;
     })
 
 write-of : {s awaits stamp : ℕ} {vs : ℕ → ℕ} (p : WritePart) → HeldWrite s awaits stamp vs p
@@ -67,7 +88,7 @@ ended-of b d e h m =
     let kind = at b scalars (lastKindAt d) in
     let read : cond (showsRead kind) (lastReadIn b d) noRead ≡ e .read =
     rw (h .kind) (by-test (showsRead (e .kind))
-    (λ s. rw s (read-of (e .read) (h .read s) (m .asked) (m .answers)))
+    (λ s. rw s (read-of (e .read) (h .read s) (m .asked) (m .answers) (m .firsts)))
     (λ s. rw s (sym (m .hiddenRead s)))) in
     let write : cond (showsWrite kind) (lastWriteIn b d) noWrite ≡ e .write =
     rw (h .kind) (by-test (showsWrite (e .kind))
@@ -75,22 +96,35 @@ ended-of b d e h m =
     (λ s. rw s (sym (m .hiddenWrite s)))) in
     λ i. record { kind = h .kind i; read = read i; write = write i }
 
--- mode 2 is that of no other client
-pub mode-others : (c : Client) → isWriting c ≡ false → leb 2 (numberOfMode c) ≡ false
-mode-others c w = by-test (isIdle c) (λ i. rw i refl) (λ i. rw (i, w) refl)
+-- mode 2 is that of a writing client and of no other
+mode-others : (c : Client) → isWriting c ≡ false → isWriteMode (numberOfMode c) ≡ false
+mode-others c w =
+    by-test (isIdle c) (λ i. rw i refl)
+    (λ i. rw (i, w) (by-test (eqb (c .read .stage) 0) (λ e. rw e refl)
+    (λ e. rw e (ne-eqb (c .read .stage + 2) 2 (omega (arith, eqb-false (c .read .stage) 0 e))))))
+
+pub mode-tells : (b : List ℕ) (d : ℕ) (z : Sizes) (c : Client) → HoldsClient b d c
+    → ClientInRange z c → isWriteMode (at b scalars (modeAt d)) ≡ isWriting c
+mode-tells b d z c h r =
+    ap isWriteMode (h .mode)
+    ∙ by-test (isWriting c) (λ w. ap isWriteMode (mode-writing z c r w) ∙ sym w)
+    (λ w. mode-others c w ∙ sym w)
 
 client-of : (b : List ℕ) (d : ℕ) (z : Sizes) (c : Client) → HoldsClient b d c → MaskedClient c
     → ClientInRange z c → clientIn b d ≡ c
 unfolding clientIn
 client-of b d z c h m r =
     let last = ended-of b d (c .last) (h .last) (m .last) in
-    let parts : (cond (leb 2 (at b scalars (modeAt d))) noRead (readIn b d) ≡ c .read)
-    × (cond (leb 2 (at b scalars (modeAt d))) (writeIn b d) noWrite ≡ c .write) =
+    let writes = isWriteMode (at b scalars (modeAt d)) in
+    let parts : (cond writes noRead (readIn b d) ≡ c .read)
+    × (cond writes (writeIn b d) noWrite ≡ c .write) =
     by-test (isWriting c)
-    (λ w. rw (h .mode, mode-writing z c r w)
+    (λ w. rw (mode-tells b d z c h r ∙ w)
     (sym (m .writing w), write-of (c .write) (h .write w) (m .values)))
-    (λ w. rw (h .mode, mode-others c w)
-    (read-of (c .read) (h .read w) (m .asked) (m .answers), sym (m .others w))) in
+    (λ w. rw (mode-tells b d z c h r ∙ w) (
+      read-of (c .read) (h .read w) (m .asked) (m .answers) (m .firsts),
+      sym (m .others w),
+    )) in
     λ i. record {
       count = h .count i;
       read = parts .0 i;

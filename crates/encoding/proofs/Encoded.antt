@@ -5,21 +5,24 @@ use mathlib.Core.Path.{_≡_, refl, sym, _∙_}
 use Prim.Native.Nat.{ℕ, _<_, min}
 use native.Mathlib.Omega.{arith}
 use lib.ListN.{length, getD}
-use lib.Dec.{eqb, leb}
+use lib.Dec.{eqb}
 use borrow.Author.Tests.{lt-ltb}
 use Rattle.basics.proofs.Cases.{by-test, not-both}
 use Rattle.basics.specs.Lists.{table}
 use Rattle.basics.proofs.Lists.{length-table, table-at}
 use Rattle.itemset.specs.Set.{has}
+use Rattle.protocol.specs.declared.Entry.{Entry}
 use Rattle.protocol.specs.Tables.{Sizes}
 use Rattle.protocol.proofs.Ranges.Clients.{ClientInRange}
 use Rattle.layout.specs.Layout.{mostVersions, mostMessages}
 use Rattle.layout.specs.Layout.{header, scalars, at, messagesAt, versionsAt, modeAt, awaitedAt}
+use Rattle.layout.specs.Layout.{modes, isWriteMode}
 use Rattle.layout.specs.Decode.{sizesIn, readOf, writeOf, endedIn, clientIn, versionIn, messageIn}
 use Rattle.layout.specs.Decode.{tablesOf}
 use Rattle.layout.specs.Encodes.{HoldsVersion, HoldsMessage, HeldRead, HeldWrite, HoldsEnded}
 use Rattle.layout.specs.Encodes.{HoldsClient, Encodes}
 use Rattle.layout.proofs.Held.{held-version, held-message}
+use Rattle.layout.proofs.FirstWords.{reply-come}
 use Rattle.encoding.proofs.WellFormed.{client-test, ValidBlock, client-range}
 use Rattle.encoding.proofs.Modes.{write-word, other-word, mode-word}
 
@@ -29,13 +32,15 @@ use Rattle.encoding.proofs.Modes.{write-word, other-word, mode-word}
 within-has : (s k v : ℕ) → has s k ≡ true → v ≡ cond (has s k) v 0
 within-has s k v e = rw e
 
-holds-read : (s awaits : ℕ) (stamps vs : ℕ → ℕ)
-    → HeldRead s awaits stamps vs (readOf s awaits stamps vs)
-holds-read s awaits stamps vs = record {
+holds-read : (s awaits stage : ℕ) (stamps vs : ℕ → ℕ) (replies : ℕ → Entry)
+    → HeldRead s awaits stage stamps vs replies (readOf s awaits stage stamps vs replies)
+holds-read s awaits stage stamps vs replies = record {
   set = refl;
   awaited = refl;
+  stage = refl;
   asked = λ k. within-has s k (stamps k);
   values = λ k. within-has s k (vs k);
+  firsts = λ k e. sym (reply-come s awaits stage stamps vs replies k e);
 }
 
 holds-write : (s awaits stamp : ℕ) (vs : ℕ → ℕ)
@@ -50,25 +55,25 @@ holds-write s awaits stamp vs = record {
 holds-ended : (b : List ℕ) (d : ℕ) → HoldsEnded b d (endedIn b d)
 holds-ended b d = record {
   kind = refl;
-  read = λ s. rw s (holds-read _ _ _ _);
+  read = λ s. rw s (holds-read _ _ _ _ _ _);
   write = λ s. rw s (holds-write _ _ _ _);
 }
 
 -- ---- Clients
 
 holds-client : (b : List ℕ) (z : Sizes) (d : ℕ) → ClientInRange z (clientIn b d)
-    → at b scalars (modeAt d) < 3
+    → at b scalars (modeAt d) < modes
     → eqb (at b scalars (modeAt d)) 0 ≡ eqb (at b scalars (awaitedAt d)) 0
     → HoldsClient b d (clientIn b d)
 unfolding clientIn
 holds-client b z d range below idle =
     record {
-      mode = mode-word b d z range below idle;
+      mode = mode-word b d z range idle below;
       count = refl;
-      read = λ w. by-test (leb 2 (at b scalars (modeAt d)))
-          (λ m. not-both (write-word b d z range below idle m) w)
-          (λ m. rw m (holds-read _ _ _ _));
-      write = λ w. by-test (leb 2 (at b scalars (modeAt d)))
+      read = λ w. by-test (isWriteMode (at b scalars (modeAt d)))
+          (λ m. not-both (write-word b d z range idle m) w)
+          (λ m. rw m (holds-read _ _ _ _ _ _));
+      write = λ w. by-test (isWriteMode (at b scalars (modeAt d)))
           (λ m. rw m (holds-write _ _ _ _))
           (λ m. not-both w (other-word b d m));
       last = holds-ended b d;

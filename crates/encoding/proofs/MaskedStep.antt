@@ -1,10 +1,10 @@
 -- An accepted call leaves tables initial outside their sizes and sets: it writes only at clients
 -- and items that exist, and a client's stamps and values only at the items of its set. So does a
 -- fresh start.
-use mathlib.Core.Bool.{true, false, cond, _&&_}
+use mathlib.Core.Bool.{Bool, true, false, cond, _&&_}
 use mathlib.Core.List.{List, _∷_, [], _++_}
 use mathlib.Core.Logic.{_≢_}
-use mathlib.Core.Path.{_≡_, refl, ap, _∙_, subst}
+use mathlib.Core.Path.{_≡_, refl, sym, ap, _∙_, subst}
 use Prim.Native.Nat.{ℕ, _^_, _<_}
 use native.Mathlib.Omega.{arith}
 use lib.Dec.{eqb}
@@ -12,30 +12,34 @@ use borrow.Author.Tests.{lt-ltb, ne-eqb}
 use Rattle.basics.proofs.Cases.{by-test, not-both, and-right}
 use Rattle.basics.specs.Lists.{without}
 use Rattle.itemset.specs.Set.{has}
-use Rattle.itemset.proofs.Laws.{has-below}
+use Rattle.itemset.proofs.Laws.{has-below, has-remove-same}
 use Rattle.protocol.specs.declared.Version.{Version}
 use Rattle.protocol.specs.declared.Entry.{Entry}
 use Rattle.protocol.specs.declared.Message.{Message}
 use Rattle.protocol.specs.declared.Message.the-variants.{Prepare, Prepared, Commit, Get, Got}
-use Rattle.protocol.specs.Tables.{Sizes, Tables, Client, ofRead, ofWrite, nothing, initial}
-use Rattle.protocol.specs.Tables.{fresh, resting, put, writerOf, partitionOf}
-use Rattle.protocol.specs.Tables.{withClient, withView, withLatest, withVersions, withMessages}
-use Rattle.protocol.specs.Range.{Capacities, isClient, isItem, isWriting}
+use Rattle.protocol.specs.declared.Message.the-variants.{FirstGet, FirstReply}
+use Rattle.protocol.specs.Tables.{Sizes, Tables, Client, ReadPart, ofRead, ofWrite, nothing}
+use Rattle.protocol.specs.Tables.{initial, entryOf, fresh, resting, rested, put, writerOf}
+use Rattle.protocol.specs.Tables.{partitionOf, withClient, withRead, withView, withLatest}
+use Rattle.protocol.specs.Tables.{withVersions, withMessages}
+use Rattle.protocol.specs.Range.{Capacities, isClient, isItem, isWriting, hasFirst}
+use Rattle.protocol.specs.FastRead.{fastReader, firstGets, firstKept, secondPart, firstReplied}
 use Rattle.protocol.specs.Steps.{reader, gets, writer, prepares, stored, found, struck, answered}
-use Rattle.protocol.specs.Steps.{endedRead, endedWrite, ended, isLast, prepared, got, offered, seen}
-use Rattle.protocol.specs.Steps.{committed, delivered, joined, messageAt}
+use Rattle.protocol.specs.Steps.{endedRead, endedWrite, ended, isLast, prepared, got, gotFirst}
+use Rattle.protocol.specs.Steps.{offered, seen, committed, delivered, joined, messageAt}
 use Rattle.protocol.specs.Clear.{cleared}
 use Rattle.protocol.specs.HandOver.{takenOver}
-use Rattle.protocol.specs.Calls.{Call, startRead, startWrite, deliver, show, clear, handOver}
-use Rattle.protocol.specs.Calls.{compare, refusal, effect}
-use Rattle.protocol.proofs.Put.{by-cond, put-all, put-other}
+use Rattle.protocol.specs.Calls.{Call, startRead, startFastRead, startWrite, deliver, show, clear}
+use Rattle.protocol.specs.Calls.{handOver, compare, refusal, effect}
+use Rattle.protocol.proofs.FastRead.{first-in-set, first-come, first-kept, first-apart, first-other}
+use Rattle.protocol.proofs.Put.{by-cond, put-all, put-other, put-every}
 use Rattle.protocol.proofs.Stored.{found-held}
 use Rattle.protocol.proofs.Ranges.Values.{IsClient, MessageInRange}
 use Rattle.protocol.proofs.Ranges.Tables.{InRange}
 use Rattle.protocol.proofs.Refusals.{AcceptedDeliver, Expected, accepted-read, accepted-write}
 use Rattle.protocol.proofs.Refusals.{accepted-deliver, accepted-message, tells-prepared, tells-got}
-use Rattle.protocol.proofs.Refusals.{accepted-hand-over}
-use Rattle.layout.proofs.Masked.{Only, MaskedEnded, MaskedClient, Masked}
+use Rattle.protocol.proofs.Refusals.{accepted-fast-read, tells-first-reply, accepted-hand-over}
+use Rattle.layout.proofs.Masked.{Only, OnlyCome, MaskedEnded, MaskedClient, Masked}
 use Rattle.layout.proofs.Parts.{awaits-reply, awaits-answer}
 use Rattle.encoding.proofs.WellFormed.{client-test}
 use Rattle.encoding.proofs.MaskedTables.{masked-nothing, masked-rested}
@@ -101,6 +105,19 @@ masked-reader t m d s =
     record {
       asked = λ k e. rw e;
       answers = λ k e. refl;
+      firsts = λ k e. refl;
+      values = λ k e. refl;
+      writing = λ w. not-both w refl;
+      others = λ w. refl;
+      last = m .client d .last;
+    }
+
+masked-fast-reader : (t : Tables) → Masked t → (d s : ℕ) → MaskedClient (fastReader t d s)
+masked-fast-reader t m d s =
+    record {
+      asked = λ k e. refl;
+      answers = λ k e. refl;
+      firsts = λ k e. refl;
       values = λ k e. refl;
       writing = λ w. not-both w refl;
       others = λ w. refl;
@@ -113,6 +130,7 @@ masked-writer t m d s bytes n =
     record {
       asked = λ k e. refl;
       answers = λ k e. refl;
+      firsts = λ k e. refl;
       values = λ k e. rw e;
       writing = λ w. refl;
       others = λ w. not-both (rw (ne-eqb s 0 n) refl) w;
@@ -131,17 +149,21 @@ masked-struck : (c : Client) (k : ℕ) → MaskedClient c → isWriting c ≡ tr
 masked-struck c k m w = record {
   asked = m .asked;
   answers = m .answers;
+  firsts = m .firsts;
   values = m .values;
   writing = m .writing;
   others = λ o. not-both w o;
   last = m .last;
 }
 
-masked-answered : (c : Client) (k v : ℕ) → MaskedClient c → isWriting c ≡ false
-    → Only (c .read .set) (put (c .read .values) k v) → MaskedClient (answered c k v)
-masked-answered c k v m w o = record {
-  asked = m .asked;
-  answers = o;
+-- another read part, with nothing outside its set
+masked-read : (c : Client) (p : ReadPart) → MaskedClient c → isWriting c ≡ false
+    → Only (p .set) (p .asked) → Only (p .set) (p .values) → OnlyCome p
+    → MaskedClient (withRead c p)
+masked-read c p m w asks answers come = record {
+  asked = asks;
+  answers = answers;
+  firsts = come;
   values = m .values;
   writing = λ p. not-both p w;
   others = m .others;
@@ -153,12 +175,22 @@ masked-ended c m =
     record {
       asked = m .asked;
       answers = m .answers;
+      firsts = λ k e. refl;
       values = m .values;
-      hiddenRead = λ s. by-test (eqb (c .write .set) 0) (λ e. not-both refl (rw e at s))
+      hiddenRead = λ s. by-test (eqb (c .write .set) 0)
+          (λ e. by-test (eqb (c .read .stage) 0) (λ n. not-both refl (rw (e, n) at s))
+          (λ n. not-both refl (rw (e, n) at s)))
           (λ e. ap endedRead (m .writing (rw e refl)));
       hiddenWrite = λ s. by-test (eqb (c .write .set) 0)
           (λ e. ap endedWrite (m .others (rw e refl))) (λ e. not-both refl (rw e at s));
     }
+
+-- with the last reply it rests, and its part is as it ended
+masked-last : (c : Client) (last : Bool) (p : ReadPart) → MaskedClient (withRead c p)
+    → MaskedClient (cond last (rested c (ended (withRead c p))) (withRead c p))
+masked-last c last p m =
+    by-cond MaskedClient last _ _
+    (λ l. masked-rested c (ended (withRead c p)) (masked-ended (withRead c p) m)) (λ l. m)
 
 masked-prepared : (c : Client) (k : ℕ) → MaskedClient c → isWriting c ≡ true
     → MaskedClient (prepared c k)
@@ -167,14 +199,42 @@ masked-prepared c k m w =
     (λ l. masked-rested c (ended c) (masked-ended c m))
     (λ l. masked-struck c k m w)
 
+-- a got comes in no first part, so the first replies that have come stay the same
 masked-got : (c : Client) (k v : ℕ) → MaskedClient c → isWriting c ≡ false
-    → has (c .read .set) k ≡ true → MaskedClient (got c k v)
-masked-got c k v m w h =
-    let o = only-put (c .read .set) (c .read .values) k v h (m .answers) in
-    let a = masked-answered c k v m w o in
-    by-cond MaskedClient (isLast ofRead c k) _ _
-    (λ l. masked-rested c (ended (answered c k v)) (masked-ended (answered c k v) a))
-    (λ l. a)
+    → has (c .read .set) k ≡ true → c .read .stage ≢ 1 → MaskedClient (got c k v)
+masked-got c k v m w h n =
+    let p = answered c k v .read in
+    masked-last c (isLast ofRead c k) p
+    (masked-read c p m w (m .asked) (only-put (c .read .set) (c .read .values) k v h (m .answers))
+    (λ j e. m .firsts j (sym (first-apart (c .read) p j n refl refl) ∙ e)))
+
+-- a first reply is kept for its item, and in the second part all have come
+come-kept : (p : ReadPart) (v : Version) → p .stage ≡ 1 → has (p .set) (v .item) ≡ true
+    → OnlyCome p → OnlyCome (firstKept p v)
+come-kept p v first h o =
+    put-every (λ (k : ℕ) (x : Entry). hasFirst (firstKept p v) k ≡ false → x ≡ initial)
+    (p .firsts) (v .item) (entryOf v)
+    (λ e. not-both
+    (first-come (firstKept p v) (v .item) first h (has-remove-same (p .awaited) (v .item))) e)
+    (λ k other e. o k (sym (first-other p v k other) ∙ e))
+
+come-second : (n : ℕ) (p : ReadPart) → OnlyCome p → OnlyCome (secondPart n p)
+come-second n p o k e =
+    o k (by-test (hasFirst p k)
+    (λ h. not-both (first-kept (secondPart n p) k refl (first-in-set p k h)) e) (λ h. h))
+
+masked-first-reply : (n : ℕ) (c : Client) (v : Version) → MaskedClient c → isWriting c ≡ false
+    → has (c .read .set) (v .item) ≡ true → c .read .stage ≡ 1 → MaskedClient (gotFirst n c v)
+masked-first-reply n c v m w h first =
+    let p = c .read in
+    let kept = firstKept p v in
+    let answers = only-put (p .set) (p .values) (v .item) (v .value) h (m .answers) in
+    let come = come-kept p v first h (m .firsts) in
+    let after = firstReplied n p v in
+    masked-last c (eqb (after .awaited) 0) after
+    (by-cond (λ (q : ReadPart). MaskedClient (withRead c q)) (eqb (kept .awaited) 0) _ _
+    (λ e. masked-read c (secondPart n kept) m w (λ k o. rw o) answers (come-second n kept come))
+    (λ e. masked-read c kept m w (m .asked) answers come))
 
 -- a set of existing items has none of those that don't exist
 hasnt-item : (z : Sizes) (s k : ℕ) → s < 2 ^ z .items → isItem z k ≡ false → has s k ≡ false
@@ -198,6 +258,17 @@ masked-committed t m r p stamp k f =
     rw (held .item) at (r .versions (found (t .versions) k stamp) (held .isIn) .item) in
     not-both (lt-ltb k (t .sizes .items) exists) f)
     (λ n. m .latest k f)
+
+-- a reply is for an item that exists
+masked-offered : (t : Tables) → Masked t → (d : ℕ) (v : Version) (latest : Entry)
+    → v .item < t .sizes .items
+    → MaskedEntries (t .sizes) (put (t .view d) (v .item) (offered (t .view d (v .item)) v latest))
+masked-offered t m d v latest l j f =
+    let k = v .item in
+    let other : j ≢ k =
+    λ p. not-both (lt-ltb k (t .sizes .items) l)
+    (subst (λ (y : ℕ). isItem (t .sizes) y ≡ false) p f) in
+    put-other (t .view d) k (offered (t .view d k) v latest) j other ∙ m .itemView d j f
 
 masked-delivered : (t : Tables) (x : Message) → Masked t → InRange t → MessageInRange (t .sizes) x
     → Expected t x → Masked (delivered t x)
@@ -223,22 +294,33 @@ masked-delivered t (Got d v latest) m r h x =
     let k = v .item in
     let one : IsClient (t .sizes) d = h .client (omega arith) in
     let range = r .client d one in
-    let awaited = tells-got t d v latest .0 x .awaited in
-    let own = range .read .within k awaited in
-    let reads = awaits-answer (t .sizes) c range k awaited in
+    let expected = tells-got t d v latest .0 x in
+    let own = range .read .within k (expected .awaited) in
+    let reads = awaits-answer (t .sizes) c range k (expected .awaited) in
     let view = put (t .view d) k (offered (t .view d k) v latest) in
-    let entries : MaskedEntries (t .sizes) view = λ j f.
-    let other : j ≢ k =
-    λ p. not-both (lt-ltb k (t .sizes .items) (h .item))
-    (subst (λ (y : ℕ). isItem (t .sizes) y ≡ false) p f) in
-    put-other (t .view d) k (offered (t .view d k) v latest) j other ∙ m .itemView d j f in
+    let entries = masked-offered t m d v latest (h .item) in
     masked-view (withClient t d (got c k (v .value)))
     (masked-client t m d (got c k (v .value)) one
-    (masked-got c k (v .value) (m .client d) reads own)) d
+    (masked-got c k (v .value) (m .client d) reads own (expected .byStamp))) d
     (cond (isLast ofRead c k) (seen view (c .write .set) (c .write .stamp)) view) one
     (by-cond (MaskedEntries (t .sizes)) (isLast ofRead c k) _ _
     (λ l. masked-seen (t .sizes) view (c .write .set) (c .write .stamp) (range .write .set) entries)
     (λ l. entries))
+masked-delivered t (FirstGet d k) m r h x = m
+masked-delivered t (FirstReply d v latest) m r h x =
+    let c = t .client d in
+    let k = v .item in
+    let n = t .sizes .items in
+    let one : IsClient (t .sizes) d = h .client (omega arith) in
+    let range = r .client d one in
+    let expected = tells-first-reply t d v latest .0 x in
+    let own = range .read .within k (expected .awaited) in
+    let reads = awaits-answer (t .sizes) c range k (expected .awaited) in
+    masked-view (withClient t d (gotFirst n c v))
+    (masked-client t m d (gotFirst n c v) one
+    (masked-first-reply n c v (m .client d) reads own (expected .byItem))) d
+    (put (t .view d) k (offered (t .view d k) v latest)) one
+    (masked-offered t m d v latest (h .item))
 
 masked-deliver : (caps : Capacities) (t : Tables) → Masked t → (i : ℕ) → AcceptedDeliver caps t i
     → Masked (effect t (deliver i))
@@ -257,6 +339,9 @@ unfolding effect
 masked-step caps t (startRead d s) e m =
     let a = accepted-read caps t d s .0 e in
     masked-start t m d (reader t d s) (gets t d s) (a .client) (masked-reader t m d s)
+masked-step caps t (startFastRead d s) e m =
+    let a = accepted-fast-read caps t d s .0 e in
+    masked-start t m d (fastReader t d s) (firstGets t d s) (a .client) (masked-fast-reader t m d s)
 masked-step caps t (startWrite d s bytes) e m =
     let a = accepted-write caps t d s bytes .0 e in
     masked-start t m d (writer t d s bytes) (prepares t d s bytes) (a .start .client)

@@ -2,16 +2,16 @@
 use mathlib.Core.List.{List}
 use mathlib.Core.Bool.{true}
 use mathlib.Core.Path.{_≡_, refl}
-use lib.Dec.{leb}
 use Prim.Native.Nat.{ℕ}
 use Rattle.basics.proofs.Cases.{by-test, not-both, between}
 use Rattle.protocol.specs.Tables.{ReadPart, WritePart, Client, Ended, nothing, showsRead}
 use Rattle.protocol.specs.Tables.{showsWrite, resting, rested}
 use Rattle.protocol.specs.Range.{isClient, isWriting}
 use Rattle.protocol.proofs.Put.{by-cond}
-use Rattle.layout.specs.Layout.{at, scalars, modeAt, lastKindAt}
+use Rattle.layout.specs.Layout.{at, scalars, modeAt, lastKindAt, isWriteMode}
 use Rattle.layout.specs.Decode.{sizesIn, within, endedIn, clientIn, tablesOf, validBlock}
-use Rattle.layout.proofs.Masked.{Only, MaskedEnded, MaskedClient, Masked}
+use Rattle.layout.proofs.FirstWords.{reply-none}
+use Rattle.layout.proofs.Masked.{Only, OnlyCome, MaskedEnded, MaskedClient, Masked}
 use Rattle.encoding.proofs.WellFormed.{client-range, tells-valid-block}
 use Rattle.encoding.proofs.Modes.{write-word}
 
@@ -27,6 +27,7 @@ masked-ended b d =
           (λ s. only-within _ _) (λ s k e. refl);
       answers = by-cond (λ (p : ReadPart). Only (p .set) (p .values)) (showsRead kind) _ _
           (λ s. only-within _ _) (λ s k e. refl);
+      firsts = by-cond OnlyCome (showsRead kind) _ _ (λ s. reply-none _ _ _ _ _ _) (λ s k e. refl);
       values = by-cond (λ (p : WritePart). Only (p .set) (p .values)) (showsWrite kind) _ _
           (λ s. only-within _ _) (λ s k e. refl);
       hiddenRead = λ s. rw s refl;
@@ -37,27 +38,28 @@ pub masked-nothing : MaskedEnded nothing
 masked-nothing = record {
   asked = λ k e. refl;
   answers = λ k e. refl;
+  firsts = λ k e. refl;
   values = λ k e. refl;
   hiddenRead = λ s. refl;
   hiddenWrite = λ s. refl;
 }
 
 masked-client : (b : List ℕ) (d : ℕ)
-    → (leb 2 (at b scalars (modeAt d)) ≡ true → isWriting (clientIn b d) ≡ true)
+    → (isWriteMode (at b scalars (modeAt d)) ≡ true → isWriting (clientIn b d) ≡ true)
     → MaskedClient (clientIn b d)
 unfolding clientIn
 masked-client b d writes =
+    let writing = isWriteMode (at b scalars (modeAt d)) in
     record {
-      asked = λ k e. by-test (leb 2 (at b scalars (modeAt d))) (λ m. rw m refl)
-          (λ m. rw m (rw (rw m at e)));
-      answers = λ k e. by-test (leb 2 (at b scalars (modeAt d))) (λ m. rw m refl)
-          (λ m. rw m (rw (rw m at e)));
-      values = λ k e. by-test (leb 2 (at b scalars (modeAt d))) (λ m. rw m (rw (rw m at e)))
-          (λ m. rw m refl);
-      writing = λ w. by-test (leb 2 (at b scalars (modeAt d))) (λ m. rw m refl)
-          (λ m. not-both (rw m at w) refl);
-      others = λ w. by-test (leb 2 (at b scalars (modeAt d))) (λ m. not-both (writes m) w)
-          (λ m. rw m refl);
+      asked = by-cond (λ (p : ReadPart). Only (p .set) (p .asked)) writing _ _ (λ m k e. refl)
+          (λ m. only-within _ _);
+      answers = by-cond (λ (p : ReadPart). Only (p .set) (p .values)) writing _ _ (λ m k e. refl)
+          (λ m. only-within _ _);
+      firsts = by-cond OnlyCome writing _ _ (λ m k e. refl) (λ m. reply-none _ _ _ _ _ _);
+      values = by-cond (λ (p : WritePart). Only (p .set) (p .values)) writing _ _
+          (λ m. only-within _ _) (λ m k e. refl);
+      writing = λ w. by-test writing (λ m. rw m refl) (λ m. not-both (rw m at w) refl);
+      others = λ w. by-test writing (λ m. not-both (writes m) w) (λ m. rw m refl);
       last = masked-ended b d;
     }
 
@@ -66,6 +68,7 @@ masked-rested c last m =
     record {
       asked = λ k e. refl;
       answers = λ k e. refl;
+      firsts = λ k e. refl;
       values = λ k e. refl;
       writing = λ w. not-both w refl;
       others = λ w. refl;
@@ -76,11 +79,10 @@ pub masked-tables : (b : List ℕ) → validBlock b ≡ true → Masked (tablesO
 unfolding tablesOf
 masked-tables b v =
     let f = tells-valid-block b .0 v in
-    let writes : (d : ℕ) → isClient (sizesIn b) d ≡ true → leb 2 (at b scalars (modeAt d)) ≡ true
-    → isWriting (clientIn b d) ≡ true =
+    let writes : (d : ℕ) → isClient (sizesIn b) d ≡ true
+    → isWriteMode (at b scalars (modeAt d)) ≡ true → isWriting (clientIn b d) ≡ true =
     λ d c. let i = between 1 (sizesIn b .clients) d c in
-    write-word b d (sizesIn b) (client-range b f d i) (f .wellFormed .mode d i)
-    (f .wellFormed .idle d i) in
+    write-word b d (sizesIn b) (client-range b f d i) (f .wellFormed .idle d i) in
     record {
       latest = λ k e. rw e;
       clientView = λ d k e. rw e;

@@ -17,16 +17,17 @@ use Rattle.protocol.specs.Tables.{Sizes, Tables, Client, ReadPart, WritePart, E
 use Rattle.protocol.specs.Steps.{version}
 use Rattle.protocol.specs.Message.{kindOf, isPrepare}
 use Rattle.protocol.proofs.MessageKinds.{kind-within}
-use Rattle.protocol.specs.Range.{capacities, isIdle, isWriting, arrived, load}
+use Rattle.protocol.specs.Range.{capacities, isIdle, isWriting, hasFirst, arrived, load}
 use Rattle.protocol.specs.Range.{occupied, valid}
 use Rattle.protocol.proofs.Ranges.Values.{SizesInRange, IsClient, EntryInRange, VersionInRange}
 use Rattle.protocol.proofs.Ranges.Values.{MessageInRange}
+use Rattle.protocol.proofs.FastRead.{first-same}
 use Rattle.protocol.proofs.Ranges.Clients.{ReadPartInRange, WritePartInRange, EndedInRange}
 use Rattle.protocol.proofs.Ranges.Clients.{ClientInRange}
 use Rattle.protocol.proofs.Kept.Values.{range-no-read, range-no-write}
 use Rattle.protocol.proofs.Ranges.Tables.{InRange, Valid, valid-facts, facts-valid}
 use Rattle.layout.specs.Layout.{Section, header, scalars, latest, views, at}
-use Rattle.layout.specs.Layout.{messagesAt, modeAt, awaitedAt, latestAt, viewAt}
+use Rattle.layout.specs.Layout.{messagesAt, modeAt, awaitedAt, latestAt, viewAt, modes}
 use Rattle.layout.specs.Decode.{sizesIn, kindIn, readOf, writeOf, endedIn, clientIn}
 use Rattle.layout.specs.Decode.{versionIn, messageIn, tablesOf, validBlock}
 use Rattle.layout.specs.Encodes.{numberOfMode, HoldsEntry, HoldsMessage, HeldRead, HeldWrite}
@@ -37,29 +38,41 @@ use Rattle.encoding.proofs.WellFormed.{ValidBlock}
 use Rattle.encoding.proofs.WellFormed.{tells-valid-block}
 use Rattle.encoding.proofs.Capacity.{load-words, occupied-words}
 use Rattle.encoding.proofs.Encoded.{encodes-tables}
-use Rattle.layout.proofs.Parts.{mode-writing, mode-other, writes-nothing, no-reply-awaited}
+use Rattle.layout.proofs.Parts.{mode-writing, mode-other, no-stage, writes-nothing}
+use Rattle.layout.proofs.Parts.{no-reply-awaited}
 use Rattle.layout.proofs.Held.{version-held, kind-held, message-held}
-use Rattle.encoding.proofs.Decoded.{mode-others, entry-of, few-versions, few-messages}
+use Rattle.layout.proofs.FirstWords.{reply-come}
+use Rattle.encoding.proofs.Decoded.{mode-tells, entry-of, few-versions, few-messages}
 
 -- ---- The numbers are those of some mode or kind
 
-mode-below : (c : Client) → numberOfMode c < 3
-mode-below c =
+mode-below : (c : Client) → c .read .stage ≤ 2 → numberOfMode c < modes
+mode-below c l =
     by-test (isIdle c) (λ i. rw i (omega arith))
-    (λ i. rw i (by-test (isWriting c) (λ w. rw w (omega arith)) (λ w. rw w (omega arith))))
+    (λ i. rw i (by-test (isWriting c) (λ w. rw w (omega arith))
+    (λ w. rw w (by-test (eqb (c .read .stage) 0) (λ e. rw e (omega arith))
+    (λ e. rw e (omega arith))))))
 
 -- ---- Fields that a block holds are in range where those of the tables are
 
 module _ (b : List ℕ) (z : Sizes) where
-  read-range : {s awaits : ℕ} {stamps vs : ℕ → ℕ} (p : ReadPart) → HeldRead s awaits stamps vs p
-      → ReadPartInRange z p → ReadPartInRange z (readOf s awaits stamps vs)
-  read-range p h r =
-      rw (h .set, h .awaited) (record {
+  read-range : {s awaits n : ℕ} {stamps vs : ℕ → ℕ} {replies : ℕ → Entry} (p : ReadPart)
+      → HeldRead s awaits n stamps vs replies p
+      → ReadPartInRange z p → ReadPartInRange z (readOf s awaits n stamps vs replies)
+  read-range {stamps = stamps} {vs} {replies} p h r =
+      rw (h .set, h .awaited, h .stage) (record {
         set = r .set;
         awaited = r .awaited;
         within = r .within;
         asked = λ k e. rw (e, h .asked k e) (r .asked k e);
         values = λ k e. rw (e, h .values k e) (r .values k e);
+        stage = r .stage;
+        firsts = λ k e.
+            let come : hasFirst p k ≡ true = first-same _ p k refl refl refl ∙ e in
+            subst (EntryInRange z)
+            (sym (reply-come (p .set) (p .awaited) (p .stage) stamps vs replies k e
+            ∙ h .firsts k come))
+            (r .firsts k come);
       })
 
   write-range : {s awaits stamp : ℕ} {vs : ℕ → ℕ} (p : WritePart) → HeldWrite s awaits stamp vs p
@@ -88,20 +101,20 @@ module _ (b : List ℕ) (z : Sizes) where
       → ClientInRange z (clientIn b d)
   unfolding clientIn
   client-range d c h r =
+      let mode = mode-tells b d z c h r in
       record {
         count = rw (h .count) (r .count);
-        read = by-test (isWriting c)
-            (λ w. rw (h .mode, mode-writing z c r w) (range-no-read z))
-            (λ w. rw (h .mode, mode-others c w) (read-range (c .read) (h .read w) (r .read)));
+        read = by-test (isWriting c) (λ w. rw (mode ∙ w) (range-no-read z))
+            (λ w. rw (mode ∙ w) (read-range (c .read) (h .read w) (r .read)));
         write = by-test (isWriting c)
-            (λ w. rw (h .mode, mode-writing z c r w)
-            (write-range (c .write) (h .write w) (r .write)))
-            (λ w. rw (h .mode, mode-others c w) (range-no-write z));
+            (λ w. rw (mode ∙ w) (write-range (c .write) (h .write w) (r .write)))
+            (λ w. rw (mode ∙ w) (range-no-write z));
         alone = by-test (isWriting c)
             (λ w. let p = h .write w in
-            rw (h .mode, mode-writing z c r w, p .set, p .awaited)
-            (λ n. (refl, r .alone n .1)))
-            (λ w. rw (h .mode, mode-others c w) (λ n. absurd (n refl)));
+            rw (mode ∙ w, p .set, p .awaited) (λ n. (refl, r .alone n .1)))
+            (λ w. rw (mode ∙ w) (λ n. absurd (n refl)));
+        fast = by-test (isWriting c) (λ w. rw (mode ∙ w) (λ n. absurd (n refl)))
+            (λ w. let p = h .read w in rw (mode ∙ w, p .stage, p .awaited) (r .fast));
         last = ended-range d (c .last) (h .last) (r .last);
       }
 
@@ -116,8 +129,21 @@ arrived-same : (b : List ℕ) (z : Sizes) (d : ℕ) (c : Client) → HoldsClient
 unfolding clientIn arrived
 arrived-same b z d c h r =
     by-test (isWriting c)
-    (λ w. rw (h .mode, mode-writing z c r w, h .write w .set, h .write w .awaited) refl)
-    (λ w. rw (h .mode, mode-others c w, writes-nothing z c r w, no-reply-awaited z c r w) refl)
+    (λ w. rw (
+      mode-tells b d z c h r ∙ w,
+      h .write w .set,
+      h .write w .awaited,
+      no-stage z c r w,
+    ) refl)
+    (λ w. let p = h .read w in
+    rw (
+      mode-tells b d z c h r ∙ w,
+      writes-nothing z c r w,
+      no-reply-awaited z c r w,
+      p .stage,
+      p .set,
+      p .awaited,
+    ) refl)
 
 prepare-same : (b : List ℕ) (i : ℕ) (m : Message) → HoldsMessage b i m
     → isPrepare (messageIn b i) ≡ isPrepare m
@@ -131,7 +157,9 @@ idle-word b z d c h r =
     (λ w. rw (h .mode, mode-writing z c r w, h .write w .awaited)
     (sym (ne-eqb (c .write .awaited) 0 (r .alone (writes w) .1))))
     (λ w. rw (h .mode, mode-other z c r w, h .read w .awaited)
-    (by-test (eqb (c .read .awaited) 0) (λ e. rw e refl) (λ e. rw e refl)))
+    (by-test (eqb (c .read .awaited) 0) (λ e. rw e refl)
+    (λ e. rw e (by-test (eqb (c .read .stage) 0) (λ n. rw n refl)
+    (λ n. rw n (ne-eqb (c .read .stage + 2) 0 (omega arith)))))))
   where
     writes : isWriting c ≡ true → c .write .set ≢ 0
     writes w = eqb-false (c .write .set) 0 (not-true (eqb (c .write .set) 0) w)
@@ -165,7 +193,12 @@ module _ (b : List ℕ) (t : Tables) (e : Encodes b t) (v : Valid capacities t) 
         sizes = subst SizesInRange sizes-same (v .inRange .sizes);
         versionCount = omega (arith, e .versionCount, few-versions t v);
         messageCount = omega (arith, e .messageCount, few-messages t v);
-        mode = λ d c. omega (arith, holds-client d c .mode, mode-below (t .client d));
+        mode = λ d c. omega (
+          arith,
+          holds-client d c .mode,
+          mode-below (t .client d)
+              (v .inRange .client d (c .0, omega (arith, e .clients)) .read .stage),
+        );
         idle = λ d c. idle-word b (t .sizes) d (t .client d) (holds-client d c)
             (v .inRange .client d (c .0, omega (arith, e .clients)));
         lastKind = λ d c. rw (holds-client d c .last .kind)

@@ -17,7 +17,7 @@ use Rattle.protocol.proofs.Ranges.Clients.{ClientInRange}
 use Rattle.protocol.proofs.Ranges.Tables.{is-client, each-client, Valid, tells-valid}
 use Rattle.layout.specs.Layout.{mostVersions, mostMessages}
 use Rattle.layout.specs.Layout.{header, scalars, needed, at, versionsAt, messagesAt, modeAt}
-use Rattle.layout.specs.Layout.{awaitedAt, lastKindAt}
+use Rattle.layout.specs.Layout.{awaitedAt, lastKindAt, modes}
 use Rattle.layout.specs.Decode.{sizesIn, kindIn, clientIn, tablesOf, wellFormed, validBlock}
 
 -- a client that exists passes its test
@@ -30,7 +30,7 @@ pub record WellFormed (b : List ℕ) : Type 0 where
   pub sizes : SizesInRange (sizesIn b)
   pub versionCount : at b header versionsAt ≤ mostVersions
   pub messageCount : at b header messagesAt ≤ mostMessages
-  pub mode : (d : ℕ) → IsClient (sizesIn b) d → at b scalars (modeAt d) < 3
+  pub mode : (d : ℕ) → IsClient (sizesIn b) d → at b scalars (modeAt d) < modes
   pub idle : (d : ℕ) → IsClient (sizesIn b) d
       → eqb (at b scalars (modeAt d)) 0 ≡ eqb (at b scalars (awaitedAt d)) 0
   pub lastKind : (d : ℕ) → IsClient (sizesIn b) d → isKind (at b scalars (lastKindAt d)) ≡ true
@@ -43,10 +43,10 @@ tells-well-formed b = (
   λ e.
       let f = simp (tells, tells-sizes) at e in
       let client = each-client (sizesIn b)
-      (λ d. ((at b scalars (modeAt d) < 3)
+      (λ d. ((at b scalars (modeAt d) < modes)
       × (eqb (at b scalars (modeAt d)) 0 ≡ eqb (at b scalars (awaitedAt d)) 0))
       × (isKind (at b scalars (lastKindAt d)) ≡ true)) (f .0 .1) in
-      let mode : (d : ℕ) → IsClient (sizesIn b) d → at b scalars (modeAt d) < 3 =
+      let mode : (d : ℕ) → IsClient (sizesIn b) d → at b scalars (modeAt d) < modes =
       λ d c. client d c .0 .0 in
       let idle : (d : ℕ) → IsClient (sizesIn b) d
       → eqb (at b scalars (modeAt d)) 0 ≡ eqb (at b scalars (awaitedAt d)) 0 =

@@ -2,7 +2,7 @@
 -- transaction.
 use mathlib.Core.Bool.{true, false}
 use mathlib.Core.List.{List}
-use mathlib.Core.Path.{_≡_, sym, _∙_, subst}
+use mathlib.Core.Path.{_≡_, _∙_}
 use Prim.Native.Nat.{ℕ, _^_, _≤_, _<_}
 use native.Mathlib.Omega.{arith}
 use lib.Dec.{lit<}
@@ -18,7 +18,7 @@ use Rattle.layout.specs.Encodes.{Encodes, HoldsClient}
 use Rattle.layout.proofs.Room.{NarrowClient, HasRoom}
 use Rattle.layout.proofs.ClientWords.{Words}
 use Rattle.layout.proofs.Changed.{Changed, changed-none, changed-put, encodes-changed}
-use Rattle.ends.specs.Ends.{ended, keepAnswer, seeItem, readEnded, writeKept}
+use Rattle.ends.specs.Ends.{readKind, seeItem, readEnded, writeKept}
 use Rattle.ends.proofs.Seen.{encodes-seen}
 use Rattle.ends.proofs.Copied.{values-taken, answers-taken}
 use Rattle.ends.proofs.Rests.{ended-changed, narrow-last, rests-read, rests-write}
@@ -53,19 +53,20 @@ encodes-write-kept {b} {t} d stamp n r first last writes set own =
 pub encodes-read-ended : {a b : List ℕ} {t : Tables} {d : ℕ} {w : Words} (c : Client)
     → Encodes a t → HasRoom t → NarrowClient c
     → d ≤ t .sizes .clients → c .read .set < 2 ^ t .sizes .items → Changed d a b w
+    → readKind (w scalars 0) ≡ lastOf c .kind
     → isWriting c ≡ false → w scalars 1 ≡ c .count → w scalars 2 ≡ c .read .set
     → ((k : ℕ) → has (c .read .set) k ≡ true → w asked k ≡ c .read .asked k)
     → ((k : ℕ) → has (c .read .set) k ≡ true → w values k ≡ c .read .values k)
     → Encodes (readEnded b (t .sizes .items) d) (withClient t d (rested c (lastOf c)))
 unfolding readEnded
-encodes-read-ended {a} {b} {t} {d} {w} c n r narrow last set ch reads counted same asks answers =
+encodes-read-ended {a} {b} {t} {d} {w} c n r narrow last set ch kinds reads counted same asks
+    answers =
     let s = c .read .set in
     let items = t .sizes .items in
+    let kind = readKind (w scalars 0) in
     let v = answers-taken s ch items (r .items) in
-    subst (λ (z : ℕ). Encodes (ended (upTo (keepAnswer d z) b items) d 1 z)
-    (withClient t d (rested c (lastOf c))))
-    (sym (ch .words .row scalars 2 (lit< tt) ∙ same))
-    (encodes-changed n r last (ended-changed 1 s v) (narrow-last c narrow)
-    (rests-read _ c reads counted
+    rw (ch .words .row scalars 2 (lit< tt) ∙ same, ch .words .row scalars 0 (lit< tt))
+    (encodes-changed n r last (ended-changed kind s v) (narrow-last c narrow)
+    (rests-read _ c kind kinds reads counted
     (λ k m. filled-at s _ _ items k (has-below s k items set m) m ∙ asks k m)
     (λ k m. filled-at s _ _ items k (has-below s k items set m) m ∙ answers k m)))

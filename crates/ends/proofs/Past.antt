@@ -3,39 +3,16 @@
 use mathlib.Core.List.{List}
 use Prim.Native.Nat.{ℕ, _≤_, _<_}
 use native.Mathlib.Omega.{arith}
-use lib.Dec.{ltb, lit<}
-use borrow.Author.Tests.{ltb-true}
+use lib.Dec.{lit<}
 use Rattle.itemset.specs.Set.{has}
-use Rattle.protocol.specs.declared.Version.{Version}
-use Rattle.protocol.specs.declared.Message.{Message}
 use Rattle.protocol.specs.declared.Message.the-variants.{Commit}
-use Rattle.protocol.proofs.Put.{by-cond}
-use Rattle.layout.specs.Layout.{mostVersions, mostMessages, clientWords, header, scalars, views}
-use Rattle.layout.specs.Layout.{lastStamps, lastValues, at, store, versionsAt, messagesAt}
-use Rattle.layout.specs.Layout.{scalarAt, setAt, viewAt, itemAt}
-use Rattle.layout.specs.Store.{appendVersion, appendMessage}
-use Rattle.layout.proofs.Past.{SamePast, past-none, past-trans, past-when, past-each, past-store}
+use Rattle.layout.specs.Layout.{clientWords, scalars, views, lastStamps, lastValues, at, store}
+use Rattle.layout.specs.Layout.{scalarAt, modeAt, setAt, viewAt, itemAt}
+use Rattle.layout.proofs.Past.{SamePast, past-trans, past-when, past-each, past-store}
 use Rattle.layout.proofs.Past.{past-entry, past-put}
-use Rattle.slots.specs.Room.{keep, send}
-use Rattle.slots.proofs.PastLists.{past-append-version, past-append-message}
+use Rattle.slots.proofs.PastLists.{past-send}
 use Rattle.ends.specs.Ends.{ended, keepAnswer, keepValue, seeItem, sendCommit, touched}
-use Rattle.ends.specs.Ends.{readEnded, writeKept, writeEnded}
-
--- ---- versions and messages
-
-pub past-keep : (b : List ℕ) (v : Version) → SamePast b (keep b v)
-unfolding keep
-past-keep b v =
-    let n = at b header versionsAt in
-    by-cond (SamePast b) (ltb n mostVersions) (appendVersion b n v) b
-    (λ e. past-append-version b n v (ltb-true n mostVersions e)) (λ e. past-none b)
-
-pub past-send : (b : List ℕ) (m : Message) → SamePast b (send b m)
-unfolding send
-past-send b m =
-    let n = at b header messagesAt in
-    by-cond (SamePast b) (ltb n mostMessages) (appendMessage b n m) b
-    (λ e. past-append-message b n m (ltb-true n mostMessages e)) (λ e. past-none b)
+use Rattle.ends.specs.Ends.{readKind, readEnded, writeKept, writeEnded}
 
 -- ---- ends of transactions
 
@@ -59,7 +36,7 @@ module _ (d : ℕ) (first : 1 ≤ d) (last : d ≤ 8) where
       past-when c _ (has (at b scalars (setAt d)) k)
       (past-trans (past-store c lastStamps (itemAt d k) _ (omega arith))
       (past-store _ lastValues (itemAt d k) _ (omega arith)))))
-      (past-ended _ 1 (at b scalars (setAt d)))
+      (past-ended _ (readKind (at b scalars (modeAt d))) (at b scalars (setAt d)))
 
   past-write-kept : (b : List ℕ) (items s stamp : ℕ) → items ≤ 64
       → SamePast b (writeKept b items d s stamp)

@@ -1,16 +1,17 @@
 -- The words of a client after the end of its transaction hold a resting client.
-use mathlib.Core.Bool.{true, false}
+use mathlib.Core.Bool.{true, false, cond}
 use mathlib.Core.List.{List}
-use mathlib.Core.Path.{_≡_, refl, sym}
+use mathlib.Core.Path.{_≡_, refl, sym, ap, _∙_}
 use Prim.Native.Nat.{ℕ}
 use lib.Dec.{eqb, lit<}
-use Rattle.basics.proofs.Cases.{not-both, not-true, not-false}
+use Rattle.basics.proofs.Cases.{by-test, not-both, not-true, not-false}
 use Rattle.itemset.specs.Set.{has}
 use Rattle.itemset.proofs.Laws.{has-empty}
-use Rattle.protocol.specs.Tables.{Client, Ended, resting, rested}
+use Rattle.protocol.specs.Tables.{Client, Ended, noRead, resting, rested, showsWrite}
 use Rattle.protocol.specs.Range.{isWriting}
 use Rattle.protocol.specs.Steps.{ended as lastOf}
-use Rattle.layout.specs.Layout.{scalars, lastStamps, lastValues}
+use Rattle.protocol.proofs.FastRead.{no-first}
+use Rattle.layout.specs.Layout.{scalars, lastStamps, lastValues, stageOf}
 use Rattle.layout.proofs.Room.{NarrowClient}
 use Rattle.layout.proofs.ClientWords.{Words, putWord}
 use Rattle.layout.proofs.ClientHolds.{WordsHold, WordsEnded}
@@ -39,8 +40,10 @@ rests w count last mode counted set awaited ended =
       read = λ x. record {
         set = set;
         awaited = awaited;
+        stage = ap stageOf mode;
         asked = λ k e. not-both e (has-empty k);
         values = λ k e. not-both e (has-empty k);
+        firsts = λ k e. not-both e (no-first noRead k refl);
       };
       write = λ x. not-both x refl;
       rest = (counted, ended);
@@ -48,24 +51,39 @@ rests w count last mode counted set awaited ended =
 
 -- ---- the kind that a client's transaction ends as
 
-pub kind-read : (c : Client) → isWriting c ≡ false → lastOf c .kind ≡ 1
+pub kind-read : (c : Client) → isWriting c ≡ false
+    → lastOf c .kind ≡ cond (eqb (c .read .stage) 0) 1 3
 kind-read c w = rw (not-false (eqb (c .write .set) 0) w) refl
+
+-- which shows no write part
+read-alone : (c : Client) → isWriting c ≡ false → showsWrite (lastOf c .kind) ≡ false
+read-alone c w =
+    ap showsWrite (kind-read c w)
+    ∙ by-test (eqb (c .read .stage) 0) (λ e. rw e refl) (λ e. rw e refl)
 
 pub kind-write : (c : Client) → isWriting c ≡ true → lastOf c .kind ≡ 2
 kind-write c w = rw (not-true (eqb (c .write .set) 0) w) refl
 
 -- ---- and its words
 
-pub rests-read : (w : Words) (c : Client) → isWriting c ≡ false → w scalars 1 ≡ c .count
+pub rests-read : (w : Words) (c : Client) (kind : ℕ) → kind ≡ lastOf c .kind
+    → isWriting c ≡ false → w scalars 1 ≡ c .count
     → ((k : ℕ) → has (c .read .set) k ≡ true → w lastStamps k ≡ c .read .asked k)
     → ((k : ℕ) → has (c .read .set) k ≡ true → w lastValues k ≡ c .read .values k)
-    → WordsHold (endedWords w 1 (c .read .set)) (rested c (lastOf c))
-rests-read w c reads counted stamps values =
-    rests (endedWords w 1 (c .read .set)) (c .count) (lastOf c) refl counted refl refl
+    → WordsHold (endedWords w kind (c .read .set)) (rested c (lastOf c))
+rests-read w c kind kinds reads counted stamps values =
+    rests (endedWords w kind (c .read .set)) (c .count) (lastOf c) refl counted refl refl
     (record {
-      kind = sym (kind-read c reads);
-      read = λ s. record { set = refl; awaited = refl; asked = stamps; values = values };
-      write = λ s. not-both (rw (kind-read c reads) at s) refl;
+      kind = kinds;
+      read = λ s. record {
+        set = refl;
+        awaited = refl;
+        stage = refl;
+        asked = stamps;
+        values = values;
+        firsts = λ k e. refl;
+      };
+      write = λ s. not-both s (read-alone c reads);
     })
 
 pub rests-write : (w : Words) (c : Client) (stamp : ℕ) → c .write .stamp ≡ stamp
@@ -74,8 +92,8 @@ pub rests-write : (w : Words) (c : Client) (stamp : ℕ) → c .write .stamp ≡
     → WordsHold (putWord (endedWords w 2 (c .write .set)) scalars 7 stamp)
     (rested c (lastOf c))
 rests-write w c stamp own writes counted values =
-    rests (putWord (endedWords w 2 (c .write .set)) scalars 7 stamp) (c .count) (lastOf c) refl counted
-    refl refl
+    rests (putWord (endedWords w 2 (c .write .set)) scalars 7 stamp) (c .count) (lastOf c) refl
+    counted refl refl
     (record {
       kind = sym (kind-write c writes);
       read = λ s. not-both (rw (kind-write c writes) at s) refl;

@@ -3,17 +3,16 @@ use mathlib.Core.List.{List}
 use mathlib.Core.Path.{_≡_, ap, _∙_}
 use Prim.Native.Nat.{ℕ}
 use Rattle.basics.specs.Fold.{upTo}
-use Rattle.layout.specs.Layout.{scalars, at, store, setAt, lastStampAt}
+use Rattle.layout.specs.Layout.{scalars, at, store, modeAt, setAt, lastStampAt}
 use Rattle.ends.specs.Ends.{ended, keepAnswer, keepValue, seeItem, sendCommit, touched}
-use Rattle.ends.specs.Ends.{readEnded, writeKept, writeEnded}
+use Rattle.ends.specs.Ends.{readKind, readEnded, writeKept, writeEnded}
 
 module _ (b y : List ℕ) (items d s : ℕ) where
-  pub read-row : {x : List ℕ} → s ≡ at b scalars (setAt d) → x ≡ upTo (keepAnswer d s) b items
-      → y ≡ ended x d 1 s → y ≡ readEnded b items d
+  pub read-row : {x : List ℕ} {mode kind : ℕ} → s ≡ at b scalars (setAt d)
+      → mode ≡ at b scalars (modeAt d) → kind ≡ readKind mode
+      → x ≡ upTo (keepAnswer d s) b items → y ≡ ended x d kind s → y ≡ readEnded b items d
   unfolding readEnded
-  read-row set kept end =
-      end ∙ (ap (λ (z : List ℕ). ended z d 1 s) kept
-      ∙ ap (λ (r : ℕ). ended (upTo (keepAnswer d r) b items) d 1 r) set)
+  read-row set reads kinds kept end = rw (← set, ← reads, ← kinds, ← kept) end
 
   pub kept-row : {u v w : List ℕ} (stamp : ℕ) → u ≡ upTo (seeItem d s stamp) b items
       → v ≡ upTo (keepValue d s) u items → w ≡ ended v d 2 s

@@ -2,22 +2,25 @@
 use mathlib.Core.Bool.{cond}
 use mathlib.Core.List.{List}
 use Prim.Native.Nat.{ℕ, _%_}
+use lib.Dec.{eqb}
 use Rattle.basics.specs.Fold.{upTo}
 use Rattle.itemset.specs.Set.{has, insert64}
 use Rattle.protocol.specs.declared.Message.the-variants.{Commit}
 use Rattle.protocol.specs.Tables.{laterOf}
 use Rattle.layout.specs.Layout.{scalars, asked, values, lastStamps, lastValues, at, store, modeAt}
 use Rattle.layout.specs.Layout.{setAt, awaitedAt, lastKindAt, lastSetAt, lastStampAt, itemAt}
+use Rattle.layout.specs.Layout.{idle, stageOf}
 use Rattle.layout.specs.Decode.{viewIn}
 use Rattle.layout.specs.Store.{storeView}
 use Rattle.slots.specs.Room.{send}
 
--- ---- either kind (1 a read, 2 a write): it is the last ended one; the client is idle, with no set
+-- ---- any kind (1 a read, 2 a write, 3 a fast read): it is the last ended one; the client is idle,
+-- with no set
 
 abbrev pub ended : List ℕ → ℕ → ℕ → ℕ → List ℕ
 ended b d kind s =
     store (store (store (store (store b scalars (lastKindAt d) kind) scalars (lastSetAt d) s)
-    scalars (modeAt d) 0) scalars (setAt d) 0) scalars (awaitedAt d) 0
+    scalars (modeAt d) idle) scalars (setAt d) 0) scalars (awaitedAt d) 0
 
 -- ---- a read: the last ended transaction takes, item by item, the stamps and the values
 
@@ -27,10 +30,14 @@ keepAnswer d s b k =
     (store (store b lastStamps (itemAt d k) (at b asked (itemAt d k))) lastValues (itemAt d k)
     (at b values (itemAt d k))) b
 
+-- the kind that a read in this mode ends as
+abbrev pub readKind : ℕ → ℕ
+readKind mode = cond (eqb (stageOf mode) 0) 1 3
+
 unfoldable pub readEnded : List ℕ → ℕ → ℕ → List ℕ
 readEnded b items d =
     let s = at b scalars (setAt d) in
-    ended (upTo (keepAnswer d s) b items) d 1 s
+    ended (upTo (keepAnswer d s) b items) d (readKind (at b scalars (modeAt d))) s
 
 -- ---- a write: the view takes it, item by item; values and stamp are kept; commits join
 

@@ -17,6 +17,7 @@ use layout::entry::view;
 use messages::send;
 use protocol::Entry;
 use protocol::Message;
+use protocol::kind::WRITE;
 
 // The view entry of item `k` of set `s` becomes the later of itself and this write.
 fn see_item(b: &mut [u64], d: u64, s: u64, stamp: u64, k: u64)
@@ -120,7 +121,7 @@ fn write_kept(b: &mut [u64], items: u64, d: u64, s: u64, stamp: u64)
 {
     see(b, items, d, s, stamp);
     keep_values(b, items, d, s);
-    end(b, d, 2, s);
+    end(b, d, WRITE, s);
     put_last_stamp(b, d, stamp);
 }
 

@@ -493,6 +493,75 @@ rows =
           ++ line 3 0x22_01_01;
       answer = 0x0f ∷ 0x00 ∷ 0x03 ∷ [];
     }
+    -- a fast read may miss its desk's own write, and an inherited one; an ordinary read of the same
+    -- below it may not
+    ∷ record {
+      log =
+          line 18 0x2001_0000000000000001_00000001_00000007
+          ++ line 19 0x2301_0000000000000001_00000000_00_00000000;
+      answer = 0x00 ∷ 0x00 ∷ 0x00 ∷ 0x00 ∷ [];
+    }
+    ∷ record {
+      log =
+          line 18 0x2001_0000000000000001_00000001_00000007
+          ++ line 3 0x22_01_02
+          ++ line 19 0x2302_0000000000000001_00000000_00_00000000
+          ++ line 19 0x2102_0000000000000001_00000000_00_00000000;
+      answer = 0x00 ∷ 0x03 ∷ 0x00 ∷ 0x04 ∷ [];
+    }
+    -- it is unwritten as any read, by a stamp and by a value; what is written below is written
+    ∷ record {
+      log =
+          line 19 0x2302_0000000000000001_00000001_01_00000007
+          ++ line 18 0x2001_0000000000000001_00000001_00000008;
+      answer = 0x00 ∷ 0x01 ∷ 0x00 ∷ 0x01 ∷ [];
+    }
+    ∷ record {
+      log =
+          line 19 0x2302_0000000000000001_00000000_00_00000007;
+      answer = 0x00 ∷ 0x01 ∷ 0x00 ∷ 0x01 ∷ [];
+    }
+    ∷ record {
+      log =
+          line 19 0x2302_0000000000000001_00000001_01_00000007
+          ++ line 18 0x2001_0000000000000001_00000001_00000007;
+      answer = 0x00 ∷ 0x00 ∷ 0x00 ∷ 0x00 ∷ [];
+    }
+    -- and fractured as any read, also where it missed its desk's own write; whole it is clean
+    ∷ record {
+      log =
+          line 22 0x2001_0000000000000003_00000001_00000007_00000008
+          ++ line 28 0x2302_0000000000000003_00000001_01_00000007_00000000_00_00000000;
+      answer = 0x00 ∷ 0x02 ∷ 0x00 ∷ 0x02 ∷ [];
+    }
+    ∷ record {
+      log =
+          line 22 0x2001_0000000000000003_00000001_00000007_00000008
+          ++ line 28 0x2301_0000000000000003_00000001_01_00000007_00000000_00_00000000;
+      answer = 0x00 ∷ 0x02 ∷ 0x00 ∷ 0x02 ∷ [];
+    }
+    ∷ record {
+      log =
+          line 22 0x2001_0000000000000003_00000001_00000007_00000008
+          ++ line 28 0x2302_0000000000000003_00000001_01_00000007_00000001_01_00000008;
+      answer = 0x00 ∷ 0x00 ∷ 0x00 ∷ 0x00 ∷ [];
+    }
+    -- it writes nothing: what it shows is written by no line, and no desk's own
+    ∷ record {
+      log =
+          line 18 0x2001_0000000000000001_00000001_00000007
+          ++ line 19 0x2302_0000000000000001_00000001_01_00000007
+          ++ line 19 0x2102_0000000000000001_00000000_00_00000000;
+      answer = 0x00 ∷ 0x00 ∷ 0x00 ∷ 0x00 ∷ [];
+    }
+    -- malformed before any finding
+    ∷ record {
+      log =
+          line 18 0x2001_0000000000000001_00000001_00000007
+          ++ line 19 0x2101_0000000000000001_00000000_00_00000000
+          ++ line 10 0x2301_0000000000000000;
+      answer = 0x0f ∷ 0x00 ∷ 0x03 ∷ [];
+    }
     -- the lowest at the first line at fault: 1 before 2 and 3, 2 before 3; a later line's lower
     -- one doesn't count
     ∷ record {

@@ -13,7 +13,8 @@ use Rattle.basics.proofs.Cases.{not-true, not-false}
 use Rattle.itemset.specs.Set.{has}
 use Rattle.log.specs.Some.{some, someFrom}
 use Rattle.log.proofs.Some.{some-at, at-some, someFrom-at, at-someFrom}
-use Rattle.log.specs.Log.{framesOf, clientOf, numberOf, written, writtenStamp, writtenValue, shown}
+use Rattle.log.specs.Log.{framesOf, kindOf, clientOf, readsOwn, numberOf, written, writtenStamp}
+use Rattle.log.specs.Log.{writtenValue, shown}
 use Rattle.log.specs.Log.{shownStamp, shownValue, shaped, reaches, malformed, malformedAt}
 use Rattle.log.proofs.Lines.{frame-bytes}
 use Rattle.log.proofs.Parts.{shown-below, written-part, shaped-number}
@@ -187,14 +188,18 @@ module _ (log : List ℕ) where
   misses i item j =
       missesAt (owners frames j i) (clientOf (line i)) item (shownStamp (line i) item) (line j)
 
+  abbrev misses-any : ℕ → ℕ → Bool
+  misses-any i item = readsOwn (kindOf (line i)) && someFrom i 0 (misses i item)
+
   pub missed-says : (i : ℕ) → i < length frames → holdsAt ownWriteMissed frames i ≡ true
       → OwnWriteMissed frames i
   unfolding holdsAt missesAt outdates
   missed-says i l e =
-      let f = item-at i (λ item. someFrom i 0 (misses i item)) e in
+      let f = item-at i (misses-any i) e in
       let item = f .0 in
       let k = shownStamp (line i) item in
-      let a = someFrom-at i 0 (misses i item) (f .2) in
+      let sees = readsOwn (kindOf (line i)) in
+      let a = someFrom-at i 0 (misses i item) (and-right sees _ (f .2)) in
       let j = a .0 in
       let mine = has (owners frames j i) (clientOf (line i)) in
       let rest = and-right mine _ (a .3) in (
@@ -202,6 +207,7 @@ module _ (log : List ℕ) where
         item,
         writtenStamp (line j),
         k,
+        and-left sees _ (f .2),
         owners-own frames j i (clientOf (line i)) (and-left mine _ (a .3)),
         (omega (arith, a .2), and-left (has (written (line j)) item) _ rest, refl),
         (l, f .1, refl),
@@ -215,8 +221,9 @@ module _ (log : List ℕ) where
       let j = u .0 in
       let item = u .1 in
       let k = shownStamp (line i) item in
-      at-item i (λ item. someFrom i 0 (misses i item)) item (u .6 .1)
-      (at-someFrom i 0 (misses i item) j (omega arith) (omega (arith, own-above frames j (u .4)))
-      (and-both (has (owners frames j i) (clientOf (line i))) _ (own-owners frames j (u .4))
-      (and-both (has (written (line j)) item) _ (u .5 .1)
-      (lt-ltb k (writtenStamp (line j)) (omega (arith, u .5 .2, u .6 .2, u .7))))))
+      at-item i (misses-any i) item (u .7 .1)
+      (and-both (readsOwn (kindOf (line i))) _ (u .4)
+      (at-someFrom i 0 (misses i item) j (omega arith) (omega (arith, own-above frames j (u .5)))
+      (and-both (has (owners frames j i) (clientOf (line i))) _ (own-owners frames j (u .5))
+      (and-both (has (written (line j)) item) _ (u .6 .1)
+      (lt-ltb k (writtenStamp (line j)) (omega (arith, u .6 .2, u .7 .2, u .8)))))))

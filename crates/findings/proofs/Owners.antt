@@ -14,7 +14,7 @@ use Rattle.basics.proofs.Cases.{by-test, not-both, and-left, and-right, or-case
 use Rattle.basics.proofs.Cases.{eqb-same}
 use Rattle.itemset.specs.Set.{has, insert}
 use Rattle.itemset.proofs.Laws.{has-empty, has-insert, has-insert-same}
-use Rattle.log.specs.Log.{kindOf, clientOf, handsOver, receiverOf, shownStamp}
+use Rattle.log.specs.Log.{kindOf, clientOf, handsOver, readsOwn, receiverOf, shownStamp}
 use Rattle.log.specs.Some.{someFrom}
 use Rattle.log.proofs.Some.{someFrom-ext}
 use Rattle.findings.specs.Findings.{withHeir, owners, outdates, missesAt}
@@ -157,12 +157,14 @@ module _ (frames : List (List ℕ)) where
         ∙ heir-none (owners frames j k) (line k) (none k m)
         ∙ owners-plain j k above (omega arith))
 
-    pub missed-plain : (item : ℕ) → ownWriteMissed frames i item ≡ someFrom i 0
+    pub missed-plain : (item : ℕ) → ownWriteMissed frames i item
+        ≡ (readsOwn (kindOf (line i)) && someFrom i 0
         (λ j. eqb (clientOf (line i)) (clientOf (line j))
-        && outdates item (shownStamp (line i) item) (line j))
+        && outdates item (shownStamp (line i) item) (line j)))
     unfolding missesAt
     missed-plain item =
-        someFrom-ext i 0
+        ap (λ (b : Bool). readsOwn (kindOf (line i)) && b)
+        (someFrom-ext i 0
         (λ j. missesAt (owners frames j i) (clientOf (line i)) item (shownStamp (line i) item)
         (line j))
         (λ j. eqb (clientOf (line i)) (clientOf (line j))
@@ -174,4 +176,4 @@ module _ (frames : List (List ℕ)) where
         ∙ has-insert 0 (clientOf (line j)) (clientOf (line i))
         ∙ ap (λ (b : Bool). eqb (clientOf (line i)) (clientOf (line j)) || b)
         (has-empty (clientOf (line i)))
-        ∙ or-false (eqb (clientOf (line i)) (clientOf (line j)))))
+        ∙ or-false (eqb (clientOf (line i)) (clientOf (line j))))))

@@ -123,7 +123,7 @@ module _ (log : List ℕ) where
     in-log : (i : ℕ) → Fault frames i → i < length frames
     in-log i (inl u) = u .2 .0
     in-log i (inr (inl u)) = u .7 .0
-    in-log i (inr (inr u)) = u .6 .0
+    in-log i (inr (inr u)) = u .7 .0
 
     not-before : (j : ℕ) → j < first → Fault frames j → ⊥
     not-before j l f = not-both (fault-at j f)

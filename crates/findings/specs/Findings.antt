@@ -1,5 +1,5 @@
 -- The three findings, their order, and the verdict on a log (document 01: findings; refusals 15 and
--- 16; document 02, P6: inherited writes). A line's number here counts from 0.
+-- 16; document 02, P6: inherited writes, P7: fast reads). A line's number here counts from 0.
 use mathlib.Core.Bool.{Bool, cond, not, _&&_}
 use mathlib.Core.List.{List, [], _∷_, _++_}
 use Prim.Native.Nat.{ℕ, zero, suc, _+_, _*_}
@@ -9,6 +9,7 @@ use Rattle.hex.specs.Number.{bigEndian}
 use Rattle.itemset.specs.Set.{has, insert}
 use Rattle.log.specs.Some.{some, someFrom}
 use Rattle.log.specs.Log.{tooLong, firstLine, framesOf, kindOf, clientOf, handsOver, receiverOf}
+use Rattle.log.specs.Log.{readsOwn}
 use Rattle.log.specs.Log.{written, writtenStamp, writtenValue, shown, shownStamp, shownValue}
 use Rattle.log.specs.Log.{malformedAt}
 use Rattle.findings.specs.declared.Verdict.{Verdict}
@@ -72,11 +73,11 @@ unfoldable pub missesAt : ℕ → ℕ → ℕ → ℕ → List ℕ → Bool
 missesAt clients client item stamp w = has clients client && outdates item stamp w
 
 -- 3 own write missed: a line above, which counts as its client's own, wrote that item with a later
--- stamp
+-- stamp; of a read that is to see its client's own writes
 abbrev pub ownWriteMissed : List (List ℕ) → ℕ → ℕ → Bool
 ownWriteMissed frames i item =
     let r = getD frames i [] in
-    someFrom i 0
+    readsOwn (kindOf r) && someFrom i 0
     (λ j. missesAt (owners frames j i) (clientOf r) item (shownStamp r item) (getD frames j []))
 
 -- ---- their order

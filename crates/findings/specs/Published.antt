@@ -1,7 +1,7 @@
 -- The published definitions as statements about a log, with the lines and items that they speak of:
 -- read atomicity and fractured reads (sources 001 and 002), reading one's own writes (source 000)
--- and inherited ones (document 02, P6), and what a well-formed line is. A line is a transaction, or
--- a hand-over; lines and items count from 0.
+-- and inherited ones (document 02, P6), fast reads being free to miss them (P7), and what a
+-- well-formed line is. A line is a transaction, or a hand-over; lines and items count from 0.
 use mathlib.Core.Bool.{true}
 use mathlib.Core.List.{List, [], _∷_, _++_}
 use mathlib.Core.Logic.{_⊎_}
@@ -14,7 +14,7 @@ use Rattle.hex.specs.Bytes.{EachByte}
 use Rattle.hex.specs.Text.{hexText}
 use Rattle.itemset.specs.Set.{has}
 use Rattle.log.specs.Log.{linesOf, framesOf, kindOf, clientOf, hasRead, hasWrite, handsOver}
-use Rattle.log.specs.Log.{isKind, receiverOf, shown, count64}
+use Rattle.log.specs.Log.{isKind, readsOwn, receiverOf, shown, count64}
 use Rattle.log.specs.Log.{entryNumber, entryWriter, shownStamp, shownValue, written, numberOf}
 use Rattle.log.specs.Log.{writtenStamp, writtenValue, endOf}
 use Rattle.findings.specs.declared.Verdict.{Verdict}
@@ -121,12 +121,12 @@ module _ (frames : List (List ℕ)) where
     inherited : {giver client h i j : ℕ} → h < i → HandsOver h giver client → Own giver h j
         → Own client i j
 
-  -- a read that misses an earlier write of its own session: line j, which counts as its client's
-  -- own, wrote the item at n, line i reads it at k, and k < n
+  -- a read, not a fast one, that misses an earlier write of its own session: line j, which counts
+  -- as its client's own, wrote the item at n, line i reads it at k, and k < n
   abbrev pub OwnWriteMissed : ℕ → Type 0
   OwnWriteMissed i =
-      (j item n k : ℕ) × Own (clientOf (getD frames i [])) i j
-      × Wrote j item n × Reads i item k × (k < n)
+      (j item n k : ℕ) × (readsOwn (kindOf (getD frames i [])) ≡ true)
+      × Own (clientOf (getD frames i [])) i j × Wrote j item n × Reads i item k × (k < n)
 
   abbrev pub Fault : ℕ → Type 0
   Fault i = Unwritten i ⊎ (Fractured i ⊎ OwnWriteMissed i)

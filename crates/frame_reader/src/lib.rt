@@ -57,11 +57,17 @@ fn is_write(f: &[u8]) -> bool
     is_frame(f, 3, 10 + 4 * values) & (values <= 64)
 }
 
-// The frame of some bytes, of a kind of `40` or greater (document 02).
+// The frame of some bytes, of those that document 02 adds.
 fn parse_later(f: &[u8]) -> Parsed
     ensures { λ r. ⌜ r ≡ parsedLater (now (f .entry)) ⌝ }
 {
     let length = f.len();
+    if is_frame(f, 6, 10) {
+        let client = hex::number_at(f, 1, 1);
+        let set = hex::number_at(f, 2, 8);
+        let frame = StoreFrame::FastRead { client, set };
+        return Parsed::Frame { frame, length };
+    }
     if is_frame(f, 0x40, 1) {
         let frame = StoreFrame::Clear;
         return Parsed::Frame { frame, length };

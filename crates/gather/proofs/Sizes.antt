@@ -26,5 +26,5 @@ module _ (clients partitions items : ℕ) where
 
   pub client-sized : (c : Client) → clientInRange (sized clients items) c ≡ clientInRange
       (sizes clients partitions items) c
-  unfolding clientInRange endedInRange readPartInRange writePartInRange stampInRange
+  unfolding clientInRange endedInRange readPartInRange writePartInRange entryInRange stampInRange
   client-sized c = refl

@@ -98,3 +98,19 @@ pub rank-lt : (s k : ℕ) → has s k ≡ true → rank s k < count s
 rank-lt s k e =
     let here : rank s (suc k) ≡ rank s k + 1 = rw e at (rank-suc s k) in
     omega (arith, rank-count s (suc k))
+
+pub count-some : (s k : ℕ) → has s k ≡ true → 1 ≤ count s
+count-some s k e = omega (arith, rank-lt s k e)
+
+-- ---- a set within another
+
+module _ (a s : ℕ) (within : (k : ℕ) → has a k ≡ true → has s k ≡ true) where
+  pub rank-within : (n : ℕ) → rank a n ≤ rank s n
+  rank-within zero = omega (arith, rank-zero a)
+  rank-within (suc n) =
+      by-test (has a n)
+      (λ e. omega (arith, rw e at (rank-suc a n), rw (within n e) at (rank-suc s n), rank-within n))
+      (λ e. omega (arith, rw e at (rank-suc a n), rank-suc s n, rank-within n))
+
+  pub count-within : (n : ℕ) → a < 2 ^ n → count a ≤ count s
+  count-within n l = omega (arith, rank-all a n l, rank-within n, rank-count s n)

@@ -49,6 +49,11 @@ unfoldable pub upto : ℕ → (ℕ → Bool) → List ℕ
 upto zero p = []
 upto (suc n) p = upto n p ++ only (p n) n
 
+-- the set of the numbers below n that pass the test
+unfoldable pub setOf : ℕ → (ℕ → Bool) → ℕ
+setOf zero p = 0
+setOf (suc n) p = let rest = setOf n p in cond (p n) (insert rest n) rest
+
 -- the members of s below n, ascending
 abbrev pub members : ℕ → ℕ → List ℕ
 members n s = upto n (has s)

@@ -13,10 +13,10 @@ use Rattle.itemset.specs.Set.{has}
 use Rattle.itemset.proofs.Laws.{has-empty}
 use Rattle.log.specs.Some.{some, someFrom}
 use Rattle.log.proofs.Some.{some-at, at-some, someFrom-at, at-someFrom, someFrom-or}
-use Rattle.log.proofs.Some.{someFrom-ext}
+use Rattle.log.proofs.Some.{someFrom-and, someFrom-ext}
 use Rattle.findings.specs.Findings.{holdsAt, faultAt, isUnwritten, fractures, owners, missesAt}
 use Rattle.findings.proofs.Owners.{owners-none}
-use Rattle.log.specs.Log.{clientOf, shown, shownStamp, shownValue}
+use Rattle.log.specs.Log.{kindOf, clientOf, readsOwn, shown, shownStamp, shownValue}
 use Rattle.judge_frames.specs.Cut.{frameIn, framesIn}
 use Rattle.judge_frames.proofs.Cuts.{length-framesIn, framesIn-at}
 use Rattle.judge_findings.specs.Owned.{Owned}
@@ -101,20 +101,26 @@ module _ (bytes starts : List ℕ) (n line : ℕ) (h : line < n) where
   missed item j =
       missesAt (owners frames j line) (clientOf r) item (shownStamp r item) (getD frames j [])
 
+  -- the line is to see the client's own writes, and misses one
+  abbrev misses : ℕ → Bool
+  misses item = readsOwn (kindOf r) && someFrom line 0 (missed item)
+
   -- over the writes: any of them, and the client's own
   writes-search : (item : ℕ) → someFrom n 0 (writeFault bytes starts n line item)
-      ≡ (some (fractures r item (shownStamp r item)) frames || someFrom line 0 (missed item))
+      ≡ (some (fractures r item (shownStamp r item)) frames || misses item)
   unfolding writeFault faultsOf missesAt
   writes-search item =
       someFrom-ext n 0 (writeFault bytes starts n line item)
-      (λ j. fractured item j || missed item j)
+      (λ j. fractured item j || (readsOwn (kindOf r) && missed item j))
       (λ j _ g. rw (framesIn-at bytes starts n j (omega arith)))
-      ∙ someFrom-or n 0 (fractured item) (missed item)
+      ∙ someFrom-or n 0 (fractured item) (λ j. readsOwn (kindOf r) && missed item j)
       ∙ ap₂ _||_
       (ap (λ (m : ℕ). someFrom m 0 (fractured item)) (sym (length-framesIn bytes starts n))
       ∙ anywhere (fractures r item (shownStamp r item)) frames)
+      (someFrom-and n 0 (readsOwn (kindOf r)) (missed item)
+      ∙ ap (λ (b : Bool). readsOwn (kindOf r) && b)
       (above (missed item) n line (omega arith)
-      (λ j l. rw (owners-none frames j line l, has-empty (clientOf r))))
+      (λ j l. rw (owners-none frames j line l, has-empty (clientOf r)))))
 
   pub fault-search : someFrom 64 0 (itemFault bytes starts n line) ≡ faultAt frames line
   unfolding itemFault some holdsAt
@@ -123,14 +129,14 @@ module _ (bytes starts : List ℕ) (n line : ℕ) (h : line < n) where
       someFrom-ext 64 0 (itemFault bytes starts n line)
       (λ item. has (shown r) item
       && (isUnwritten frames item (shownStamp r item) (shownValue r item)
-      || (some (fractures r item (shownStamp r item)) frames || someFrom line 0 (missed item))))
+      || (some (fractures r item (shownStamp r item)) frames || misses item)))
       (λ item _ _. ap (λ (x : Bool). has (shown r) item
       && (isUnwritten frames item (shownStamp r item) (shownValue r item) || x))
       (writes-search item))
       ∙ items-search (has (shown r))
       (λ item. isUnwritten frames item (shownStamp r item) (shownValue r item))
       (λ item. some (fractures r item (shownStamp r item)) frames)
-      (λ item. someFrom line 0 (missed item))
+      misses
       ∙ rw here
 
 -- ---- one turn of the search
@@ -187,21 +193,22 @@ module _ (bytes starts : List ℕ) (n line item : ℕ) (r : List ℕ) (h : line 
       → stamp ≡ shownStamp r item → b ≡ findingOf f (framesIn bytes starts n) line item
   finding-two b stamp t e s = t ∙ rw (e, frame-at, s)
 
-  pub finding-three : (b : Bool) (table : List ℕ) (of stamp : ℕ)
+  pub finding-three : (own b : Bool) (table : List ℕ) (of stamp : ℕ) → own ≡ readsOwn (kindOf r)
       → b ≡ someFrom line 0 (λ j. missesAt (getD table j 0) of item stamp (frameIn bytes starts j))
       → Owned bytes starts n line table → (f ≡ 1 → ⊥) → (f ≡ 2 → ⊥) → of ≡ clientOf r
-      → stamp ≡ shownStamp r item → b ≡ findingOf f (framesIn bytes starts n) line item
+      → stamp ≡ shownStamp r item → (own && b) ≡ findingOf f (framesIn bytes starts n) line item
   unfolding missesAt
-  finding-three b table of stamp t owned one two o s =
-      t ∙ rw (ne-eqb f 1 one, ne-eqb f 2 two, frame-at, ← o, ← s)
-      (someFrom-ext line 0
+  finding-three own b table of stamp w t owned one two o s =
+      rw (ne-eqb f 1 one, ne-eqb f 2 two, frame-at, ← w, ← o, ← s)
+      (ap (λ (x : Bool). own && x)
+      (t ∙ someFrom-ext line 0
       (λ j. missesAt (getD table j 0) of item stamp (frameIn bytes starts j))
       (λ j. missesAt (owners (framesIn bytes starts n) j line) of item stamp
       (getD (framesIn bytes starts n) j []))
       (λ j _ l. rw (
         owned .held j (omega arith),
         framesIn-at bytes starts n j (omega arith),
-      )))
+      ))))
 
 -- line i shows an item at which the finding holds
 pub holds-search : (bytes starts : List ℕ) (n line f items : ℕ) → line < n

@@ -6,6 +6,7 @@ use judge_findings::faults::is_unwritten;
 use judge_findings::owners::pass_line;
 use judge_frames::cut::frame;
 use judge_frames::fields::client;
+use judge_frames::fields::reads_own;
 use judge_frames::fields::shown;
 use judge_frames::fields::shown_stamp;
 use judge_frames::fields::shown_value;
@@ -95,7 +96,7 @@ fn holds(
     if finding == 2 {
         return is_fractured(bytes, starts, n, r, item, stamp);
     }
-    is_missed(bytes, starts, owners, line, client(r), item, stamp)
+    reads_own(r) & is_missed(bytes, starts, owners, line, client(r), item, stamp)
 }
 
 // Line `line` shows an item at which the finding holds.

@@ -1,20 +1,20 @@
 -- What a line's mark rules out, and one more mark.
-use mathlib.Core.Bool.{Bool, true, false, and-false, or-false}
+use mathlib.Core.Bool.{Bool, true, false, _&&_, and-assoc, and-true, and-false, or-false}
 use mathlib.Core.List.{List}
 use mathlib.Core.Path.{_≡_, sym, ap, _∙_}
 use Prim.Native.Nat.{ℕ, _+_, _≤_, _<_}
 use native.Mathlib.Omega.{arith}
-use lib.Dec.{eqb}
+use lib.Dec.{eqb, ltb}
 use lib.ListN.{length, getD, set}
 use lib.Seq.{getD-set-same, getD-set-other}
-use borrow.Author.Tests.{eqb-true, eqb-false, ne-eqb, le-ltb}
+use borrow.Author.Tests.{eqb-true, eqb-false, ne-eqb, le-ltb, lt-ltb}
 use Rattle.basics.proofs.Cases.{by-test}
 use Rattle.itemset.specs.Set.{has}
 use Rattle.itemset.proofs.Laws.{has-empty}
 use Rattle.judge_frames.specs.Cut.{frameIn}
-use Rattle.log.specs.Log.{written, writtenStamp}
+use Rattle.log.specs.Log.{kindOf, readsOwn, written, writtenStamp}
 use Rattle.findings.specs.Findings.{wrote, fractures, outdates, missesAt}
-use Rattle.judge_findings.specs.Tests.{faultsOf}
+use Rattle.judge_findings.specs.Tests.{wroteOwn, faultsOf}
 use Rattle.judge_findings.specs.Marks.{markOf, Marked}
 
 -- ---- what a mark rules out
@@ -49,23 +49,45 @@ module _ (w : List ℕ) (item stamp : ℕ) where
     unfolding missesAt
     mark-misses h = rw (mark-outdates h) (and-false (has owners of))
 
+    -- whose own the write is, its items and its stamp, tested apart
+    pub misses-both : {b : Bool} {σ : ℕ} → b ≡ wroteOwn owners of item w → σ ≡ writtenStamp w
+        → (b && ltb stamp σ) ≡ missesAt owners of item stamp w
+    unfolding wroteOwn missesAt outdates
+    misses-both p q =
+        rw (p, q) (and-assoc (has owners of) (has (written w) item) (ltb stamp (writtenStamp w)))
+
+    -- where the mark is later, whose own the write is and its items are left to test
+    mark-later : stamp < markOf w → wroteOwn owners of item w ≡ missesAt owners of item stamp w
+    unfolding markOf wroteOwn missesAt outdates
+    mark-later l =
+        by-test (eqb (written w) 0)
+        (λ t. absurd (omega (arith, rw t at l)))
+        (λ t. rw (lt-ltb stamp (writtenStamp w) (rw t at l), and-true (has (written w) item)))
+
     module _ (r : List ℕ) where
       pub faults-equal : markOf w ≡ stamp
           → fractures r item stamp w ≡ faultsOf r owners of item stamp w
       unfolding faultsOf
       faults-equal e =
-          rw (mark-misses (omega arith)) (sym (or-false (fractures r item stamp w)))
+          rw (mark-misses (omega arith), and-false (readsOwn (kindOf r)))
+          (sym (or-false (fractures r item stamp w)))
 
-      pub faults-later : (b : Bool) → b ≡ missesAt owners of item stamp w
-          → (markOf w ≡ stamp → ⊥) → b ≡ faultsOf r owners of item stamp w
+      pub faults-later : (own b : Bool) → own ≡ readsOwn (kindOf r)
+          → b ≡ wroteOwn owners of item w → stamp < markOf w
+          → (own && b) ≡ faultsOf r owners of item stamp w
       unfolding faultsOf
-      faults-later b e h = rw (mark-fractures r h) e
+      faults-later own b o e l =
+          rw (mark-fractures r (λ z. omega (arith, z)), o, e, mark-later l)
 
       pub faults-none : (mark : ℕ) → mark ≡ markOf w → (mark ≡ stamp → ⊥) → mark ≤ stamp
           → false ≡ faultsOf r owners of item stamp w
       unfolding faultsOf
       faults-none mark m h l =
-          rw (mark-fractures r (λ z. h (m ∙ z)), mark-misses (omega arith))
+          rw (
+            mark-fractures r (λ z. h (m ∙ z)),
+            mark-misses (omega arith),
+            and-false (readsOwn (kindOf r)),
+          )
 
 -- ---- one more mark
 

@@ -1,6 +1,7 @@
 // The three findings at one item that a read shows, each a search over the writes of the log
 // (document 01: findings).
 use judge_frames::cut::frame;
+use judge_frames::fields::reads_own;
 use judge_frames::fields::shown;
 use judge_frames::fields::shown_stamp;
 use judge_frames::fields::written;
@@ -12,10 +13,9 @@ ghost use lib.ListN.{length, getD};
 ghost use Rattle.itemset.specs.Set.{has};
 ghost use Rattle.judge_frames.specs.Cut.{frameIn, framesIn};
 ghost use Rattle.findings.specs.Findings.{wrote as wroteBy, isUnwritten, behind as isBehind};
-ghost use Rattle.findings.specs.Findings.{fractures as fracturesAt, outdates as outdatesAt};
-ghost use Rattle.findings.specs.Findings.{missesAt};
+ghost use Rattle.findings.specs.Findings.{fractures as fracturesAt, missesAt};
 ghost use Rattle.judge_findings.specs.Marks.{markOf, Table};
-ghost use Rattle.judge_findings.specs.Tests.{behindAt, faultsOf};
+ghost use Rattle.judge_findings.specs.Tests.{behindAt, wroteOwn, faultsOf};
 ghost use Rattle.log.specs.Some.{some, someFrom};
 
 // `w` wrote the item with that stamp and value.
@@ -138,14 +138,27 @@ pub fn fractures(r: &[u8], item: u64, stamp: u64, w: &[u8]) -> bool
     }
 }
 
-// `w` wrote the item with a later stamp.
-fn outdates(w: &[u8], item: u64, stamp: u64) -> bool
-    ensures { λ r. ⌜ r ≡ outdatesAt item stamp (now (w .entry)) ⌝ }
+// Line `write` counts as that client's own, and wrote the item.
+fn wrote_own(
+    bytes: &[u8],
+    starts: &[usize],
+    owners: &[u64],
+    write: usize,
+    of: u64,
+    item: u64,
+) -> bool
+    requires { ⌜ (write ≤ 65536) × (write < length (now owners)) ⌝ }
+    ensures { λ b. ⌜ b ≡ wroteOwn (getD (now (owners .entry)) write 0) of item
+        (frameIn (now (bytes .entry)) (now (starts .entry)) write) ⌝ }
 {
-    itemset::has(written(w), item) & (stamp < written_stamp(w))
+    if itemset::has(owners[write], of) {
+        itemset::has(written(frame(bytes, starts, write)), item)
+    } else {
+        false
+    }
 }
 
-// Line `write` counts as that client's own, and wrote the item with a later stamp.
+// Besides, with a later stamp.
 fn misses_at(
     bytes: &[u8],
     starts: &[usize],
@@ -159,15 +172,12 @@ fn misses_at(
     ensures { λ b. ⌜ b ≡ missesAt (getD (now (owners .entry)) write 0) of item stamp
         (frameIn (now (bytes .entry)) (now (starts .entry)) write) ⌝ }
 {
-    if itemset::has(owners[write], of) {
-        outdates(frame(bytes, starts, write), item, stamp)
-    } else {
-        false
-    }
+    wrote_own(bytes, starts, owners, write, of, item)
+        & (stamp < written_stamp(frame(bytes, starts, write)))
 }
 
 // Line `write` has the read `r` of that client at fault at the item: fractured, or an own write
-// missed.
+// missed that it was to see. The mark tells which stamp is the later.
 pub fn faults_at(
     bytes: &[u8],
     starts: &[usize],
@@ -189,7 +199,7 @@ pub fn faults_at(
         return fractures(r, item, stamp, frame(bytes, starts, write));
     }
     if stamp < mark {
-        misses_at(bytes, starts, owners, write, of, item, stamp)
+        reads_own(r) & wrote_own(bytes, starts, owners, write, of, item)
     } else {
         false
     }

@@ -6,7 +6,7 @@ ghost use lib.ListN.{getD};
 ghost use Rattle.hex.specs.Number.{numberAt};
 ghost use Rattle.itemset.specs.Set.{rank};
 ghost use Rattle.log.specs.Log.{kindOf, clientOf, count64, hasRead, hasWrite, handsOver};
-ghost use Rattle.log.specs.Log.{receiverOf, shownStamp, shownValue, writeAt, numberOf};
+ghost use Rattle.log.specs.Log.{readsOwn, receiverOf, shownStamp, shownValue, writeAt, numberOf};
 ghost use Rattle.log.specs.Log.{writtenStamp, writtenValue, endOf, written as writtenItems};
 ghost use Rattle.log.specs.Log.{shown as shownItems};
 
@@ -52,6 +52,14 @@ pub fn client(f: &[u8]) -> u64
 // Whether the frame's kind has a read part.
 pub fn has_read(f: &[u8]) -> bool
     ensures { λ r. ⌜ r ≡ hasRead (kindOf (now (f .entry))) ⌝ }
+{
+    let kind = byte(f, 0);
+    (kind == 0x21) | (kind == 0x23)
+}
+
+// Whether the frame's kind is to see its client's own writes.
+pub fn reads_own(f: &[u8]) -> bool
+    ensures { λ r. ⌜ r ≡ readsOwn (kindOf (now (f .entry))) ⌝ }
 {
     byte(f, 0) == 0x21
 }

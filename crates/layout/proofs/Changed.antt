@@ -3,17 +3,20 @@
 use mathlib.Core.Bool.{false}
 use mathlib.Core.List.{List}
 use mathlib.Core.Path.{_≡_, ap, _∙_, subst}
-use Prim.Native.Nat.{ℕ, _≤_, _<_}
+use Prim.Native.Nat.{ℕ, _+_, _*_, _≤_, _<_}
 use native.Mathlib.Omega.{arith}
 use lib.ListN.{length}
+use Rattle.protocol.specs.declared.Entry.{Entry}
 use Rattle.protocol.specs.Tables.{Tables, Client, put, withClient}
-use Rattle.layout.specs.Layout.{Section, store, needed}
+use Rattle.layout.specs.Layout.{entryWords, Section, firsts, store, needed}
+use Rattle.layout.specs.Store.{storeFirst}
 use Rattle.layout.specs.Encodes.{Encodes}
 use Rattle.layout.proofs.Room.{HasRoom, NarrowClient}
 use Rattle.layout.proofs.Sections.{isSection, rowWidth, rowAt}
 use Rattle.layout.proofs.ClientWords.{Words, wordsOf, HasWords, has-words, has-words-put}
 use Rattle.layout.proofs.ClientWords.{putWord, withRow, put-row, put-row-other}
 use Rattle.layout.proofs.ClientHolds.{WordsHold, holds-words}
+use Rattle.layout.proofs.RowEntries.{putEntry}
 use Rattle.layout.proofs.SameBut.{SameBut, same-but-refl, same-but-trans, same-but-put}
 use Rattle.layout.proofs.EncodesClient.{encodes-client}
 
@@ -63,6 +66,15 @@ changed-rows {d} {b} w s f r g n c k u v l h =
     (put-row-other (withRow w s f) r g s k u n
     ∙ ap (λ (x : Words). withRow x r g) (put-row w s f k u)) (changed-put c s k u l))
     k v h
+
+-- a first reply into their row
+pub changed-first : {d : ℕ} {b b′ : List ℕ} (w : Words) (f : ℕ → ℕ)
+    → Changed d b b′ (withRow w firsts f) → (k : ℕ) (e : Entry) → k < 64
+    → Changed d b (storeFirst b′ d k e) (withRow w firsts (putEntry f k e))
+changed-first w f c k e l =
+    changed-row w firsts (put f (entryWords * k + 0) (e .stamp))
+    (changed-row w firsts f c (entryWords * k + 0) (e .stamp) (omega arith))
+    (entryWords * k + 1) (e .set) (omega arith)
 
 pub encodes-changed : {b b′ : List ℕ} {t : Tables} {d : ℕ} {w : Words} {c : Client} → Encodes b t
     → HasRoom t → d ≤ t .sizes .clients

@@ -1,16 +1,17 @@
 -- A block after an accepted fresh holds fresh tables: its words are 0 but for the sizes.
 use mathlib.Core.List.{List}
-use mathlib.Core.Path.{_≡_, refl, _∙_}
+use mathlib.Core.Path.{_≡_, refl, ap, _∙_}
 use Prim.Native.Nat.{ℕ, _+_, _≤_, _<_}
 use native.Mathlib.Omega.{arith}
 use lib.Dec.{lit<}
 use lib.ListN.{length, length-set}
 use Rattle.basics.proofs.Cases.{not-both}
 use Rattle.itemset.proofs.Laws.{has-empty}
-use Rattle.protocol.specs.Tables.{Sizes, fresh, initial, resting, nothing}
+use Rattle.protocol.specs.Tables.{Sizes, fresh, initial, noRead, resting, nothing}
+use Rattle.protocol.proofs.FastRead.{no-first}
 use Rattle.layout.specs.Layout.{clientWords, Section, header, scalars, latest, views, base}
 use Rattle.layout.specs.Layout.{needed, at, store, clientsAt, partitionsAt, itemsAt}
-use Rattle.layout.specs.Layout.{versionsAt, messagesAt, scalarAt, latestAt, viewAt}
+use Rattle.layout.specs.Layout.{versionsAt, messagesAt, scalarAt, latestAt, viewAt, stageOf}
 use Rattle.layout.specs.Store.{storeSizes, blank, freshBlock}
 use Rattle.layout.specs.Encodes.{Encodes, HoldsEntry, HoldsClient}
 use Rattle.layout.proofs.Blank.{length-blank, blank-zero}
@@ -80,8 +81,10 @@ module _ (b : List ℕ) (z : Sizes) (long : needed ≤ length b) where
         read = λ e. record {
           set = zero 2 (lit< tt);
           awaited = zero 3 (lit< tt);
+          stage = ap stageOf (zero 0 (lit< tt));
           asked = λ k i. not-both i (has-empty k);
           values = λ k i. not-both i (has-empty k);
+          firsts = λ k i. not-both i (no-first noRead k refl);
         };
         write = λ e. not-both e refl;
         last = record {

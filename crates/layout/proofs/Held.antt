@@ -14,6 +14,7 @@ use Rattle.protocol.specs.declared.Version.{Version}
 use Rattle.protocol.specs.declared.Entry.{Entry}
 use Rattle.protocol.specs.declared.Message.{Message}
 use Rattle.protocol.specs.declared.Message.the-variants.{Prepare, Prepared, Commit, Get, Got}
+use Rattle.protocol.specs.declared.Message.the-variants.{FirstGet, FirstReply}
 use Rattle.protocol.specs.Message.{kinds, kindOf}
 use Rattle.protocol.proofs.MessageKinds.{kind-within}
 use Rattle.layout.specs.Layout.{messageWords}
@@ -53,7 +54,11 @@ decoded (suc (suc (suc (suc zero)))) w e l h =
     record { kind = rw e refl; same = rw e refl; words = rw e refl }
 decoded (suc (suc (suc (suc (suc zero))))) w e l h =
     record { kind = rw e refl; same = rw e refl; words = rw e refl }
-decoded (suc (suc (suc (suc (suc (suc n)))))) w e l h = absurd (omega arith)
+decoded (suc (suc (suc (suc (suc (suc zero)))))) w e l h =
+    record { kind = rw e refl; same = rw e refl; words = rw e refl }
+decoded (suc (suc (suc (suc (suc (suc (suc zero))))))) w e l h =
+    record { kind = rw e refl; same = rw e refl; words = rw e refl }
+decoded (suc (suc (suc (suc (suc (suc (suc (suc n)))))))) w e l h = absurd (omega arith)
 
 -- what is written of a message and read again is the message
 message-kept : (m : Message) → messageFrom (wordOf m) ≡ m
@@ -63,6 +68,8 @@ message-kept (Prepared k stamp) = refl
 message-kept (Commit p stamp) = refl
 message-kept (Get d k stamp) = refl
 message-kept (Got d v e) = refl
+message-kept (FirstGet d k) = refl
+message-kept (FirstReply d v e) = refl
 
 from-same : (w w′ : ℕ → ℕ) → ((f : ℕ) → f < messageWords → w f ≡ w′ f)
     → messageFrom w ≡ messageFrom w′
@@ -121,5 +128,5 @@ pub last-kind : (n who k v stamp s : ℕ) (e : Entry) → kinds ≤ n
     → messageOf n who k v stamp s e ≡ messageOf kinds who k v stamp s e
 unfolding messageOf
 last-kind n who k v stamp s e h =
-    let five : suc (suc (suc (suc (suc (n - kinds))))) ≡ n = omega arith in
-    subst (λ (x : ℕ). messageOf x who k v stamp s e ≡ messageOf kinds who k v stamp s e) five refl
+    let last : suc (suc (suc (suc (suc (suc (suc (n - kinds))))))) ≡ n = omega arith in
+    subst (λ (x : ℕ). messageOf x who k v stamp s e ≡ messageOf kinds who k v stamp s e) last refl

@@ -4,6 +4,7 @@ pub mod At
 pub mod Sections
 pub mod Past
 mod SameEntry
+pub mod RowEntries
 pub mod Room
 pub mod Parts
 pub mod Kept
@@ -17,5 +18,6 @@ pub mod Same
 pub mod Changed
 pub mod Masked
 pub mod Held
+pub mod FirstWords
 pub mod Blank
 pub mod Fresh

@@ -3,18 +3,23 @@ use mathlib.Core.Bool.{true, false}
 use mathlib.Core.Path.{_≡_}
 use Prim.Native.Nat.{ℕ}
 use Rattle.itemset.specs.Set.{has}
-use Rattle.protocol.specs.Tables.{Tables, Client, noRead, noWrite, Ended, nothing, showsRead}
-use Rattle.protocol.specs.Tables.{showsWrite, initial, resting}
-use Rattle.protocol.specs.Range.{isClient, isItem, isWriting}
+use Rattle.protocol.specs.Tables.{Tables, Client, ReadPart, noRead, noWrite, Ended, nothing}
+use Rattle.protocol.specs.Tables.{showsRead, showsWrite, initial, resting}
+use Rattle.protocol.specs.Range.{isClient, isItem, isWriting, hasFirst}
 
 -- 0 outside s
 abbrev pub Only : ℕ → (ℕ → ℕ) → Type 0
 Only s f = (k : ℕ) → has s k ≡ false → f k ≡ 0
 
+-- a first reply that hasn't come is initial
+abbrev pub OnlyCome : ReadPart → Type 0
+OnlyCome p = (k : ℕ) → hasFirst p k ≡ false → p .firsts k ≡ initial
+
 -- a part that isn't shown is empty
 pub record MaskedEnded (e : Ended) : Type 0 where
   pub asked : Only (e .read .set) (e .read .asked)
   pub answers : Only (e .read .set) (e .read .values)
+  pub firsts : OnlyCome (e .read)
   pub values : Only (e .write .set) (e .write .values)
   pub hiddenRead : showsRead (e .kind) ≡ false → e .read ≡ noRead
   pub hiddenWrite : showsWrite (e .kind) ≡ false → e .write ≡ noWrite
@@ -23,6 +28,7 @@ pub record MaskedEnded (e : Ended) : Type 0 where
 pub record MaskedClient (c : Client) : Type 0 where
   pub asked : Only (c .read .set) (c .read .asked)
   pub answers : Only (c .read .set) (c .read .values)
+  pub firsts : OnlyCome (c .read)
   pub values : Only (c .write .set) (c .write .values)
   pub writing : isWriting c ≡ true → c .read ≡ noRead
   pub others : isWriting c ≡ false → c .write ≡ noWrite

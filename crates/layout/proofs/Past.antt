@@ -2,7 +2,7 @@
 use mathlib.Core.Bool.{Bool, cond}
 use mathlib.Core.List.{List}
 use mathlib.Core.Path.{_≡_, refl, _∙_}
-use Prim.Native.Nat.{ℕ, _+_, _≤_, _<_}
+use Prim.Native.Nat.{ℕ, _+_, _*_, _≤_, _<_}
 use native.Mathlib.Omega.{arith}
 use lib.ListN.{length, getD}
 use lib.Seq.{getD-set-other}
@@ -10,8 +10,8 @@ use Rattle.basics.specs.Fold.{upTo}
 use Rattle.basics.proofs.Fold.{upTo-all}
 use Rattle.protocol.specs.declared.Entry.{Entry}
 use Rattle.protocol.proofs.Put.{by-cond}
-use Rattle.layout.specs.Layout.{Section, base, needed, store}
-use Rattle.layout.specs.Store.{storeEntry}
+use Rattle.layout.specs.Layout.{entryWords, Section, firsts, base, needed, store, firstAt}
+use Rattle.layout.specs.Store.{storeEntry, storeFirst}
 use Rattle.layout.proofs.At.{length-store}
 use Rattle.layout.proofs.Sections.{section-end, rowWidth, rowAt, row-in}
 
@@ -54,3 +54,11 @@ pub past-put : (d : ℕ) → 1 ≤ d → d ≤ 8 → (b : List ℕ) (s : Section
     → SamePast b (store b s (rowAt s d k) v)
 past-put d first last b s k v l =
     past-store b s (rowAt s d k) v (omega (arith, row-in s d k first last l, section-end s))
+
+-- a first reply that it keeps
+pub past-first : (d : ℕ) → 1 ≤ d → d ≤ 8 → (b : List ℕ) (k : ℕ) (e : Entry) → k < 64
+    → SamePast b (storeFirst b d k e)
+past-first d first last b k e l =
+    past-trans (past-put d first last b firsts (entryWords * k + 0) (e .stamp) (omega arith))
+    (past-put d first last (store b firsts (firstAt d k 0) (e .stamp)) firsts (entryWords * k + 1)
+    (e .set) (omega arith))

@@ -10,15 +10,15 @@ use lib.Dec.{eqb, ltb, leb}
 use borrow.Author.Tests.{eqb-true, ne-eqb, ltb-true, ltb-false, leb-true}
 use Rattle.basics.specs.Lists.{all}
 use Rattle.basics.proofs.Cases.{by-test, and-left, and-right}
-use Rattle.layout.specs.Layout.{mostClients, mostItems, clientWords, Section, header, scalars}
-use Rattle.layout.specs.Layout.{latest, views, asked, values, lastStamps, lastValues}
-use Rattle.layout.specs.Layout.{versions, messages, size, base, needed}
+use Rattle.layout.specs.Layout.{mostClients, mostItems, clientWords, entryWords, Section}
+use Rattle.layout.specs.Layout.{header, scalars, latest, views, asked, values, lastStamps}
+use Rattle.layout.specs.Layout.{lastValues, firsts, versions, messages, size, base, needed}
 
 -- ---- each section, known by its base
 
 abbrev sections : List Section
-sections = header ∷ scalars ∷ latest ∷ views ∷ asked ∷ values ∷ lastStamps ∷ lastValues ∷ versions
-    ∷ messages ∷ []
+sections = header ∷ scalars ∷ latest ∷ views ∷ asked ∷ values ∷ lastStamps ∷ lastValues ∷ firsts
+    ∷ versions ∷ messages ∷ []
 
 -- the one of them that starts at place p
 unfoldable starting : ℕ → List Section → Section
@@ -35,6 +35,7 @@ starts asked = refl
 starts values = refl
 starts lastStamps = refl
 starts lastValues = refl
+starts firsts = refl
 starts versions = refl
 starts messages = refl
 
@@ -101,10 +102,12 @@ rowWidth asked = mostItems
 rowWidth values = mostItems
 rowWidth lastStamps = mostItems
 rowWidth lastValues = mostItems
+rowWidth firsts = entryWords * mostItems
 rowWidth versions = 0
 rowWidth messages = 0
 
--- word n of client d's row: that of `scalarAt d n` or `itemAt d n`
+-- word n of client d's row: that of `scalarAt d n`, `itemAt d n`, or `firstAt d k f` with n the
+-- number of word f of entry k
 abbrev pub rowAt : Section → ℕ → ℕ → ℕ
 rowAt s d n = rowWidth s * (d - 1) + n
 

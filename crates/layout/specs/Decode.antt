@@ -11,17 +11,20 @@ use Rattle.protocol.specs.declared.Version.{Version}
 use Rattle.protocol.specs.declared.Entry.{Entry}
 use Rattle.protocol.specs.declared.Message.{Message}
 use Rattle.protocol.specs.declared.Message.the-variants.{Prepare, Prepared, Commit, Get, Got}
+use Rattle.protocol.specs.declared.Message.the-variants.{FirstGet, FirstReply}
 use Rattle.protocol.specs.Tables.{Sizes, Tables, Client, ReadPart, WritePart, noRead, noWrite}
 use Rattle.protocol.specs.Tables.{Ended, nothing, isKind, showsRead, showsWrite, initial, resting}
 use Rattle.protocol.specs.Steps.{version}
 use Rattle.protocol.specs.Message.{kinds}
 use Rattle.protocol.specs.Range.{capacities, valid, sizesInRange, isClient, isItem, everyClient}
+use Rattle.protocol.specs.Range.{hasFirst}
 use Rattle.layout.specs.Layout.{mostVersions, mostMessages, header, scalars, latest, views}
-use Rattle.layout.specs.Layout.{asked, values, lastStamps, lastValues, versions, messages}
-use Rattle.layout.specs.Layout.{needed, at, clientsAt, partitionsAt, itemsAt, versionsAt}
-use Rattle.layout.specs.Layout.{messagesAt, modeAt, countAt, setAt, awaitedAt, stampAt}
-use Rattle.layout.specs.Layout.{lastKindAt, lastSetAt, lastStampAt, latestAt, viewAt, itemAt}
-use Rattle.layout.specs.Layout.{versionAt, messageAt}
+use Rattle.layout.specs.Layout.{asked, values, lastStamps, lastValues, firsts, versions}
+use Rattle.layout.specs.Layout.{messages, needed, at, clientsAt, partitionsAt, itemsAt}
+use Rattle.layout.specs.Layout.{versionsAt, messagesAt, modeAt, countAt, setAt, awaitedAt}
+use Rattle.layout.specs.Layout.{stampAt, lastKindAt, lastSetAt, lastStampAt, latestAt, viewAt}
+use Rattle.layout.specs.Layout.{itemAt, firstAt, versionAt, messageAt, modes, isWriteMode}
+use Rattle.layout.specs.Layout.{idle, stageOf}
 
 -- ---- parts and messages
 
@@ -29,10 +32,28 @@ use Rattle.layout.specs.Layout.{versionAt, messageAt}
 abbrev pub within : ℕ → (ℕ → ℕ) → ℕ → ℕ
 within s f k = cond (has s k) (f k) 0
 
+-- and of the first replies those that have come
+abbrev pub comeOf : ReadPart → ℕ → Entry
+comeOf p k = cond (hasFirst p k) (p .firsts k) initial
+
 -- the parts that these words are
-abbrev pub readOf : ℕ → ℕ → (ℕ → ℕ) → (ℕ → ℕ) → ReadPart
-readOf s awaited stamps vs =
-    record { set = s; awaited = awaited; asked = within s stamps; values = within s vs }
+abbrev pub readOf : ℕ → ℕ → ℕ → (ℕ → ℕ) → (ℕ → ℕ) → (ℕ → Entry) → ReadPart
+readOf s awaited stage stamps vs replies =
+    record {
+      set = s;
+      awaited = awaited;
+      asked = within s stamps;
+      values = within s vs;
+      stage = stage;
+      firsts = comeOf (record {
+        set = s;
+        awaited = awaited;
+        asked = stamps;
+        values = vs;
+        stage = stage;
+        firsts = replies;
+      });
+    }
 
 abbrev pub writeOf : ℕ → ℕ → ℕ → (ℕ → ℕ) → WritePart
 writeOf s awaited stamp vs =
@@ -45,7 +66,10 @@ messageOf (suc zero) who k v stamp s e = Prepare (version k v stamp s)
 messageOf (suc (suc zero)) who k v stamp s e = Prepared k stamp
 messageOf (suc (suc (suc zero))) who k v stamp s e = Commit who stamp
 messageOf (suc (suc (suc (suc zero)))) who k v stamp s e = Get who k stamp
-messageOf (suc (suc (suc (suc (suc n))))) who k v stamp s e = Got who (version k v stamp s) e
+messageOf (suc (suc (suc (suc (suc zero))))) who k v stamp s e = Got who (version k v stamp s) e
+messageOf (suc (suc (suc (suc (suc (suc zero)))))) who k v stamp s e = FirstGet who k
+messageOf (suc (suc (suc (suc (suc (suc (suc n))))))) who k v stamp s e =
+    FirstReply who (version k v stamp s) e
 
 -- ---- field by field
 
@@ -63,22 +87,25 @@ latestIn b k = record { stamp = at b latest (latestAt k); set = at b latest (lat
 abbrev pub viewIn : List ℕ → ℕ → ℕ → Entry
 viewIn b d k = record { stamp = at b views (viewAt d k); set = at b views (viewAt d k + 1) }
 
+abbrev pub firstIn : List ℕ → ℕ → ℕ → Entry
+firstIn b d k = record { stamp = at b firsts (firstAt d k 0); set = at b firsts (firstAt d k 1) }
+
 -- the words of the transaction under way, as a read part and as a write part
 abbrev pub readIn : List ℕ → ℕ → ReadPart
 readIn b d =
-    readOf (at b scalars (setAt d)) (at b scalars (awaitedAt d)) (λ j. at b asked (itemAt d j))
-    (λ j. at b values (itemAt d j))
+    readOf (at b scalars (setAt d)) (at b scalars (awaitedAt d)) (stageOf (at b scalars (modeAt d)))
+    (λ j. at b asked (itemAt d j)) (λ j. at b values (itemAt d j)) (firstIn b d)
 
 abbrev pub writeIn : List ℕ → ℕ → WritePart
 writeIn b d =
     writeOf (at b scalars (setAt d)) (at b scalars (awaitedAt d)) (at b scalars (stampAt d))
     (λ j. at b values (itemAt d j))
 
--- and those of the last ended one, of which nothing is awaited
+-- and those of the last ended one, of which nothing is awaited and no first reply kept
 abbrev pub lastReadIn : List ℕ → ℕ → ReadPart
 lastReadIn b d =
-    readOf (at b scalars (lastSetAt d)) 0 (λ j. at b lastStamps (itemAt d j))
-    (λ j. at b lastValues (itemAt d j))
+    readOf (at b scalars (lastSetAt d)) 0 0 (λ j. at b lastStamps (itemAt d j))
+    (λ j. at b lastValues (itemAt d j)) (λ j. initial)
 
 abbrev pub lastWriteIn : List ℕ → ℕ → WritePart
 lastWriteIn b d =
@@ -95,11 +122,11 @@ endedIn b d =
       write = cond (showsWrite kind) (lastWriteIn b d) noWrite;
     }
 
--- from mode 2 on the words of the transaction under way are those of a write part, in any other
--- those of a read part
+-- of a writing client the words of the transaction under way are those of a write part, of any
+-- other those of a read part
 unfoldable pub clientIn : List ℕ → ℕ → Client
 clientIn b d =
-    let writes = leb 2 (at b scalars (modeAt d)) in
+    let writes = isWriteMode (at b scalars (modeAt d)) in
     record {
       count = at b scalars (countAt d);
       read = cond writes noRead (readIn b d);
@@ -137,11 +164,11 @@ tablesOf b =
       messages = table (min (at b header messagesAt) mostMessages) (messageIn b);
     }
 
--- a mode is 0 idle, 1 reading or 2 writing, and idle exactly when no item is awaited
+-- the mode is one that there is, and idle exactly when no item is awaited
 abbrev pub modeFits : List ℕ → ℕ → Bool
 modeFits b d =
     let mode = at b scalars (modeAt d) in
-    ltb mode 3 && Bool·beq (eqb mode 0) (eqb (at b scalars (awaitedAt d)) 0)
+    ltb mode modes && Bool·beq (eqb mode idle) (eqb (at b scalars (awaitedAt d)) 0)
 
 -- modes, kinds and counts are the numbers of some
 unfoldable pub wellFormed : List ℕ → Bool

@@ -8,21 +8,24 @@ use Rattle.itemset.specs.Set.{has}
 use Rattle.protocol.specs.declared.Version.{Version}
 use Rattle.protocol.specs.declared.Entry.{Entry}
 use Rattle.protocol.specs.declared.Message.{Message}
-use Rattle.protocol.specs.Tables.{Tables, Client, ReadPart, WritePart, Ended, showsRead, showsWrite}
+use Rattle.protocol.specs.Tables.{Tables, Client, ReadPart, WritePart, Ended, initial, showsRead}
+use Rattle.protocol.specs.Tables.{showsWrite}
 use Rattle.protocol.specs.Message.{kindOf}
-use Rattle.protocol.specs.Range.{isIdle, isWriting}
+use Rattle.protocol.specs.Range.{isIdle, isWriting, hasFirst}
 use Rattle.layout.specs.Layout.{Section, header, scalars, latest, views, asked, values}
-use Rattle.layout.specs.Layout.{lastStamps, lastValues, versions, messages, needed, at}
+use Rattle.layout.specs.Layout.{lastStamps, lastValues, firsts, versions, messages, needed}
+use Rattle.layout.specs.Layout.{at}
 use Rattle.layout.specs.Layout.{clientsAt, partitionsAt, itemsAt, versionsAt, messagesAt}
 use Rattle.layout.specs.Layout.{modeAt, countAt, setAt, awaitedAt, stampAt, lastKindAt}
 use Rattle.layout.specs.Layout.{lastSetAt, lastStampAt, latestAt, viewAt, itemAt, versionAt}
-use Rattle.layout.specs.Layout.{messageWords, messageAt}
+use Rattle.layout.specs.Layout.{firstAt, messageWords, messageAt, idle, writing, stageOf}
+use Rattle.layout.specs.Layout.{readMode}
 use Rattle.layout.specs.Store.{wordOf}
 
 -- ---- the numbers
 
 abbrev pub numberOfMode : Client → ℕ
-numberOfMode c = cond (isIdle c) 0 (cond (isWriting c) 2 1)
+numberOfMode c = cond (isIdle c) idle (cond (isWriting c) writing (readMode (c .read .stage)))
 
 -- ---- field by field
 
@@ -39,6 +42,10 @@ pub record HoldsVersion (b : List ℕ) (i : ℕ) (v : Version) : Type 0 where
 abbrev pub word : List ℕ → ℕ → ℕ → ℕ
 word b i f = at b messages (messageAt i f)
 
+-- all eight words of a message: those that a got or a first reply uses
+abbrev allUsed : ℕ
+allUsed = 2 ^ 0 + 2 ^ 1 + 2 ^ 2 + 2 ^ 3 + 2 ^ 4 + 2 ^ 5 + 2 ^ 6 + 2 ^ 7
+
 -- the words of a message that its kind uses, as a set, one row a kind: 0 is its kind, 1 the client
 -- or partition, 2 the item, 3 the value, 4 the stamp, 5 the set, 6 and 7 the latest's stamp and set
 unfoldable pub used : ℕ → ℕ
@@ -47,20 +54,25 @@ used (suc zero) = 2 ^ 0 + 2 ^ 2 + 2 ^ 3 + 2 ^ 4 + 2 ^ 5
 used (suc (suc zero)) = 2 ^ 0 + 2 ^ 2 + 2 ^ 4
 used (suc (suc (suc zero))) = 2 ^ 0 + 2 ^ 1 + 2 ^ 4
 used (suc (suc (suc (suc zero)))) = 2 ^ 0 + 2 ^ 1 + 2 ^ 2 + 2 ^ 4
-used (suc (suc (suc (suc (suc n))))) =
-    2 ^ 0 + 2 ^ 1 + 2 ^ 2 + 2 ^ 3 + 2 ^ 4 + 2 ^ 5 + 2 ^ 6 + 2 ^ 7
+used (suc (suc (suc (suc (suc zero))))) = allUsed
+used (suc (suc (suc (suc (suc (suc zero)))))) = 2 ^ 0 + 2 ^ 1 + 2 ^ 2
+used (suc (suc (suc (suc (suc (suc (suc n))))))) = allUsed
 
 -- message i has the words of m that m's kind uses
 abbrev pub HoldsMessage : List ℕ → ℕ → Message → Type 0
 HoldsMessage b i m = (f : ℕ) → f < messageWords → has (used (kindOf m)) f ≡ true
     → word b i f ≡ wordOf m f
 
--- these words are a read part's and a write part's: for the items of its set, and no others
-pub record HeldRead (s awaits : ℕ) (stamps vs : ℕ → ℕ) (p : ReadPart) : Type 0 where
+-- these words are a read part's and a write part's: for the items of its set, and no others; first
+-- replies for those whose first reply has come
+pub record HeldRead (s awaits n : ℕ) (stamps vs : ℕ → ℕ) (replies : ℕ → Entry) (p : ReadPart)
+    : Type 0 where
   pub set : s ≡ p .set
   pub awaited : awaits ≡ p .awaited
+  pub stage : n ≡ p .stage
   pub asked : (k : ℕ) → has (p .set) k ≡ true → stamps k ≡ p .asked k
   pub values : (k : ℕ) → has (p .set) k ≡ true → vs k ≡ p .values k
+  pub firsts : (k : ℕ) → hasFirst p k ≡ true → replies k ≡ p .firsts k
 
 pub record HeldWrite (s awaits σ : ℕ) (vs : ℕ → ℕ) (p : WritePart) : Type 0 where
   pub set : s ≡ p .set
@@ -68,10 +80,11 @@ pub record HeldWrite (s awaits σ : ℕ) (vs : ℕ → ℕ) (p : WritePart) : Ty
   pub stamp : σ ≡ p .stamp
   pub values : (k : ℕ) → has (p .set) k ≡ true → vs k ≡ p .values k
 
--- and an ended transaction's: its kind and the parts that it shows, with nothing awaited
+-- and an ended transaction's: its kind and the parts that it shows, with nothing awaited and no
+-- first reply kept
 pub record HeldEnded (n s σ : ℕ) (stamps vs : ℕ → ℕ) (e : Ended) : Type 0 where
   pub kind : n ≡ e .kind
-  pub read : showsRead (e .kind) ≡ true → HeldRead s 0 stamps vs (e .read)
+  pub read : showsRead (e .kind) ≡ true → HeldRead s 0 0 stamps vs (λ k. initial) (e .read)
   pub write : showsWrite (e .kind) ≡ true → HeldWrite s 0 σ vs (e .write)
 
 -- the last ended transaction of client d
@@ -84,8 +97,10 @@ HoldsEnded b d e =
 -- the words of the transaction under way, as a read part and as a write part of client d
 abbrev pub HoldsRead : List ℕ → ℕ → ReadPart → Type 0
 HoldsRead b d p =
-    HeldRead (at b scalars (setAt d)) (at b scalars (awaitedAt d)) (λ k. at b asked (itemAt d k))
-    (λ k. at b values (itemAt d k)) p
+    HeldRead (at b scalars (setAt d)) (at b scalars (awaitedAt d))
+    (stageOf (at b scalars (modeAt d))) (λ k. at b asked (itemAt d k))
+    (λ k. at b values (itemAt d k))
+    (λ k. record { stamp = at b firsts (firstAt d k 0); set = at b firsts (firstAt d k 1) }) p
 
 abbrev pub HoldsWrite : List ℕ → ℕ → WritePart → Type 0
 HoldsWrite b d p =

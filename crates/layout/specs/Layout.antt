@@ -1,6 +1,8 @@
 -- The sections of the block and the place of each field in its section (docs/LAYOUT.md).
+use mathlib.Core.Bool.{Bool, cond}
 use mathlib.Core.List.{List}
 use Prim.Native.Nat.{ℕ, _+_, _-_, _*_}
+use lib.Dec.{eqb}
 use lib.ListN.{getD, set}
 use Rattle.protocol.specs.Range.{capacities}
 
@@ -42,7 +44,7 @@ messageWords = 8
 -- ---- sections
 
 pub data Section : Type 0 where
-  header scalars latest views asked values lastStamps lastValues versions messages : Section
+  header scalars latest views asked values lastStamps lastValues firsts versions messages : Section
 
 -- how many words a section has
 abbrev pub size : Section → ℕ
@@ -54,6 +56,7 @@ size asked = mostItems * mostClients
 size values = mostItems * mostClients
 size lastStamps = mostItems * mostClients
 size lastValues = mostItems * mostClients
+size firsts = entryWords * mostItems * mostClients
 size versions = versionWords * mostVersions
 size messages = messageWords * mostMessages
 
@@ -79,8 +82,11 @@ lastStampsBase = valuesBase + size values
 abbrev lastValuesBase : ℕ
 lastValuesBase = lastStampsBase + size lastStamps
 
+abbrev firstsBase : ℕ
+firstsBase = lastValuesBase + size lastValues
+
 abbrev versionsBase : ℕ
-versionsBase = lastValuesBase + size lastValues
+versionsBase = firstsBase + size firsts
 
 abbrev messagesBase : ℕ
 messagesBase = versionsBase + size versions
@@ -94,6 +100,7 @@ base asked = askedBase
 base values = valuesBase
 base lastStamps = lastStampsBase
 base lastValues = lastValuesBase
+base firsts = firstsBase
 base versions = versionsBase
 base messages = messagesBase
 
@@ -166,6 +173,10 @@ viewAt d k = entryWords * mostItems * (d - 1) + entryWords * k
 abbrev pub itemAt : ℕ → ℕ → ℕ
 itemAt d k = mostItems * (d - 1) + k
 
+-- firsts: stamp and set of the first reply for each client and item
+abbrev pub firstAt : ℕ → ℕ → ℕ → ℕ
+firstAt d k f = entryWords * mostItems * (d - 1) + (entryWords * k + f)
+
 -- versions: item, value, stamp, set; messages: kind, client or partition, item, value, stamp, set,
 -- latest's stamp, latest's set
 abbrev pub versionAt : ℕ → ℕ → ℕ
@@ -173,3 +184,37 @@ versionAt i f = versionWords * i + f
 
 abbrev pub messageAt : ℕ → ℕ → ℕ
 messageAt i f = messageWords * i + f
+
+-- ---- modes
+
+-- what a client's transaction under way is: none, a read, a write, and a fast read in its first
+-- and in its second part
+abbrev pub idle : ℕ
+idle = 0
+
+abbrev pub reading : ℕ
+reading = 1
+
+abbrev pub writing : ℕ
+writing = 2
+
+abbrev pub inFirstPart : ℕ
+inFirstPart = 3
+
+abbrev pub inSecondPart : ℕ
+inSecondPart = 4
+
+-- how many there are
+abbrev pub modes : ℕ
+modes = 5
+
+abbrev pub isWriteMode : ℕ → Bool
+isWriteMode mode = eqb mode writing
+
+-- the stage of the read part in a mode that isn't a write's, 0 where that isn't a fast read's
+abbrev pub stageOf : ℕ → ℕ
+stageOf mode = cond (eqb mode inFirstPart) 1 (cond (eqb mode inSecondPart) 2 0)
+
+-- the mode of a read part of this stage
+abbrev pub readMode : ℕ → ℕ
+readMode stage = cond (eqb stage 0) reading (stage + 2)

@@ -8,10 +8,10 @@ use Rattle.protocol.specs.declared.Version.{Version}
 use Rattle.protocol.specs.declared.Entry.{Entry}
 use Rattle.protocol.specs.declared.Message.{Message}
 use Rattle.protocol.specs.Message.{partsOf}
-use Rattle.layout.specs.Layout.{messageWords, Section, header, latest, views, versions}
-use Rattle.layout.specs.Layout.{messages, base, needed, store, clientsAt, partitionsAt}
-use Rattle.layout.specs.Layout.{itemsAt, versionsAt, messagesAt, latestAt, viewAt, versionAt}
-use Rattle.layout.specs.Layout.{messageAt}
+use Rattle.layout.specs.Layout.{messageWords, Section, header, latest, views, firsts}
+use Rattle.layout.specs.Layout.{versions, messages, base, needed, store, clientsAt}
+use Rattle.layout.specs.Layout.{partitionsAt, itemsAt, versionsAt, messagesAt, latestAt}
+use Rattle.layout.specs.Layout.{viewAt, firstAt, versionAt, messageAt}
 
 -- ---- sizes
 
@@ -38,6 +38,10 @@ storeLatest b k e = storeEntry b latest (latestAt k) e
 
 abbrev pub storeView : List ℕ → ℕ → ℕ → Entry → List ℕ
 storeView b d k e = storeEntry b views (viewAt d k) e
+
+abbrev pub storeFirst : List ℕ → ℕ → ℕ → Entry → List ℕ
+storeFirst b d k e = store (store b firsts (firstAt d k 0) (e .stamp)) firsts (firstAt d k 1)
+    (e .set)
 
 -- ---- versions and messages: their words in order, 0 where a message's kind doesn't use one
 

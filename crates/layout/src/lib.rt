@@ -24,6 +24,20 @@ pub const MOST_MESSAGES: u64 = 128;
 // The most items that a write has; no word depends on it.
 pub const MOST_WRITE_ITEMS: u64 = 12;
 
+// The modes of a client: no transaction under way, a read, a write, and a fast read in its first
+// and in its second part. A mode is below `MODES`.
+pub const IDLE: u64 = 0;
+
+pub const READING: u64 = 1;
+
+pub const WRITING: u64 = 2;
+
+pub const FIRST_PART: u64 = 3;
+
+pub const SECOND_PART: u64 = 4;
+
+pub const MODES: u64 = 5;
+
 // The words of the header, of a client's scalars, of an entry, a version and a message.
 pub const HEADER_WORDS: u64 = 16;
 
@@ -50,7 +64,9 @@ pub const LAST_STAMPS: u64 = VALUES + MOST_ITEMS * MOST_CLIENTS;
 
 pub const LAST_VALUES: u64 = LAST_STAMPS + MOST_ITEMS * MOST_CLIENTS;
 
-pub const VERSIONS: u64 = LAST_VALUES + MOST_ITEMS * MOST_CLIENTS;
+pub const FIRSTS: u64 = LAST_VALUES + MOST_ITEMS * MOST_CLIENTS;
+
+pub const VERSIONS: u64 = FIRSTS + ENTRY_WORDS * MOST_ITEMS * MOST_CLIENTS;
 
 pub const MESSAGES: u64 = VERSIONS + VERSION_WORDS * MOST_VERSIONS;
 

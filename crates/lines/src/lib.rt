@@ -35,6 +35,7 @@ fn call(b: &mut [u64], frame: StoreFrame, f: &[u8], shown: &mut [u8]) -> Answer
         StoreFrame::Write { client, set } => store_calls::start_write(b, client, set, &f[10..]),
         StoreFrame::Deliver { place } => deliver_call::deliver(b, place),
         StoreFrame::Show { client } => store_calls::show(b, client, shown),
+        StoreFrame::FastRead { client, set } => store_calls::start_fast_read(b, client, set),
         StoreFrame::Clear => store_calls::clear(b),
         StoreFrame::HandOver { giver, receiver } => store_calls::hand_over(b, giver, receiver),
         StoreFrame::Compare { first, second } => store_calls::compare(b, first, second),

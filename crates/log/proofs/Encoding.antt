@@ -1,18 +1,18 @@
 -- A log frame's bytes, written from its fields as document 01 has them, give back those fields; and
 -- a well-formed frame is the bytes of its fields.
-use mathlib.Core.Bool.{Bool, true, false, not, _&&_, _||_, and-true}
+use mathlib.Core.Bool.{Bool, true, false, not, _&&_, and-true}
 use mathlib.Core.List.{List, [], _∷_, _++_, append-assoc, append-nil}
 use mathlib.Core.Logic.{⊎-elim}
 use mathlib.Core.Path.{_≡_, refl, sym, ap, ap₂, _∙_}
-use Prim.Native.Nat.{ℕ, suc, _+_, _*_, _/_, _%_, _^_, _≤_, _<_}
+use Prim.Native.Nat.{ℕ, _+_, _*_, _/_, _%_, _^_, _≤_, _<_}
 use native.Mathlib.Nat.{add-zero}
 use native.Mathlib.Omega.{arith}
-use lib.Dec.{eqb, leb, lit<}
+use lib.Dec.{eqb, leb}
 use lib.ListN.{length, getD, take, drop, length-append, length-drop, take-append-drop}
 use lib.Seq.{drop-drop, take-add}
 use borrow.Author.Tests.{eqb-true, eq-eqb, leb-true, le-leb}
 use Rattle.basics.specs.Lists.{every}
-use Rattle.basics.proofs.Cases.{and-left, and-right, and-both, not-both, not-true, or-cases}
+use Rattle.basics.proofs.Cases.{and-right, and-both, or-cases}
 use Rattle.basics.proofs.Lists.{every-at, at-every}
 use Rattle.hex.specs.Bytes.{EachByte}
 use Rattle.hex.specs.Number.{numberAt, bigEndian}
@@ -42,11 +42,24 @@ writeFrame client set number value =
 pub entry : (number writer value : ℕ) → List ℕ
 entry number writer value = bigEndian 4 number ++ bigEndian 1 writer ++ bigEndian 4 value
 
--- `21` client, set, then an entry per item
-pub readFrame : (client set : ℕ) → (number writer value : ℕ → ℕ) → List ℕ
-readFrame client set number writer value =
-    0x21 ∷ client ∷ bigEndian 8 set
+-- kind, client, set, then an entry per item
+pub readFrame : (kind client set : ℕ) → (number writer value : ℕ → ℕ) → List ℕ
+readFrame kind client set number writer value =
+    kind ∷ client ∷ bigEndian 8 set
     ++ each (λ item. entry (number item) (writer item) (value item)) (members 64 set)
+
+-- a kind with a read part alone
+pub record ReadAlone (kind : ℕ) : Type 0 where
+  pub read : hasRead kind ≡ true
+  pub no-write : hasWrite kind ≡ false
+  pub no-hand-over : handsOver kind ≡ false
+
+-- `21` is one, and so is `23`
+pub read-kind : ReadAlone 0x21
+read-kind = record { read = refl; no-write = refl; no-hand-over = refl }
+
+pub fast-read-kind : ReadAlone 0x23
+fast-read-kind = record { read = refl; no-write = refl; no-hand-over = refl }
 
 -- `22` giver, receiver
 pub handOverFrame : (giver receiver : ℕ) → List ℕ
@@ -177,9 +190,9 @@ module _ (client set number : ℕ) (value : ℕ → ℕ) where
 
 -- ---- fields of the bytes of a read
 
-module _ (client set : ℕ) (number writer value : ℕ → ℕ) where
+module _ (kind client set : ℕ) (number writer value : ℕ → ℕ) (of : ReadAlone kind) where
   abbrev r : List ℕ
-  r = readFrame client set number writer value
+  r = readFrame kind client set number writer value
 
   abbrev bytes : ℕ → List ℕ
   bytes item = entry (number item) (writer item) (value item)
@@ -194,19 +207,20 @@ module _ (client set : ℕ) (number writer value : ℕ → ℕ) where
   -- a read line isn't a write
   pub read-written : written r ≡ 0
   unfolding readFrame written
-  read-written = refl
+  read-written = rw (of .no-write)
 
   pub read-number : numberOf r ≡ 0
   unfolding readFrame numberOf
-  read-number = refl
+  read-number = rw (of .no-write)
 
   module _ (narrow : set < 2 ^ 64) where
-    set-length : length (0x21 ∷ client ∷ bigEndian 8 set) ≡ 10
+    set-length : length (kind ∷ client ∷ bigEndian 8 set) ≡ 10
     set-length = omega (arith, length-bigEndian 8 set)
 
     pub read-shown : shown r ≡ set
     unfolding readFrame shown
-    read-shown = numberAt-append-bigEndian 8 set (0x21 ∷ client ∷ []) entries narrow
+    read-shown = rw (of .read)
+        (numberAt-append-bigEndian 8 set (kind ∷ client ∷ []) entries narrow)
 
     -- n bytes, from the j-th on, of the entry of an item of the set
     at-entry : (item j n : ℕ) → has set item ≡ true → j + n ≤ 9
@@ -216,10 +230,10 @@ module _ (client set : ℕ) (number writer value : ℕ → ℕ) where
         let place : rank set item < length (members 64 set) =
         omega (arith, length-members-rank set 64, rank-all set 64 narrow, rank-lt set item e) in
         let at : 10 + 9 * rank set item + j
-        ≡ length (0x21 ∷ client ∷ bigEndian 8 set) + (9 * rank set item + j) =
+        ≡ length (kind ∷ client ∷ bigEndian 8 set) + (9 * rank set item + j) =
         omega (arith, set-length) in
         ap (numberAt n r) at
-        ∙ numberAt-append-add n (0x21 ∷ client ∷ bigEndian 8 set) entries (9 * rank set item + j)
+        ∙ numberAt-append-add n (kind ∷ client ∷ bigEndian 8 set) entries (9 * rank set item + j)
         ∙ each-at bytes 9 (λ k. length-entry (number k) (writer k) (value k)) (members 64 set)
         (rank set item) j n place h
         ∙ ap (λ (k : ℕ). numberAt n (bytes k) j)
@@ -257,14 +271,15 @@ module _ (client set : ℕ) (number writer value : ℕ → ℕ) where
     read-size : length r ≡ endOf r
     unfolding readFrame endOf writeAt
     read-size =
-        omega (
+        rw (of .no-hand-over, of .no-write, of .read)
+        (omega (
           arith,
-          length-append (0x21 ∷ client ∷ bigEndian 8 set) entries,
+          length-append (kind ∷ client ∷ bigEndian 8 set) entries,
           set-length,
           length-each bytes 9 (λ k. length-entry (number k) (writer k) (value k)) (members 64 set),
           length-members-rank set 64,
           ap count64 read-shown,
-        )
+        ))
 
     -- well-formed where the client is one, the set nonempty and every stamp whole
     pub read-shaped : isClient client ≡ true → 1 ≤ set
@@ -273,7 +288,8 @@ module _ (client set : ℕ) (number writer value : ℕ → ℕ) where
         → shaped r ≡ true
     unfolding readFrame shaped readShaped writeShaped handOverShaped entriesWhole
     read-shaped is some whole =
-        and-both (isClient client) _ is
+        rw (of .read, of .no-write, of .no-hand-over)
+        (and-both (isClient client) _ is
         (and-both (eqb (length r) (endOf r)) _ (eq-eqb (length r) (endOf r) read-size)
         (and-both ((leb 1 (shown r)) && entriesWhole r) true
         (and-both (leb 1 (shown r)) (entriesWhole r)
@@ -282,7 +298,7 @@ module _ (client set : ℕ) (number writer value : ℕ → ℕ) where
         read-shown
         ∙ at-every (count64 set) (λ i. isWhole (entryNumber r i) (entryWriter r i))
         each-whole-stamp))
-        refl))
+        refl)))
       where
         each-whole-stamp : (i : ℕ) → i < count64 set
             → isWhole (entryNumber r i) (entryWriter r i) ≡ true
@@ -407,17 +423,14 @@ module _ (f : List ℕ) (h : EachByte f) (e : shaped f ≡ true) where
         ∙ sym (append-assoc (0x20 ∷ clientOf f ∷ bigEndian 8 (written f)) (bigEndian 4 (numberOf f))
         (each (λ item. bigEndian 4 (writtenValue f item)) (members 64 (written f))))
 
-  module _ (kind-read : kindOf f ≡ 0x21) where
-    has-read : hasRead (kindOf f) ≡ true
-    has-read = ap hasRead kind-read
-
+  module _ (alone : ReadAlone (kindOf f)) where
     set-shown : shown f ≡ numberAt 8 f 2
     unfolding shown
-    set-shown = rw has-read
+    set-shown = rw (alone .read)
 
     long-read : length f ≡ 10 + 9 * count64 (shown f)
     unfolding endOf writeAt
-    long-read = size ∙ rw (ap handsOver kind-read, ap hasWrite kind-read, has-read)
+    long-read = size ∙ rw (alone .no-hand-over, alone .no-write, alone .read)
 
     -- a writing client is at most 8
     writer-small : (i : ℕ) → i < count64 (shown f) → entryWriter f i < 16
@@ -425,7 +438,7 @@ module _ (f : List ℕ) (h : EachByte f) (e : shaped f ≡ true) where
     writer-small i l =
         let whole : isWhole (entryNumber f i) (entryWriter f i) ≡ true =
         every-at (count64 (shown f)) (λ k. isWhole (entryNumber f k) (entryWriter f k))
-        (and-right (leb 1 (shown f)) _ (rw has-read at (shaped-read f e))) i l in
+        (and-right (leb 1 (shown f)) _ (rw (alone .read) at (shaped-read f e))) i l in
         ⊎-elim
         (λ t. omega (
           arith,
@@ -480,8 +493,8 @@ module _ (f : List ℕ) (h : EachByte f) (e : shaped f ≡ true) where
         low : (n d : ℕ) → d < 16 → stampOf n d % 16 ≡ d
         low n d l = omega arith
 
-    pub read-bytes : f ≡ readFrame (clientOf f) (shown f) (λ item. shownStamp f item / 16)
-        (λ item. shownStamp f item % 16) (shownValue f)
+    pub read-bytes : f ≡ readFrame (kindOf f) (clientOf f) (shown f)
+        (λ item. shownStamp f item / 16) (λ item. shownStamp f item % 16) (shownValue f)
     unfolding readFrame
     read-bytes =
         let many = length-members-rank (shown f) 64 in
@@ -489,7 +502,7 @@ module _ (f : List ℕ) (h : EachByte f) (e : shaped f ≡ true) where
         each-whole fields-of 9 (members 64 (shown f)) (drop 10 f)
         (omega (arith, length-drop 10 f, long-read, many)) entry-bytes in
         two-bytes f (omega (arith, long-read))
-        ∙ ap₂ (λ (k : ℕ) (l : List ℕ). k ∷ clientOf f ∷ l) kind-read
+        ∙ ap (λ (l : List ℕ). kindOf f ∷ clientOf f ∷ l)
         (piece f 8 2 h (omega (arith, long-read))
         ∙ ap₂ (λ (s : ℕ) (l : List ℕ). bigEndian 8 s ++ l) (sym set-shown) (sym entries))
 

@@ -13,6 +13,7 @@ use Rattle.hex.specs.Line.{lineLength}
 use Rattle.hex.specs.Number.{numberAt, bigEndian}
 use Rattle.hex.specs.Text.{isHex, bytesOf, hexText}
 use Rattle.log.specs.Some.{some, firstFrom}
+use Rattle.log.specs.Log.{hasRead, hasWrite, handsOver, readsOwn}
 use Rattle.log.specs.Log.{linesOf, frameOf, framesOf, shown, writeAt, written, numberOf}
 use Rattle.log.specs.Log.{endOf, entriesWhole, readShaped, writeShaped, handOverShaped}
 use Rattle.log.specs.Log.{shaped, reaches, malformed, malformedAt, firstLine, tooLong}
@@ -42,18 +43,56 @@ rows =
       log = line 28 0x2102_0000000000000003_00000001_01_00000007_00000000_00_00000000;
       bad = 0;
     }
-    -- kinds: 1f, 23, a0, a1, a2
+    -- kinds: 1f, 24, 25, a0, a1, a2, a3
     ∷ record { log = line 18 0x1f01_0000000000000001_00000001_00000007; bad = 1 }
-    ∷ record { log = line 18 0x2301_0000000000000001_00000001_00000007; bad = 1 }
-    ∷ record { log = line 3 0x23_01_02; bad = 1 }
+    ∷ record { log = line 18 0x2401_0000000000000001_00000001_00000007; bad = 1 }
+    ∷ record { log = line 19 0x2401_0000000000000001_00000001_01_00000007; bad = 1 }
+    ∷ record { log = line 3 0x24_01_02; bad = 1 }
+    ∷ record { log = line 18 0x2501_0000000000000001_00000001_00000007; bad = 1 }
+    ∷ record { log = line 19 0x2501_0000000000000001_00000001_01_00000007; bad = 1 }
+    ∷ record { log = line 3 0x25_01_02; bad = 1 }
     ∷ record { log = line 18 0xa001_0000000000000001_00000001_00000007; bad = 1 }
     ∷ record { log = line 19 0xa101_0000000000000001_00000001_01_00000007; bad = 1 }
     ∷ record { log = line 3 0xa2_01_02; bad = 1 }
+    ∷ record { log = line 19 0xa301_0000000000000001_00000001_01_00000007; bad = 1 }
     -- the kind and the client alone
     ∷ record { log = line 2 0x2001; bad = 1 }
     ∷ record { log = line 2 0x2101; bad = 1 }
     ∷ record { log = line 2 0x2201; bad = 1 }
     ∷ record { log = line 2 0x2301; bad = 1 }
+    ∷ record { log = line 2 0x2401; bad = 1 }
+    ∷ record { log = line 2 0x2501; bad = 1 }
+    -- fast reads are laid out as reads: one item, two; the fields of a write or a hand-over
+    ∷ record { log = line 19 0x2302_0000000000000001_00000001_01_00000007; bad = 0 }
+    ∷ record {
+      log = line 28 0x2302_0000000000000003_00000001_01_00000007_00000000_00_00000000;
+      bad = 0;
+    }
+    ∷ record { log = line 18 0x2302_0000000000000001_00000001_00000007; bad = 1 }
+    ∷ record { log = line 3 0x23_02_01; bad = 1 }
+    -- an empty set, an entry too few, a byte too many; clients 0, 8, 9
+    ∷ record { log = line 10 0x2302_0000000000000000; bad = 1 }
+    ∷ record { log = line 19 0x2302_0000000000000003_00000001_01_00000007; bad = 1 }
+    ∷ record { log = line 20 0x2302_0000000000000001_00000001_01_00000007_00; bad = 1 }
+    ∷ record { log = line 19 0x2300_0000000000000001_00000001_01_00000007; bad = 1 }
+    ∷ record { log = line 19 0x2308_0000000000000001_00000001_01_00000007; bad = 0 }
+    ∷ record { log = line 19 0x2309_0000000000000001_00000001_01_00000007; bad = 1 }
+    -- stamps shown: 0 and client 1, 1 and client 0, client 9, the second of two
+    ∷ record { log = line 19 0x2302_0000000000000001_00000000_01_00000000; bad = 1 }
+    ∷ record { log = line 19 0x2302_0000000000000001_00000001_00_00000000; bad = 1 }
+    ∷ record { log = line 19 0x2302_0000000000000001_00000001_09_00000007; bad = 1 }
+    ∷ record {
+      log = line 28 0x2302_0000000000000003_00000001_01_00000007_00000001_00_00000007;
+      bad = 1;
+    }
+    -- no write: its first number is no number of its client's, above or below
+    ∷ record {
+      log =
+          line 19 0x2301_0000000000000001_00000005_02_00000007
+          ++ line 18 0x2001_0000000000000001_00000002_00000007
+          ++ line 19 0x2301_0000000000000001_00000001_02_00000007;
+      bad = 0;
+    }
     -- hand-overs: both ways, the ends of the range; a byte too many, the fields of a write behind
     ∷ record { log = line 3 0x22_01_02; bad = 0 }
     ∷ record { log = line 3 0x22_02_01; bad = 0 }
@@ -217,6 +256,34 @@ rows =
     }
     ∷ []
 
+-- ---- what a kind has
+
+record Kind : Type 0 where
+  number : ℕ
+  read : Bool
+  write : Bool
+  hand-over : Bool
+  -- its read part is to see its client's own writes
+  own : Bool
+
+kinds : List Kind
+kinds =
+    record { number = 0x1f; read = false; write = false; hand-over = false; own = false }
+    ∷ record { number = 0x20; read = false; write = true; hand-over = false; own = false }
+    ∷ record { number = 0x21; read = true; write = false; hand-over = false; own = true }
+    ∷ record { number = 0x22; read = false; write = false; hand-over = true; own = false }
+    ∷ record { number = 0x23; read = true; write = false; hand-over = false; own = false }
+    ∷ record { number = 0x24; read = false; write = false; hand-over = false; own = false }
+    ∷ record { number = 0x25; read = false; write = false; hand-over = false; own = false }
+    ∷ []
+
+has-parts : Kind → Bool
+has-parts k =
+    Bool·beq (hasRead (k .number)) (k .read)
+    && (Bool·beq (hasWrite (k .number)) (k .write)
+    && (Bool·beq (handsOver (k .number)) (k .hand-over)
+    && Bool·beq (readsOwn (k .number)) (k .own)))
+
 -- ---- the limits
 
 -- n bytes alike
@@ -244,6 +311,10 @@ unfolding all rows firstBad line hexText bigEndian hexDigit
     linesOf frameOf shown writeAt written numberOf endOf
     entriesWhole readShaped writeShaped handOverShaped shaped reaches malformed
 malformed-rows = refl
+
+kind-rows : all has-parts kinds ≡ true
+unfolding all kinds has-parts
+kind-rows = refl
 
 long-rows : all (λ (r : Limit). Bool·beq (tooLong (r .log)) (r .long)) limits ≡ true
 unfolding all limits times tooLong counted

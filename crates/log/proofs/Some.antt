@@ -1,5 +1,5 @@
 -- Laws of the searches: what a search that succeeds found, and its steps from a place on.
-use mathlib.Core.Bool.{Bool, true, false, _||_}
+use mathlib.Core.Bool.{Bool, true, false, _&&_, _||_}
 use mathlib.Core.List.{List, [], _∷_}
 use mathlib.Core.Logic.{inl, inr, ⊎-elim}
 use mathlib.Core.Path.{_≡_, refl, sym, _∙_, subst}
@@ -130,6 +130,13 @@ someFrom-or d k p q =
     at-someFrom d k (λ j. p j || q j) (f .0) (f .1) (f .2)
     (or-right (p (f .0)) (q (f .0)) (f .3))))
     (or-cases (someFrom d k p) (someFrom d k q) e))
+
+pub someFrom-and : (d k : ℕ) (b : Bool) (p : ℕ → Bool)
+    → someFrom d k (λ j. b && p j) ≡ (b && someFrom d k p)
+unfolding someFrom
+someFrom-and d k true p = refl
+someFrom-and zero k false p = refl
+someFrom-and (suc d) k false p = someFrom-and d (suc k) false p
 
 -- ---- firstFrom: the first of the d numbers from k on that passes the test; k + d where none does
 

@@ -1,4 +1,4 @@
 -- Laws of the messages in flight: the message of a kind, and one taken out.
 mod Words
-pub mod GotKind
+pub mod LastKind
 pub mod EncodesTakeOut

@@ -19,6 +19,13 @@ use layout::word;
 use protocol::Entry;
 use protocol::Message;
 use protocol::Version;
+use protocol::message_kind::COMMIT;
+use protocol::message_kind::FIRST_GET;
+use protocol::message_kind::FIRST_REPLY;
+use protocol::message_kind::GET;
+use protocol::message_kind::GOT;
+use protocol::message_kind::PREPARE;
+use protocol::message_kind::PREPARED;
 use slots::put_four;
 
 // Word `f` of the eight of message `i`.
@@ -29,7 +36,7 @@ fn part(b: &[u64], i: u64, f: u64) -> u64
     word(b, (MESSAGES + (MESSAGE_WORDS * i + f)) as usize)
 }
 
-// The kind of the message at place `i`, 1 to 5.
+// The kind of the message at place `i`.
 pub fn kind(b: &[u64], i: u64) -> u64
     requires { ⌜ i < mostMessages ⌝ }
     ensures { λ r. ⌜ r ≡ kindIn (now (b .entry)) i ⌝ }
@@ -54,23 +61,34 @@ fn of_kind(
             partition: 0,
             stamp: 0,
         },
-        1 => Message::Prepare(Version {
+        PREPARE => Message::Prepare(Version {
             item,
             value,
             stamp,
             set,
         }),
-        2 => Message::Prepared { item, stamp },
-        3 => Message::Commit {
+        PREPARED => Message::Prepared { item, stamp },
+        COMMIT => Message::Commit {
             partition: who,
             stamp,
         },
-        4 => Message::Get {
+        GET => Message::Get {
             client: who,
             item,
             stamp,
         },
-        _ => Message::Got {
+        GOT => Message::Got {
+            client: who,
+            version: Version {
+                item,
+                value,
+                stamp,
+                set,
+            },
+            latest,
+        },
+        FIRST_GET => Message::FirstGet { client: who, item },
+        _ => Message::FirstReply {
             client: who,
             version: Version {
                 item,
@@ -140,19 +158,19 @@ fn join(
 }
 
 // Message `m` joins the `n` that are there, at the end; words that its kind doesn't use are 0.
-pub fn append(b: &mut [u64], n: u64, m: Message)
+fn append(b: &mut [u64], n: u64, m: Message)
     requires { ⌜ n < mostMessages ⌝ }
     ensures { λ _. ⌜ now (b .exit) ≡ appendMessage (now (b .entry)) n m ⌝ }
 {
     match m {
-        Message::Prepare(v) => join(b, n, 1, 0, v.item, v.value, v.stamp, v.set, 0, 0),
-        Message::Prepared { item, stamp } => join(b, n, 2, 0, item, 0, stamp, 0, 0, 0),
-        Message::Commit { partition, stamp } => join(b, n, 3, partition, 0, 0, stamp, 0, 0, 0),
+        Message::Prepare(v) => join(b, n, PREPARE, 0, v.item, v.value, v.stamp, v.set, 0, 0),
+        Message::Prepared { item, stamp } => join(b, n, PREPARED, 0, item, 0, stamp, 0, 0, 0),
+        Message::Commit { partition, stamp } => join(b, n, COMMIT, partition, 0, 0, stamp, 0, 0, 0),
         Message::Get {
             client,
             item,
             stamp,
-        } => join(b, n, 4, client, item, 0, stamp, 0, 0, 0),
+        } => join(b, n, GET, client, item, 0, stamp, 0, 0, 0),
         Message::Got {
             client,
             version,
@@ -160,7 +178,24 @@ pub fn append(b: &mut [u64], n: u64, m: Message)
         } => join(
             b,
             n,
-            5,
+            GOT,
+            client,
+            version.item,
+            version.value,
+            version.stamp,
+            version.set,
+            latest.stamp,
+            latest.set,
+        ),
+        Message::FirstGet { client, item } => join(b, n, FIRST_GET, client, item, 0, 0, 0, 0, 0),
+        Message::FirstReply {
+            client,
+            version,
+            latest,
+        } => join(
+            b,
+            n,
+            FIRST_REPLY,
             client,
             version.item,
             version.value,

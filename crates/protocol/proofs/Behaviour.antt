@@ -1,20 +1,21 @@
 -- What the steps do, as plain facts: sentences of documents 01 and 02 that a near miss breaks.
 use mathlib.Core.Bool.{Bool, true, false, cond, _&&_}
 use mathlib.Core.List.{List, [], _∷_, _++_}
-use mathlib.Core.Logic.{inl}
+use mathlib.Core.Logic.{_⊎_, inl, inr}
 use mathlib.Core.Path.{_≡_, refl, sym, ap, subst}
 use Prim.Native.Nat.{ℕ, _≤_, _<_}
 use native.Mathlib.Nat.{le-refl, le-trans}
 use native.Mathlib.Omega.{arith}
 use lib.Dec.{eqb, ltb}
-use borrow.Author.Tests.{ltb-true, ltb-false, lt-ltb, le-ltb}
-use Rattle.basics.proofs.Cases.{by-test, eqb-same}
+use borrow.Author.Tests.{ltb-true, ltb-false, lt-ltb, le-ltb, eqb-true, eq-eqb}
+use Rattle.basics.proofs.Cases.{by-test, and-left, eqb-same}
 use Rattle.basics.specs.Lists.{In}
 use Rattle.itemset.specs.Set.{has}
 use Rattle.protocol.specs.declared.Version.{Version}
 use Rattle.protocol.specs.declared.Entry.{Entry}
 use Rattle.protocol.specs.declared.Message.{Message}
-use Rattle.protocol.specs.declared.Message.the-variants.{Prepare, Prepared, Get, Got}
+use Rattle.protocol.specs.declared.Message.the-variants.{Prepare, Prepared, Commit, Get, Got}
+use Rattle.protocol.specs.declared.Message.the-variants.{FirstGet, FirstReply}
 use Rattle.protocol.specs.Tables.{Tables, ofRead, ofWrite, writerOf, laterOf, entryOf}
 use Rattle.protocol.specs.Tables.{partitionOf, put}
 use Rattle.protocol.specs.Message.{partsOf}
@@ -89,6 +90,33 @@ committed-later t p s k =
     (λ e. rw e (omega (arith, later-one (t .latest k) new)))
     (λ e. rw e (le-refl (t .latest k .stamp)))
 
+-- and an item of the partition whose version is stored has it or a later one
+pub committed-raised : (t : Tables) (p s k : ℕ) → partitionOf t k ≡ p
+    → stored (t .versions) k s ≡ true → s ≤ committed t p s k .stamp
+committed-raised t p s k here e =
+    let new : Entry = record { stamp = s; set = found (t .versions) k s .set } in
+    rw (eq-eqb (partitionOf t k) p here, e) (omega (arith, later-other (t .latest k) new))
+
+-- a latest changes only by a commit at its item's partition, whose stamp it takes
+pub latest-by : (t : Tables) (m : Message) (k : ℕ)
+    → (delivered t m .latest k .stamp ≡ t .latest k .stamp)
+    ⊎ (m ≡ Commit (partitionOf t k) (delivered t m .latest k .stamp))
+unfolding delivered
+latest-by t (Prepare v) k = inl refl
+latest-by t (Prepared j s) k = inl refl
+latest-by t (Commit p s) k =
+    let new : Entry = record { stamp = s; set = found (t .versions) k s .set } in
+    by-test (eqb (partitionOf t k) p && stored (t .versions) k s)
+    (λ e. rw e (by-test (ltb (t .latest k .stamp) s)
+    (λ l. rw l (inr (ap (λ (x : ℕ). Commit x s) (sym (eqb-true (partitionOf t k) p
+    (and-left (eqb (partitionOf t k) p) (stored (t .versions) k s) e))))))
+    (λ l. rw l (inl refl))))
+    (λ e. rw e (inl refl))
+latest-by t (Get d j s) k = inl refl
+latest-by t (Got d v e) k = inl refl
+latest-by t (FirstGet d j) k = inl refl
+latest-by t (FirstReply d v e) k = inl refl
+
 -- a prepare is stored, and changes no latest
 pub prepare-latest : (t : Tables) (v : Version) (k : ℕ)
     → delivered t (Prepare v) .latest k .stamp ≡ t .latest k .stamp
@@ -147,6 +175,18 @@ got-view t d v e =
     (offered-version (t .view d k) v e) in
     subst (λ (f : ℕ → Entry). v .stamp ≤ f k .stamp) (sym (put-same (t .view) d view))
     (le-trans here (end-ge last grown (c .write .set) (c .write .stamp) k))
+
+-- and a first reply
+pub first-view : (t : Tables) (d : ℕ) (v : Version) (e : Entry)
+    → v .stamp ≤ delivered t (FirstReply d v e) .view d (v .item) .stamp
+unfolding delivered
+first-view t d v e =
+    let k = v .item in
+    let grown : ℕ → Entry = put (t .view d) k (offered (t .view d k) v e) in
+    subst (λ (f : ℕ → Entry). v .stamp ≤ f k .stamp) (sym (put-same (t .view) d grown))
+    (subst (λ (x : Entry). v .stamp ≤ x .stamp)
+    (sym (put-same (t .view d) k (offered (t .view d k) v e)))
+    (offered-version (t .view d k) v e))
 
 -- ---- when a read ends
 

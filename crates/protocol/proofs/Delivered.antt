@@ -13,54 +13,64 @@ use borrow.Author.Tests.{eqb-true, eqb-false}
 use Rattle.basics.proofs.Cases.{by-test, not-both}
 use Rattle.basics.specs.Lists.{In}
 use Rattle.basics.proofs.Lists.{in-append}
+use Rattle.itemset.specs.Set.{has}
 use Rattle.protocol.specs.declared.Version.{Version}
 use Rattle.protocol.specs.declared.Entry.{Entry}
 use Rattle.protocol.specs.declared.Message.{Message}
 use Rattle.protocol.specs.declared.Message.the-variants.{Prepare, Prepared, Commit, Get, Got}
-use Rattle.protocol.specs.Tables.{Tables, Client, put, ofRead, ofWrite, writerOf}
-use Rattle.protocol.specs.Tables.{withClient, withView, withLatest, withVersions}
-use Rattle.protocol.specs.Message.{partsOf, kindOf, isPrepare, isPrepared, isGet, isGot}
-use Rattle.protocol.specs.Message.{ownerOf}
-use Rattle.protocol.specs.Steps.{isLast, prepared, got, offered, committed, commits}
-use Rattle.protocol.specs.Steps.{Delivery, deliveryOf, delivered, joined, touches}
-use Rattle.protocol.specs.Calls.{outcomeOf}
-use Rattle.protocol.proofs.Behaviour.{offered-own, end-ge}
+use Rattle.protocol.specs.declared.Message.the-variants.{FirstGet, FirstReply}
+use Rattle.protocol.specs.Tables.{Tables, Client, ReadPart, isSecondPart, put, ofRead}
+use Rattle.protocol.specs.Tables.{ofWrite, writerOf, withClient, withView, withLatest}
+use Rattle.protocol.specs.Tables.{withVersions}
+use Rattle.protocol.specs.Message.{partsOf, kindOf, isPrepare, isPrepared, isAnyGet, isAnyGot}
+use Rattle.protocol.specs.Message.{isFirstGet, isFirstReply, itemOf, ownerOf}
+use Rattle.protocol.specs.FastRead.{firstReplied, secondGets}
+use Rattle.protocol.specs.Steps.{isLast, prepared, got, gotFirst, offered, committed, commits}
+use Rattle.protocol.specs.Steps.{Delivery, answerOf, deliveryOf, delivered, joined, touches}
+use Rattle.protocol.specs.Calls.{outcomeOf, soughtBy}
+use Rattle.protocol.proofs.Behaviour.{offered-own, end-ge, committed-later}
 use Rattle.protocol.proofs.Put.{by-cond, put-other, put-every}
 use Rattle.protocol.proofs.Each.{Each, each-none, each-one, each-upto}
 use Rattle.protocol.proofs.Commits.{no-commits}
 
--- a prepared reply or a got
+-- a prepared reply, a got or a first reply
 abbrev pub isAnswer : Message → Bool
-isAnswer m = isPrepared m || isGot m
+isAnswer m = isPrepared m || isAnyGot m
 
 -- ---- the sorts
 
--- what changes beside the messages: the sizes stay, counts rise, views grow, only the client of an
--- answer changes, and only a prepare's version is stored
+-- what changes beside the messages: the sizes stay, counts rise, views and latest grow, only the
+-- client of an answer changes, and only a prepare's version is stored
 pub record Work (t : Tables) (m : Message) (u : Tables) : Type 0 where
   pub sizes : u .sizes ≡ t .sizes
   pub messages : u .messages ≡ t .messages
   pub rises : (d : ℕ) → t .client d .count ≤ u .client d .count
   pub view : (d k : ℕ) → t .view d k .stamp ≤ u .view d k .stamp
+  pub latest : (k : ℕ) → t .latest k .stamp ≤ u .latest k .stamp
   pub client : (d : ℕ) → (isAnswer m && eqb (ownerOf m) d) ≡ false → u .client d ≡ t .client d
   pub versions : length (u .versions) ≡ length (t .versions) + cond (isPrepare m) 1 0
   pub stores : (v : Version) → In v (u .versions) → In v (t .versions) ⊎ (m ≡ Prepare v)
 
--- j replies to m: a prepared reply to a prepare, a got to a get
-pub record Reply (m j : Message) : Type 0 where
+-- j replies to m: a prepared reply to a prepare, a got to a get, a first reply to a first get
+pub record Reply (t : Tables) (m j : Message) : Type 0 where
   pub answer : isAnswer j ≡ true
   pub owner : ownerOf j ≡ ownerOf m
-  pub stamp : partsOf j .stamp ≡ partsOf m .stamp
-  pub got : isGot j ≡ isGet m
+  pub item : itemOf j ≡ itemOf m
+  pub stamp : partsOf j .stamp ≡ soughtBy t m
+  pub got : isAnyGot j ≡ isAnyGet m
+  pub first : isFirstReply j ≡ isFirstGet m
 
 -- which messages join
 pub data Joins (t : Tables) (m : Message) : List Message → Type 0 where
   none : Joins t m []
-  reply : (j : Message) → Reply m j → Joins t m (j ∷ [])
+  reply : (j : Message) → Reply t m j → Joins t m (j ∷ [])
   -- where its client's transaction ends, the commits of the write part
   ends : (last : Bool) (stamp : ℕ)
       → (writerOf stamp ≡ ownerOf m) ⊎ (stamp ≡ t .client (ownerOf m) .write .stamp)
       → Joins t m (cond last (commits t (t .client (ownerOf m) .write .set) stamp) [])
+  -- where a fast read's second part begins, its gets
+  fetches : (n : ℕ) (p : ReadPart) → isFirstReply m ≡ true
+      → Joins t m (secondGets n (ownerOf m) p)
 
 -- only an answer ends a transaction
 pub record DeliverySort (t : Tables) (m : Message) (x : Delivery) : Type 0 where
@@ -84,15 +94,17 @@ put-rises client d c′ h = put-every
 module _ (t : Tables) (m : Message) where
   -- no client changes
   stored-work : (vs : List Version) (f : ℕ → Entry)
+      → ((k : ℕ) → t .latest k .stamp ≤ f k .stamp)
       → length vs ≡ length (t .versions) + cond (isPrepare m) 1 0
       → ((v : Version) → In v vs → In v (t .versions) ⊎ (m ≡ Prepare v))
       → Work t m (withLatest (withVersions t vs) f)
-  stored-work vs f n s =
+  stored-work vs f l n s =
       record {
         sizes = refl;
         messages = refl;
         rises = λ d. le-refl (t .client d .count);
         view = λ d k. le-refl (t .view d k .stamp);
+        latest = l;
         client = λ d e. refl;
         versions = n;
         stores = s;
@@ -110,6 +122,7 @@ module _ (t : Tables) (m : Message) where
         rises = put-rises (t .client) (ownerOf m) c n;
         view = put-every (λ (e : ℕ) (f : ℕ → Entry). (k : ℕ) → t .view e k .stamp ≤ f k .stamp)
             (t .view) (ownerOf m) view g (λ e n k. le-refl (t .view e k .stamp));
+        latest = λ k. le-refl (t .latest k .stamp);
         client = λ d e. put-other (t .client) (ownerOf m) c d
             (λ q. eqb-false (ownerOf m) d (rw a at e) (sym q));
         versions = rw (answer-kind m a) (omega arith);
@@ -129,15 +142,23 @@ end-outcome : (last : Bool) (n : ℕ) → n ≤ 2 → cond last n 0 ≤ 2
 end-outcome true n l = l
 end-outcome false n l = omega arith
 
+-- the view with what a reply offers to it
+grown-ge : (view : ℕ → Entry) (v : Version) (e : Entry) (j : ℕ)
+    → view j .stamp ≤ put view (v .item) (offered (view (v .item)) v e) j .stamp
+grown-ge view v e =
+    put-every (λ (j : ℕ) (x : Entry). view j .stamp ≤ x .stamp) view (v .item)
+    (offered (view (v .item)) v e) (offered-own (view (v .item)) v e)
+    (λ j n. le-refl (view j .stamp))
+
 pub delivery-sort : (t : Tables) (m : Message) → DeliverySort t m (deliveryOf t m)
 delivery-sort t (Prepare v) =
     record {
       work = stored-work t (Prepare v) (t .versions ++ v ∷ []) (t .latest)
-          (length-append (t .versions) (v ∷ []))
+          (λ k. le-refl (t .latest k .stamp)) (length-append (t .versions) (v ∷ []))
           (λ u i. ⊎-elim (λ p. inl p)
           (⊎-elim (λ e. inr (ap Prepare (sym e))) (λ z. absurd z))
           (in-append u (t .versions) (v ∷ []) i));
-      joins = reply _ (record { answer = refl; owner = refl; stamp = refl; got = refl });
+      joins = reply (Prepared (v .item) (v .stamp)) search;
       outcome = inl refl;
     }
 delivery-sort t (Prepared k stamp) =
@@ -153,30 +174,27 @@ delivery-sort t (Prepared k stamp) =
     }
 delivery-sort t (Commit p stamp) =
     record {
-      work = stored-work t (Commit p stamp) (t .versions) (committed t p stamp) (omega arith)
-          (λ v i. inl i);
+      work = stored-work t (Commit p stamp) (t .versions) (committed t p stamp)
+          (committed-later t p stamp) (omega arith) (λ v i. inl i);
       joins = none;
       outcome = inl refl;
     }
 delivery-sort t (Get d k stamp) =
     record {
-      work = stored-work t (Get d k stamp) (t .versions) (t .latest) (omega arith) (λ v i. inl i);
-      joins = reply _ (record { answer = refl; owner = refl; stamp = refl; got = refl });
+      work = stored-work t (Get d k stamp) (t .versions) (t .latest)
+          (λ k. le-refl (t .latest k .stamp)) (omega arith) (λ v i. inl i);
+      joins = reply (Got d (answerOf t k stamp) (t .latest k)) search;
       outcome = inl refl;
     }
 delivery-sort t (Got d v e) =
     let c = t .client d in
     let k = v .item in
     let last = isLast ofRead c k in
-    let grown : ℕ → Entry = put (t .view d) k (offered (t .view d k) v e) in
-    let grows : (j : ℕ) → t .view d j .stamp ≤ grown j .stamp =
-    put-every (λ (j : ℕ) (x : Entry). t .view d j .stamp ≤ x .stamp) (t .view d) k
-    (offered (t .view d k) v e) (offered-own (t .view d k) v e)
-    (λ j n. le-refl (t .view d j .stamp)) in
     record {
       work = answer-work t (Got d v e) (got c k (v .value)) _ refl
           (end-count last (c .count) _ _ refl refl)
-          (λ j. le-trans (grows j) (end-ge last grown (c .write .set) (c .write .stamp) j));
+          (λ j. le-trans (grown-ge (t .view d) v e j)
+          (end-ge last _ (c .write .set) (c .write .stamp) j));
       joins = ends last (c .write .stamp) (inr refl);
       outcome = inr (
         refl,
@@ -184,6 +202,24 @@ delivery-sort t (Got d v e) =
             (by-cond (λ (n : ℕ). n ≤ 2) (eqb (c .write .set) 0) 1 2 (λ e. omega arith)
             (λ e. omega arith)),
       );
+    }
+delivery-sort t (FirstGet d k) =
+    record {
+      work = stored-work t (FirstGet d k) (t .versions) (t .latest)
+          (λ k. le-refl (t .latest k .stamp)) (omega arith) (λ v i. inl i);
+      joins = reply (FirstReply d (answerOf t k (t .latest k .stamp)) (t .latest k)) search;
+      outcome = inl refl;
+    }
+delivery-sort t (FirstReply d v e) =
+    let c = t .client d in
+    let n = t .sizes .items in
+    let p = firstReplied n (c .read) v in
+    let last = eqb (p .awaited) 0 in
+    record {
+      work = answer-work t (FirstReply d v e) (gotFirst n c v) _ refl
+          (end-count last (c .count) _ _ refl refl) (grown-ge (t .view d) v e);
+      joins = fetches n p refl;
+      outcome = inr (refl, end-outcome last 1 (omega arith));
     }
 
 -- ---- what holds of every delivery
@@ -200,15 +236,17 @@ pub outcome-most : (t : Tables) (m : Message) → outcomeOf t m ≤ 2
 unfolding outcomeOf
 outcome-most t m = ⊎-elim (λ e. omega arith) (λ e. e .1) (delivery-sort t m .outcome)
 
--- what holds of each reply and of each commit of the client's write part holds of what joins
+-- what holds of each reply, of each commit of the client's write part and of each get of a second
+-- part holds of what joins
 pub joined-each : (P : Message → Type 0) (t : Tables) (m : Message)
-    → ((j : Message) → Reply m j → P j)
+    → ((j : Message) → Reply t m j → P j)
     → ((p stamp : ℕ) → t .client (ownerOf m) .write .set ≢ 0
     → (writerOf stamp ≡ ownerOf m) ⊎ (stamp ≡ t .client (ownerOf m) .write .stamp)
     → P (Commit p stamp))
+    → (isFirstReply m ≡ true → (k stamp : ℕ) → P (Get (ownerOf m) k stamp))
     → Each P (joined t m)
 unfolding joined
-joined-each P t m r c = go (delivery-sort t m .joins)
+joined-each P t m r c g = go (delivery-sort t m .joins)
   where
     go : {js : List Message} → Joins t m js → Each P js
     go none = each-none P
@@ -222,9 +260,14 @@ joined-each P t m r c = go (delivery-sort t m .joins)
         (λ e. each-upto P (λ p. Commit p stamp) (t .sizes .partitions)
         (λ p. touches t s p (t .sizes .items)) (λ p l u. c p stamp (eqb-false s 0 e) o)))
         (λ l. each-none P)
+    go (fetches n p first) =
+        by-cond (Each P) (isSecondPart p) _ _
+        (λ e. each-upto P (λ k. Get (ownerOf m) k (p .asked k)) n (has (p .awaited))
+        (λ k l h. g first k (p .asked k)))
+        (λ e. each-none P)
 
 -- none of them is a prepare
 pub joined-prepare : (t : Tables) (m j : Message) → In j (joined t m) → isPrepare j ≡ false
 joined-prepare t m =
     joined-each (λ j. isPrepare j ≡ false) t m (λ j r. answer-kind j (r .answer))
-    (λ p stamp s o. refl)
+    (λ p stamp s o. refl) (λ f k stamp. refl)

@@ -8,8 +8,8 @@ use Prim.Native.Nat.{ℕ}
 use lib.Dec.{eqb}
 use lib.ListN.{length, drop}
 use Rattle.basics.specs.Lists.{all}
-use Rattle.protocol.specs.Calls.{startRead, startWrite, deliver, show, clear, handOver}
-use Rattle.protocol.specs.Calls.{compare}
+use Rattle.protocol.specs.Calls.{startRead, startFastRead, startWrite, deliver, show, clear}
+use Rattle.protocol.specs.Calls.{handOver, compare}
 use Rattle.protocol.proofs.Examples.Table.{Row, freshly, on, onEach, _⇒_, _keeping_}
 use Rattle.protocol.proofs.Examples.Table.{value, room, anything, right, messagesAre}
 use Rattle.protocol.proofs.Examples.Table.{entryIs}
@@ -19,6 +19,8 @@ use Rattle.protocol.proofs.Examples.Cleared.{clearings}
 use Rattle.protocol.proofs.Examples.Faults.{faults}
 use Rattle.protocol.proofs.Examples.Falls.{falls}
 use Rattle.protocol.proofs.Examples.HandOver.{handOvers}
+use Rattle.protocol.proofs.Examples.Fast.{fasts}
+use Rattle.protocol.proofs.Examples.Far.{far, done, shows, ranged}
 use Rattle.protocol.proofs.Examples.Numbers.{numbers}
 use Rattle.protocol.proofs.Examples.Widest.{widest}
 use Rattle.protocol.proofs.Examples.Pinned.{pinned}
@@ -31,6 +33,8 @@ pub mod Falls
 pub mod Widest
 pub mod Cleared
 pub mod HandOver
+pub mod Fast
+pub mod Far
 
 -- the greatest value's four bytes
 abbrev greatest : List ℕ
@@ -350,7 +354,8 @@ abbrev outOfRange : Row
 outOfRange =
     record {
       start = onEach faults;
-      lines = startRead 1 1 ⇒ "01" ∷ startWrite 9 0 [] ⇒ "01" ∷ deliver 0 ⇒ "01"
+      lines = startRead 1 1 ⇒ "01" ∷ startFastRead 1 1 ⇒ "01" ∷ startWrite 9 0 [] ⇒ "01"
+          ∷ deliver 0 ⇒ "01"
           ∷ show 1 (room 1) ⇒ "01" keeping "ee" ∷ clear ⇒ "01" ∷ handOver 1 1 ⇒ "01"
           ∷ compare 9 9 ⇒ "01" ∷ [];
       after = anything;
@@ -379,8 +384,12 @@ rows =
     ∷ firstOfSeveral
     ∷ strays
     ∷ outOfRange
-    ∷ numbers ++ (falls ++ (widest ++ (clearings ++ (handOvers ++ pinned))))
+    ∷ numbers ++ (falls ++ (widest ++ (clearings ++ (handOvers ++ (fasts ++ pinned)))))
 
 pub examples : all right rows ≡ true
 unfolding all right
 examples = refl
+
+pub far-examples : all (λ b. b) far ≡ true
+unfolding all done shows ranged
+far-examples = refl

@@ -1,6 +1,6 @@
 -- What an accepted call keeps, whatever its sort: the tables stay valid, sizes stay, counts rise,
--- views grow, versions and prepares by no more than the prepares that join, and the client of a
--- start was idle.
+-- views and latest grow, versions and prepares by no more than the prepares that join, and the
+-- client of a start was idle.
 use mathlib.Core.Bool.{true}
 use mathlib.Core.Path.{_≡_, refl, sym, subst}
 use Prim.Native.Nat.{ℕ, _+_, _≤_}
@@ -14,20 +14,20 @@ use Rattle.basics.proofs.Lists.{sublist-in, length-sublist}
 use Rattle.protocol.specs.Tables.{Tables}
 use Rattle.protocol.specs.Message.{isPrepare}
 use Rattle.protocol.specs.Range.{Capacities, load, occupied}
+use Rattle.protocol.specs.FastRead.{fastReader}
 use Rattle.protocol.specs.Steps.{messageAt, reader, writer}
-use Rattle.protocol.specs.Calls.{Call, refusal, Effects, effects, effect}
-use Rattle.protocol.specs.Calls.{isStart}
+use Rattle.protocol.specs.Calls.{Call, refusal, Effects, effects, effect, isStart}
 use Rattle.protocol.proofs.Delivered.{put-rises, delivered-work}
 use Rattle.protocol.proofs.Ranges.Values.{IsClient, EntryInRange}
 use Rattle.protocol.proofs.Ranges.Tables.{Valid}
 use Rattle.protocol.proofs.Refusals.{Idle}
-use Rattle.protocol.proofs.Load.{load-read, load-write, load-deliver}
+use Rattle.protocol.proofs.Load.{load-read, load-fast-read, load-write, load-deliver}
 use Rattle.protocol.proofs.Occupied.{counted-prepares, occupied-read, occupied-write}
-use Rattle.protocol.proofs.Occupied.{occupied-deliver}
-use Rattle.protocol.proofs.Kept.Starts.{range-read, range-write}
+use Rattle.protocol.proofs.Occupied.{occupied-fast-read, occupied-deliver}
+use Rattle.protocol.proofs.Kept.Starts.{range-read, range-fast-read, range-write}
 use Rattle.protocol.proofs.Kept.Deliveries.{range-deliver}
-use Rattle.protocol.proofs.Sorts.{aside, ViewGrows, Apart, Sort, reads, writes, delivers}
-use Rattle.protocol.proofs.Sorts.{apart, sort}
+use Rattle.protocol.proofs.Sorts.{aside, ViewGrows, LatestGrows, Apart, Sort, reads}
+use Rattle.protocol.proofs.Sorts.{readsFast, writes, delivers, apart, sort}
 
 -- ---- one lemma a sort
 
@@ -36,6 +36,7 @@ pub record Keeps (caps : Capacities) (t : Tables) (e : Effects) : Type 0 where
   pub sizes : e .tables .sizes ≡ t .sizes
   pub rises : (d : ℕ) → t .client d .count ≤ e .tables .client d .count
   pub view : ViewGrows t (e .tables)
+  pub latest : LatestGrows t (e .tables)
   pub occupies : occupied (e .tables) ≤ occupied t + counted isPrepare (e .joins)
   pub starter : (d : ℕ) → isStart d (e .origin) ≡ true → IsClient (t .sizes) d × Idle (t .client d)
 
@@ -85,7 +86,22 @@ module _ (caps : Capacities) (t : Tables) where
         sizes = refl;
         rises = put-rises (t .client) d (reader t d s) (le-refl (t .client d .count));
         view = λ e k. le-refl (t .view e k .stamp);
+        latest = λ k. le-refl (t .latest k .stamp);
         occupies = omega (arith, occupied-read caps t d s a);
+        starter = λ e same. started-idle d e same (a .client) (a .idle);
+      }
+  sort-keeps (readsFast d s a) =
+      record {
+        valid = record {
+          inRange = range-fast-read caps t d s a;
+          load = omega (arith, load-fast-read caps t d s a);
+          occupied = omega (arith, occupied-fast-read caps t d s a);
+        };
+        sizes = refl;
+        rises = put-rises (t .client) d (fastReader t d s) (le-refl (t .client d .count));
+        view = λ e k. le-refl (t .view e k .stamp);
+        latest = λ k. le-refl (t .latest k .stamp);
+        occupies = omega (arith, occupied-fast-read caps t d s a);
         starter = λ e same. started-idle d e same (a .client) (a .idle);
       }
   sort-keeps (writes d s bytes a) =
@@ -98,6 +114,7 @@ module _ (caps : Capacities) (t : Tables) where
         sizes = refl;
         rises = put-rises (t .client) d (writer t d s bytes) (omega arith);
         view = λ e k. le-refl (t .view e k .stamp);
+        latest = λ k. le-refl (t .latest k .stamp);
         occupies = omega (
           arith,
           occupied-write caps t d s (a .start) bytes,
@@ -115,6 +132,7 @@ module _ (caps : Capacities) (t : Tables) where
         sizes = delivered-work t (messageAt t i) .sizes;
         rises = delivered-work t (messageAt t i) .rises;
         view = delivered-work t (messageAt t i) .view;
+        latest = delivered-work t (messageAt t i) .latest;
         occupies = omega (arith, occupied-deliver caps t i a);
         starter = λ e same. not-both same refl;
       }
@@ -125,6 +143,7 @@ module _ (caps : Capacities) (t : Tables) where
         sizes = refl;
         rises = λ d. le-refl (t .client d .count);
         view = a .grows;
+        latest = λ k. le-refl (t .latest k .stamp);
         occupies = le-trans (occupied-apart t c a) (omega arith);
         starter = λ e same. not-both same refl;
       })

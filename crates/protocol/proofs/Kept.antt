@@ -2,4 +2,5 @@
 pub mod Changes
 pub mod Values
 pub mod Starts
+pub mod Firsts
 pub mod Deliveries

@@ -6,6 +6,7 @@ pub mod Tells
 pub mod Each
 pub mod Put
 pub mod Stored
+pub mod FastRead
 pub mod Behaviour
 pub mod Shown
 pub mod Ranges

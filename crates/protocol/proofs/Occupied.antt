@@ -1,5 +1,5 @@
--- A read occupies no version, a write one for each item of its set, and a delivery none more: a
--- delivered prepare leaves and its version stays.
+-- A read, of either kind, occupies no version, a write one for each item of its set, and a delivery
+-- none more: a delivered prepare leaves and its version stays.
 use mathlib.Core.Bool.{Bool, true, false, cond}
 use mathlib.Core.List.{List, [], _∷_, map}
 use mathlib.Core.Path.{_≡_, refl, _∙_}
@@ -11,13 +11,14 @@ use Rattle.basics.proofs.Lists.{counted-append, counted-without, none-counted}
 use Rattle.itemset.specs.Set.{count, members}
 use Rattle.itemset.proofs.Members.{length-members}
 use Rattle.protocol.specs.declared.Message.{Message}
-use Rattle.protocol.specs.declared.Message.the-variants.{Prepare, Commit, Get}
+use Rattle.protocol.specs.declared.Message.the-variants.{Prepare, Commit, Get, FirstGet}
 use Rattle.protocol.specs.Tables.{Tables}
 use Rattle.protocol.specs.Message.{isPrepare}
 use Rattle.protocol.specs.Range.{Capacities, occupied}
+use Rattle.protocol.specs.FastRead.{firstGets}
 use Rattle.protocol.specs.Steps.{asks, gets, valueOf, nextStamp, version, prepares, joined}
 use Rattle.protocol.specs.Steps.{messageAt}
-use Rattle.protocol.specs.Calls.{startRead, startWrite, deliver, effect}
+use Rattle.protocol.specs.Calls.{startRead, startFastRead, startWrite, deliver, effect}
 use Rattle.protocol.proofs.Refusals.{AcceptedStart, AcceptedDeliver}
 use Rattle.protocol.proofs.Delivered.{delivered-work, joined-prepare}
 
@@ -50,6 +51,15 @@ module _ (caps : Capacities) (t : Tables) (d s : ℕ) (a : AcceptedStart caps t 
         arith,
         counted-append isPrepare (t .messages) (gets t d s),
         counted-each (λ k. Get d k (asks t d k)) false (members (t .sizes .items) s) (λ k. refl),
+      )
+
+  pub occupied-fast-read : occupied (effect t (startFastRead d s)) ≡ occupied t
+  unfolding effect occupied
+  occupied-fast-read =
+      omega (
+        arith,
+        counted-append isPrepare (t .messages) (firstGets t d s),
+        counted-each (FirstGet d) false (members (t .sizes .items) s) (λ k. refl),
       )
 
   pub occupied-write : (bytes : List ℕ)

@@ -14,14 +14,14 @@ use Rattle.itemset.proofs.Laws.{has-empty}
 use Rattle.protocol.specs.declared.Version.{Version}
 use Rattle.protocol.specs.declared.Entry.{Entry}
 use Rattle.protocol.specs.declared.Message.{Message}
-use Rattle.protocol.specs.declared.Message.the-variants.{Prepared, Commit, Got}
+use Rattle.protocol.specs.declared.Message.the-variants.{Prepared, Commit, Got, FirstReply}
 use Rattle.protocol.specs.Tables.{Sizes, Tables, Client, writerOf, Ended, rested, Side}
 use Rattle.protocol.specs.Tables.{ofRead, ofWrite, awaitedOf}
 use Rattle.protocol.specs.Range.{Capacities, load, occupied}
 use Rattle.protocol.specs.Steps.{messageAt, greatestOf}
-use Rattle.protocol.specs.Calls.{startRead, startWrite, deliver, show, clear, handOver}
-use Rattle.protocol.specs.Calls.{compare, Test, test, first, unexpected, missing, isNothing}
-use Rattle.protocol.specs.Calls.{refusal, freshRefusal, shownFrame}
+use Rattle.protocol.specs.Calls.{startRead, startFastRead, startWrite, deliver, show, clear}
+use Rattle.protocol.specs.Calls.{handOver, compare, Test, test, first, unexpected, missing}
+use Rattle.protocol.specs.Calls.{isNothing, refusal, freshRefusal, shownFrame}
 use Rattle.protocol.proofs.Tells.{tells}
 use Rattle.protocol.proofs.Each.{Each}
 use Rattle.protocol.proofs.Ranges.Values.{SizesInRange, tells-sizes, IsClient}
@@ -74,7 +74,7 @@ pub idle-awaits : (c : Client) → Idle c → (σ : Side) (k : ℕ) → has (awa
 idle-awaits c i ofRead k = rw (i .read) (has-empty k)
 idle-awaits c i ofWrite k = rw (i .write) (has-empty k)
 
--- what both starts test
+-- what all starts test
 pub record AcceptedStart (caps : Capacities) (t : Tables) (d s : ℕ) : Type 0 where
   pub valid : Valid caps t
   pub client : IsClient (t .sizes) d
@@ -101,6 +101,11 @@ accepted-read caps t d s = (
       search,
   λ a. simp tests (search first-empty),
 )
+
+pub accepted-fast-read : (caps : Capacities) (t : Tables) (d s : ℕ)
+    → (refusal caps t (startFastRead d s) ≡ 0) ↔ AcceptedStart caps t d s
+unfolding refusal
+accepted-fast-read caps t d s = accepted-read caps t d s
 
 pub accepted-write : (caps : Capacities) (t : Tables) (d s : ℕ) (bytes : List ℕ)
     → (refusal caps t (startWrite d s bytes) ≡ 0) ↔ AcceptedWrite caps t d s bytes
@@ -129,10 +134,16 @@ pub record AwaitedPrepared (t : Tables) (k σ : ℕ) : Type 0 where
   pub awaited : has (t .client (writerOf σ) .write .awaited) k ≡ true
   pub stamp : t .client (writerOf σ) .write .stamp ≡ σ
 
--- of a got reply: its client's read part awaits it
+-- of a got reply: its client's read part awaits it, and not in the first part of a fast read
 pub record AwaitedGot (t : Tables) (d : ℕ) (v : Version) : Type 0 where
+  pub byStamp : t .client d .read .stage ≢ 1
   pub awaited : has (t .client d .read .awaited) (v .item) ≡ true
   pub stamp : t .client d .read .asked (v .item) ≡ v .stamp
+
+-- of a first reply: its client is in such a part, and awaits its item
+pub record AwaitedFirst (t : Tables) (d : ℕ) (v : Version) : Type 0 where
+  pub byItem : t .client d .read .stage ≡ 1
+  pub awaited : has (t .client d .read .awaited) (v .item) ≡ true
 
 -- neither unexpected nor missing
 pub record Expected (t : Tables) (m : Message) : Type 0 where
@@ -152,6 +163,14 @@ pub tells-got : (t : Tables) (d : ℕ) (v : Version) (e : Entry) → Expected t 
     ↔ AwaitedGot t d v
 unfolding unexpected missing
 tells-got t d v e = (
+  λ x. let f = simp tests at (x .expected) in search,
+  λ r. record { expected = simp tests search; found = refl },
+)
+
+pub tells-first-reply : (t : Tables) (d : ℕ) (v : Version) (e : Entry)
+    → Expected t (FirstReply d v e) ↔ AwaitedFirst t d v
+unfolding unexpected missing
+tells-first-reply t d v e = (
   λ x. let f = simp tests at (x .expected) in search,
   λ r. record { expected = simp tests search; found = refl },
 )

@@ -121,15 +121,17 @@ length-frame d e some =
     )
 
 -- a kind that shows a read part is of an ended transaction
-shows-some : (kind : ℕ) → showsRead kind ≡ true → eqb kind 0 ≡ false
+pub shows-some : (kind : ℕ) → showsRead kind ≡ true → eqb kind 0 ≡ false
 shows-some kind s =
     by-test (eqb kind 0) (λ z. not-both (rw (eqb-true kind 0 z) at s) refl) (λ z. z)
 
-pub length-frame-read : (d : ℕ) (e : Ended) → e .kind ≡ 1 → e .read .set < 2 ^ 64
+pub length-frame-read : (d : ℕ) (e : Ended) → showsRead (e .kind) ≡ true
+    → showsWrite (e .kind) ≡ false → e .read .set < 2 ^ 64
     → length (frame d e) ≡ 10 + 9 * count (e .read .set)
-length-frame-read d e kind below =
-    length-frame d e (rw kind refl)
-    ∙ rw kind (omega (arith, length-read (e .read), length-members (e .read .set) 64 below))
+length-frame-read d e shows none below =
+    length-frame d e (shows-some (e .kind) shows)
+    ∙ rw (shows, none)
+    (omega (arith, length-read (e .read), length-members (e .read .set) 64 below))
 
 -- ---- what a frame with a read part begins with
 

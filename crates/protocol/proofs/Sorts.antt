@@ -1,6 +1,6 @@
--- The sorts of accepted calls, with what their tests tell: a read's start, a write's start, a
--- delivery, and a call apart, which leaves messages alone and stores nothing. All laws of accepted
--- calls go by them.
+-- The sorts of accepted calls, with what their tests tell: the start of a read, of a fast read or
+-- of a write, a delivery, and a call apart, which leaves messages alone and stores nothing. All
+-- laws of accepted calls go by them.
 use mathlib.Core.Bool.{true, false}
 use mathlib.Core.List.{List, [], Sublistᴰ, Sublistᴰ·refl}
 use mathlib.Core.Path.{_≡_, refl}
@@ -15,15 +15,15 @@ use Rattle.protocol.specs.Range.{Capacities}
 use Rattle.protocol.specs.Steps.{stored}
 use Rattle.protocol.specs.Clear.{unused, cleared, gone}
 use Rattle.protocol.specs.HandOver.{handedOver, standing}
-use Rattle.protocol.specs.Calls.{Call, startRead, startWrite, deliver, show, clear, handOver}
-use Rattle.protocol.specs.Calls.{compare, refusal, quiet, effects}
+use Rattle.protocol.specs.Calls.{Call, startRead, startFastRead, startWrite, deliver, show}
+use Rattle.protocol.specs.Calls.{clear, handOver, compare, refusal, quiet, effects}
 use Rattle.protocol.proofs.Cleared.{cleared-sublist, stored-cleared}
 use Rattle.protocol.proofs.Ranges.Values.{IsClient}
 use Rattle.protocol.proofs.Ranges.Tables.{Valid}
 use Rattle.protocol.proofs.Refusals.{AcceptedStart, AcceptedWrite, AcceptedDeliver}
-use Rattle.protocol.proofs.Refusals.{accepted-read, accepted-write, accepted-deliver}
-use Rattle.protocol.proofs.Refusals.{accepted-show, accepted-clear, accepted-hand-over}
-use Rattle.protocol.proofs.Refusals.{accepted-compare}
+use Rattle.protocol.proofs.Refusals.{accepted-read, accepted-fast-read, accepted-write}
+use Rattle.protocol.proofs.Refusals.{accepted-deliver, accepted-show, accepted-clear}
+use Rattle.protocol.proofs.Refusals.{accepted-hand-over, accepted-compare}
 use Rattle.protocol.proofs.HandOver.{handed-taken, handed-grows}
 
 -- the tables with other views and stored versions
@@ -41,6 +41,10 @@ aside t view versions =
 -- no stamp of a view falls
 abbrev pub ViewGrows : Tables → Tables → Type 0
 ViewGrows t u = (d k : ℕ) → t .view d k .stamp ≤ u .view d k .stamp
+
+-- and none of a latest
+abbrev pub LatestGrows : Tables → Tables → Type 0
+LatestGrows t u = (k : ℕ) → t .latest k .stamp ≤ u .latest k .stamp
 
 -- a call that answers, and at most gives view entries from client to client and takes out versions
 -- of unused stamps
@@ -99,6 +103,7 @@ still t c output answer e =
 module _ (caps : Capacities) (t : Tables) where
   pub data Sort : Call → Type 0 where
     reads : (d s : ℕ) → AcceptedStart caps t d s → Sort (startRead d s)
+    readsFast : (d s : ℕ) → AcceptedStart caps t d s → Sort (startFastRead d s)
     writes : (d s : ℕ) (bytes : List ℕ) → AcceptedWrite caps t d s bytes
         → Sort (startWrite d s bytes)
     delivers : (i : ℕ) → AcceptedDeliver caps t i → Sort (deliver i)
@@ -106,6 +111,7 @@ module _ (caps : Capacities) (t : Tables) where
 
   pub sort : (c : Call) → refusal caps t c ≡ 0 → Sort c
   sort (startRead d s) e = reads d s (accepted-read caps t d s .0 e)
+  sort (startFastRead d s) e = readsFast d s (accepted-fast-read caps t d s .0 e)
   sort (startWrite d s bytes) e = writes d s bytes (accepted-write caps t d s bytes .0 e)
   sort (deliver i) e = delivers i (accepted-deliver caps t i .0 e)
   sort (show d output) e =

@@ -52,7 +52,7 @@ unfolding load
 load-fresh z = omega (
   arith,
   total-none (z .clients) (λ d. arrived (resting 0 nothing))
-      (λ d. arrived-none (resting 0 nothing) refl),
+      (λ d. arrived-none (resting 0 nothing) refl refl),
 )
 
 pub occupied-fresh : (z : Sizes) → occupied (fresh z) ≡ 0

@@ -9,13 +9,15 @@ use Rattle.hex.specs.Number.{bigEndian}
 use Rattle.itemset.specs.Set.{has, count, allBelow}
 use Rattle.protocol.specs.declared.Message.{Message}
 use Rattle.protocol.specs.declared.Message.the-variants.{Prepare, Prepared, Commit, Get, Got}
+use Rattle.protocol.specs.declared.Message.the-variants.{FirstGet, FirstReply}
 use Rattle.protocol.specs.declared.Answer.{Answer}
 use Rattle.protocol.specs.declared.Answer.the-variants.{Refused, Made, Started, Delivered}
 use Rattle.protocol.specs.declared.Answer.the-variants.{Shown, Cleared, HandedOver, Compared}
-use Rattle.protocol.specs.Tables.{Sizes, Tables, WritePart, Ended, writerOf}
-use Rattle.protocol.specs.Message.{partsOf, kindOf, isPrepare, isGet, itemOf}
+use Rattle.protocol.specs.Tables.{Sizes, Tables, WritePart, Ended, isFirstPart, writerOf}
+use Rattle.protocol.specs.Message.{partsOf, kindOf, isPrepare, isFirstGet, isAnyGet, itemOf}
 use Rattle.protocol.specs.Range.{Capacities, valid, sizesInRange, isClient, isIdle, load}
 use Rattle.protocol.specs.Range.{occupied}
+use Rattle.protocol.specs.FastRead.{startedFastRead, firstGets}
 use Rattle.protocol.specs.Steps.{startedRead, startedWrite, deliveredAt, messageAt, stored}
 use Rattle.protocol.specs.Steps.{deliveryOf, gets, prepares, writer, joined, greatestOf}
 use Rattle.protocol.specs.Clear.{cleared, gone}
@@ -25,6 +27,7 @@ use Rattle.protocol.specs.LogFrame.{frame, handOverFrame}
 -- The calls that follow a fresh start. A write brings its value bytes, a showing the lent output.
 pub data Call : Type 0 where
   startRead : (client set : ℕ) → Call
+  startFastRead : (client set : ℕ) → Call
   startWrite : (client set : ℕ) (values : List ℕ) → Call
   deliver : (place : ℕ) → Call
   show : (client : ℕ) (output : List ℕ) → Call
@@ -51,7 +54,8 @@ abbrev pub badSet : Tables → ℕ → Bool
 badSet t s = eqb s 0 || not (allBelow s (t .sizes .items))
 
 -- 11: prepare of an item and stamp already stored; prepared that its client's write part, got that
--- its client's read part doesn't await with that item and stamp
+-- its client's read part doesn't await with that item and stamp. 'A first reply is awaited by its
+-- line alone, and only in the first part of such a read, where no got is' (document 02, P7).
 unfoldable pub unexpected : Tables → Message → Bool
 unexpected t (Prepare v) = stored (t .versions) (v .item) (v .stamp)
 unexpected t (Prepared k stamp) =
@@ -61,13 +65,22 @@ unexpected t (Commit p stamp) = false
 unexpected t (Get d k stamp) = false
 unexpected t (Got d v latest) =
     let c = t .client d in
-    not (has (c .read .awaited) (v .item) && eqb (c .read .asked (v .item)) (v .stamp))
+    not (not (isFirstPart (c .read)) && has (c .read .awaited) (v .item)
+    && eqb (c .read .asked (v .item)) (v .stamp))
+unexpected t (FirstGet d k) = false
+unexpected t (FirstReply d v latest) =
+    let p = t .client d .read in
+    not (isFirstPart p && has (p .awaited) (v .item))
+
+-- the stamp that a get of either kind is for
+abbrev pub soughtBy : Tables → Message → ℕ
+soughtBy t m = cond (isFirstGet m) (t .latest (itemOf m) .stamp) (partsOf m .stamp)
 
 -- 12: get of a version that isn't stored, the initial one excepted
 unfoldable pub missing : Tables → Message → Bool
 missing t m =
-    let p = partsOf m in
-    isGet m && not (eqb (p .stamp) 0 || stored (t .versions) (p .item) (p .stamp))
+    let stamp = soughtBy t m in
+    isAnyGet m && not (eqb stamp 0 || stored (t .versions) (itemOf m) stamp)
 
 -- 13: no transaction has ended
 unfoldable pub isNothing : Ended → Bool
@@ -76,17 +89,21 @@ isNothing e = eqb (e .kind) 0
 abbrev pub shownFrame : Tables → ℕ → List ℕ
 shownFrame t d = frame d (t .client d .last)
 
--- 17: 'Twelve becomes the limit for writing; reads may still take 64', 'It refuses such a write
--- with 17, tested after 6 and before 7' (document 02, P4); twelve is this store's `widest`
-unfoldable pub refusal : Capacities → Tables → Call → ℕ
-refusal caps t (startRead d s) =
-    first
-    (test 1 (not (valid caps t))
+-- of a read, ordinary or fast
+abbrev pub readTests : Capacities → Tables → ℕ → ℕ → List Test
+readTests caps t d s =
+    test 1 (not (valid caps t))
     ∷ test 3 (not (isClient (t .sizes) d))
     ∷ test 4 (not (isIdle (t .client d)))
     ∷ test 5 (badSet t s)
     ∷ test 8 (ltb (caps .load) (load t + count s))
-    ∷ [])
+    ∷ []
+
+-- 17: 'Twelve becomes the limit for writing; reads may still take 64', 'It refuses such a write
+-- with 17, tested after 6 and before 7' (document 02, P4); twelve is this store's `widest`
+unfoldable pub refusal : Capacities → Tables → Call → ℕ
+refusal caps t (startRead d s) = first (readTests caps t d s)
+refusal caps t (startFastRead d s) = first (readTests caps t d s)
 refusal caps t (startWrite d s bytes) =
     first
     (test 1 (not (valid caps t))
@@ -198,6 +215,7 @@ quiet after output answer =
 -- a prepare stores its item; past the frame the output keeps its bytes
 abbrev pub effects : Tables → Call → Effects
 effects t (startRead d s) = started d (startedRead t d s) (gets t d s) []
+effects t (startFastRead d s) = started d (startedFastRead t d s) (firstGets t d s) []
 effects t (startWrite d s bytes) = started d (startedWrite t d s bytes) (prepares t d s bytes)
     (writer t d s bytes .write ∷ [])
 effects t (deliver i) =
@@ -231,6 +249,7 @@ written t c = effects t c .output
 -- the lent output before a call
 unfoldable pub lent : Call → List ℕ
 lent (startRead d s) = []
+lent (startFastRead d s) = []
 lent (startWrite d s bytes) = []
 lent (deliver i) = []
 lent (show d output) = output

@@ -6,8 +6,8 @@ use Prim.Native.Nat.{ℕ, _+_, _*_}
 use lib.Dec.{eqb}
 use Rattle.hex.specs.Number.{bigEndian}
 use Rattle.itemset.specs.Set.{members}
-use Rattle.protocol.specs.Tables.{ReadPart, WritePart, Ended, showsRead, showsWrite}
-use Rattle.protocol.specs.Tables.{numberOf, writerOf}
+use Rattle.protocol.specs.Tables.{ReadPart, WritePart, Ended, showsRead, showsWrite, numberOf}
+use Rattle.protocol.specs.Tables.{writerOf}
 
 -- the bytes of each item in turn
 unfoldable pub listed : (ℕ → List ℕ) → List ℕ → List ℕ
@@ -31,9 +31,9 @@ writeBytes p =
     bigEndian 8 (p .set) ++ bigEndian 4 (numberOf (p .stamp))
     ++ listed (λ k. bigEndian 4 (p .values k)) (members 64 (p .set))
 
--- the byte of a kind: `21` of a read, `20` of a write
+-- the byte of a kind: `21` of a read, `20` of a write, `23` of a fast read
 abbrev pub frameByte : ℕ → ℕ
-frameByte kind = cond (eqb kind 1) 0x21 0x20
+frameByte kind = cond (eqb kind 1) 0x21 (cond (eqb kind 2) 0x20 0x23)
 
 -- kind, client, and the parts that the kind shows; empty where none has ended
 unfoldable pub frame : ℕ → Ended → List ℕ

@@ -1,16 +1,17 @@
 -- What a message is (document 01, 'Tables' and 'Steps'): its parts, said once for each kind. All
 -- that is asked of a message as such goes by them.
-use mathlib.Core.Bool.{Bool, cond}
+use mathlib.Core.Bool.{Bool, cond, _||_}
 use Prim.Native.Nat.{ℕ}
 use lib.Dec.{eqb, leb}
 use Rattle.protocol.specs.declared.Entry.{Entry}
 use Rattle.protocol.specs.declared.Message.{Message}
 use Rattle.protocol.specs.declared.Message.the-variants.{Prepare, Prepared, Commit, Get, Got}
+use Rattle.protocol.specs.declared.Message.the-variants.{FirstGet, FirstReply}
 use Rattle.protocol.specs.Tables.{initial, writerOf}
 
 pub record Parts : Type 0 where
   pub kind : ℕ
-  -- the client of a get or got, the partition of a commit
+  -- the client of a get, got, first get or first reply, the partition of a commit
   pub place : ℕ
   pub item : ℕ
   pub value : ℕ
@@ -37,10 +38,12 @@ partsOf (Prepared k stamp) = parts 2 0 k 0 stamp 0 initial
 partsOf (Commit p stamp) = parts 3 p 0 0 stamp 0 initial
 partsOf (Get d k stamp) = parts 4 d k 0 stamp 0 initial
 partsOf (Got d v e) = parts 5 d (v .item) (v .value) (v .stamp) (v .set) e
+partsOf (FirstGet d k) = parts 6 d k 0 0 0 initial
+partsOf (FirstReply d v e) = parts 7 d (v .item) (v .value) (v .stamp) (v .set) e
 
--- the kinds are 1 to 5
+-- the kinds are 1 to 7
 abbrev pub kinds : ℕ
-kinds = 5
+kinds = 7
 
 abbrev pub kindOf : Message → ℕ
 kindOf m = partsOf m .kind
@@ -60,11 +63,24 @@ isGet m = eqb (kindOf m) 4
 abbrev pub isGot : Message → Bool
 isGot m = eqb (kindOf m) 5
 
+abbrev pub isFirstGet : Message → Bool
+isFirstGet m = eqb (kindOf m) 6
+
+abbrev pub isFirstReply : Message → Bool
+isFirstReply m = eqb (kindOf m) 7
+
+-- 'kinds 6 and 7 are gets and gots' (document 02, P7)
+abbrev pub isAnyGet : Message → Bool
+isAnyGet m = isGet m || isFirstGet m
+
+abbrev pub isAnyGot : Message → Bool
+isAnyGot m = isGot m || isFirstReply m
+
 -- of a message that is about one item: any but a commit
 abbrev pub itemOf : Message → ℕ
 itemOf m = partsOf m .item
 
--- a get or got names its client; any other message is its stamp's client's
+-- a get or got, of either kind, names its client; any other message is its stamp's client's
 abbrev pub namesClient : Message → Bool
 namesClient m = leb 4 (kindOf m)
 

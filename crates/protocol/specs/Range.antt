@@ -10,7 +10,8 @@ use Rattle.protocol.specs.declared.Version.{Version}
 use Rattle.protocol.specs.declared.Entry.{Entry}
 use Rattle.protocol.specs.declared.Message.{Message}
 use Rattle.protocol.specs.Tables.{Sizes, Tables, Client, ReadPart, WritePart, Ended, isKind}
-use Rattle.protocol.specs.Tables.{showsRead, showsWrite, numberOf, writerOf}
+use Rattle.protocol.specs.Tables.{isFirstPart, isSecondPart, showsRead, showsWrite, numberOf}
+use Rattle.protocol.specs.Tables.{writerOf}
 use Rattle.protocol.specs.Message.{partsOf, isPrepare, namesClient}
 
 -- counts are at most 4,294,967,295 and values of 32 bits
@@ -73,12 +74,19 @@ isIdle c = eqb (c .read .awaited) 0 && eqb (c .write .awaited) 0
 abbrev pub isWriting : Client → Bool
 isWriting c = not (eqb (c .write .set) 0)
 
+-- the first reply for item k has come: a fast read keeps it until it ends, in its first part for
+-- the items no longer awaited, in its second for all
+unfoldable pub hasFirst : ReadPart → ℕ → Bool
+hasFirst p k = has (p .set) k && (isSecondPart p || (isFirstPart p && not (has (p .awaited) k)))
+
 -- awaited items lie in their part's set; a write part has one stamp for all its items
 unfoldable pub readPartInRange : Sizes → ReadPart → Bool
 readPartInRange z p =
     allBelow (p .set) (z .items) && allBelow (p .awaited) (z .items)
     && each z (p .awaited) (has (p .set))
     && each z (p .set) (λ k. stampInRange z (p .asked k) && fits (p .values k))
+    && leb (p .stage) 2
+    && every (z .items) (λ k. not (hasFirst p k) || entryInRange z (p .firsts k))
 
 unfoldable pub writePartInRange : Sizes → WritePart → Bool
 writePartInRange z p =
@@ -94,11 +102,12 @@ endedInRange z e =
     isKind kind && (not (showsRead kind) || readPartInRange z (e .read))
     && (not (showsWrite kind) || writePartInRange z (e .write))
 
--- a write part awaits an item, and there is no read part beside it
+-- a write part awaits an item, and there is no read part beside it; a fast read awaits one too
 unfoldable pub clientInRange : Sizes → Client → Bool
 clientInRange z c =
     fits (c .count) && readPartInRange z (c .read) && writePartInRange z (c .write)
     && (eqb (c .write .set) 0 || (eqb (c .read .set) 0 && not (eqb (c .write .awaited) 0)))
+    && (eqb (c .read .stage) 0 || not (eqb (c .read .awaited) 0))
     && endedInRange z (c .last)
 
 -- p holds of every client
@@ -117,9 +126,14 @@ inRange t =
 
 -- ---- Load
 
--- the prepared replies that have come: the items of the write part no longer awaited
+-- 'First replies that have come count in the load until the first part is over' (document 02, P7)
+abbrev pub arrivedFirst : ReadPart → ℕ
+arrivedFirst p = cond (isFirstPart p) (count (p .set) - count (p .awaited)) 0
+
+-- the prepared replies that have come, the items of the write part no longer awaited, and the first
+-- replies
 unfoldable pub arrived : Client → ℕ
-arrived c = count (c .write .set) - count (c .write .awaited)
+arrived c = count (c .write .set) - count (c .write .awaited) + arrivedFirst (c .read)
 
 -- f, added up over the clients
 unfoldable pub total : ℕ → (ℕ → ℕ) → ℕ

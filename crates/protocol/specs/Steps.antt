@@ -11,19 +11,16 @@ use Rattle.protocol.specs.declared.Version.{Version}
 use Rattle.protocol.specs.declared.Entry.{Entry}
 use Rattle.protocol.specs.declared.Message.{Message}
 use Rattle.protocol.specs.declared.Message.the-variants.{Prepare, Prepared, Commit, Get, Got}
+use Rattle.protocol.specs.declared.Message.the-variants.{FirstGet, FirstReply}
 use Rattle.protocol.specs.Tables.{Tables, Client, ReadPart, WritePart, Ended, Side, ofRead}
 use Rattle.protocol.specs.Tables.{ofWrite, noRead, noWrite, stampOf, numberOf, writerOf}
 use Rattle.protocol.specs.Tables.{laterOf, entryOf, rested, partitionOf, put, withClient}
 use Rattle.protocol.specs.Tables.{withView, withLatest, withVersions, withMessages, withCount}
-use Rattle.protocol.specs.Tables.{withRead, withWrite}
+use Rattle.protocol.specs.Tables.{withRead, withWrite, initial}
+use Rattle.protocol.specs.FastRead.{firstReplied, secondGets}
+unfoldable pub use Rattle.protocol.specs.Choice.{choice}
 
 -- ---- Start a read
-
--- the latest stamp among the view's own entry for item k and those of its first n entries whose
--- write set contains k
-unfoldable pub choice : (ℕ → Entry) → ℕ → ℕ → ℕ
-choice view k zero = view k .stamp
-choice view k (suc n) = max (choice view k n) (cond (has (view n .set) k) (view n .stamp) 0)
 
 -- the stamp that client d asks for
 abbrev pub asks : Tables → ℕ → ℕ → ℕ
@@ -36,6 +33,8 @@ reader t d s =
       awaited = s;
       asked = λ k. cond (has s k) (asks t d k) 0;
       values = λ k. 0;
+      stage = 0;
+      firsts = λ k. initial;
     })) noWrite
 
 -- one get for each item, ascending
@@ -99,7 +98,13 @@ unfoldable pub found : List Version → ℕ → ℕ → Version
 found [] k stamp = version k 0 stamp 0
 found (v ∷ vs) k stamp = cond (alike k stamp v) v (found vs k stamp)
 
--- ---- The five deliveries
+-- the version that the partition of item k answers with: the one of this stamp
+abbrev pub answerOf : Tables → ℕ → ℕ → Version
+answerOf t k stamp =
+    let v = found (t .versions) k stamp in
+    version k (v .value) stamp (v .set)
+
+-- ---- The seven deliveries
 
 -- item k is struck from those that the read part awaits, and its answer is kept
 abbrev pub answered : Client → ℕ → ℕ → Client
@@ -109,6 +114,8 @@ answered c k value =
       awaited = remove (c .read .awaited) k;
       asked = c .read .asked;
       values = put (c .read .values) k value;
+      stage = c .read .stage;
+      firsts = c .read .firsts;
     })
 
 -- item k is struck from those that the write part awaits
@@ -129,17 +136,25 @@ isLast ofWrite c k = eqb (c .read .awaited) 0 && eqb (remove (c .write .awaited)
 -- a part as it ended
 abbrev pub endedRead : ReadPart → ReadPart
 endedRead p =
-    record { set = p .set; awaited = 0; asked = p .asked; values = p .values }
+    record {
+      set = p .set;
+      awaited = 0;
+      asked = p .asked;
+      values = p .values;
+      stage = 0;
+      firsts = λ k. initial;
+    }
 
 abbrev pub endedWrite : WritePart → WritePart
 endedWrite p =
     record { set = p .set; awaited = 0; stamp = p .stamp; values = p .values }
 
--- the transaction of c, as an ended one: a write where it has a write part, and else a read
+-- the transaction of c, as an ended one: a write where it has a write part, and else a read or a
+-- fast read
 abbrev pub ended : Client → Ended
 ended c =
     record {
-      kind = cond (eqb (c .write .set) 0) 1 2;
+      kind = cond (eqb (c .write .set) 0) (cond (eqb (c .read .stage) 0) 1 3) 2;
       read = endedRead (c .read);
       write = endedWrite (c .write);
     }
@@ -152,6 +167,13 @@ prepared c k = cond (isLast ofWrite c k) (rested c (ended c)) (struck c k)
 abbrev pub got : Client → ℕ → ℕ → Client
 got c k value = cond (isLast ofRead c k) (rested c (ended (answered c k value)))
     (answered c k value)
+
+-- First reply: the version is kept; with the last one the client is idle, where no item is fetched
+-- again
+abbrev pub gotFirst : ℕ → Client → Version → Client
+gotFirst n c v =
+    let p = firstReplied n (c .read) v in
+    cond (eqb (p .awaited) 0) (rested c (ended (withRead c p))) (withRead c p)
 
 -- and its item's view entry 'becomes the latest of three (at a tie its own before the reply's
 -- latest, that before the version)' (document 02, P2)
@@ -207,8 +229,7 @@ deliveryOf t (Prepared k stamp) =
 deliveryOf t (Commit p stamp) = delivering (withLatest t (committed t p stamp)) [] 0
 -- 'A got reply now also carries its version's write set' (document 02, P2)
 deliveryOf t (Get d k stamp) =
-    let v = found (t .versions) k stamp in
-    delivering t (Got d (version k (v .value) stamp (v .set)) (t .latest k) ∷ []) 0
+    delivering t (Got d (answerOf t k stamp) (t .latest k) ∷ []) 0
 deliveryOf t (Got d v latest) =
     let c = t .client d in
     let k = v .item in
@@ -218,6 +239,16 @@ deliveryOf t (Got d v latest) =
     delivering (withView (withClient t d (got c k (v .value))) d view)
     (cond last (commits t (c .write .set) (c .write .stamp)) [])
     (cond last (cond (eqb (c .write .set) 0) 1 2) 0)
+deliveryOf t (FirstGet d k) =
+    delivering t (FirstReply d (answerOf t k (t .latest k .stamp)) (t .latest k) ∷ []) 0
+deliveryOf t (FirstReply d v latest) =
+    let c = t .client d in
+    let k = v .item in
+    let n = t .sizes .items in
+    let p = firstReplied n (c .read) v in
+    let view = put (t .view d) k (offered (t .view d k) v latest) in
+    delivering (withView (withClient t d (gotFirst n c v)) d view) (secondGets n d p)
+    (cond (eqb (p .awaited) 0) 1 0)
 
 unfoldable pub delivered : Tables → Message → Tables
 delivered t m = deliveryOf t m .tables

@@ -1,9 +1,9 @@
 -- The store's tables (document 01, 'Tables'), as values with no word of a block in them: a client
 -- is document 01's desk, a partition its cabinet, an item its line, the messages its pile.
-use mathlib.Core.Bool.{Bool, cond}
+use mathlib.Core.Bool.{Bool, cond, _||_}
 use mathlib.Core.List.{List, []}
 use Prim.Native.Nat.{ℕ, _+_, _*_, _/_, _%_}
-use lib.Dec.{eqb, ltb, leb}
+use lib.Dec.{eqb, ltb}
 use Rattle.protocol.specs.declared.Version.{Version}
 use Rattle.protocol.specs.declared.Entry.{Entry}
 use Rattle.protocol.specs.declared.Message.{Message}
@@ -39,12 +39,22 @@ entryOf v = record { stamp = v .stamp; set = v .set }
 -- The transaction under way has a read part and a write part. Either may be empty: an ordinary read
 -- has no write part, an ordinary write no read part, and an idle client has neither.
 
--- its items, those whose reply is still awaited, the stamps asked for, and the answers so far
+-- its items, those whose reply is still awaited, the stamps asked for, and the answers so far; its
+-- stage, 0 of an ordinary read, 1 and 2 in the first and the second part of a fast read (document
+-- 02, P7), and the first replies that have come
 pub record ReadPart : Type 0 where
   pub set : ℕ
   pub awaited : ℕ
   pub asked : ℕ → ℕ
   pub values : ℕ → ℕ
+  pub stage : ℕ
+  pub firsts : ℕ → Entry
+
+abbrev pub isFirstPart : ReadPart → Bool
+isFirstPart p = eqb (p .stage) 1
+
+abbrev pub isSecondPart : ReadPart → Bool
+isSecondPart p = eqb (p .stage) 2
 
 -- its items, those whose reply is still awaited, the one stamp, and the values
 pub record WritePart : Type 0 where
@@ -54,13 +64,21 @@ pub record WritePart : Type 0 where
   pub values : ℕ → ℕ
 
 abbrev pub noRead : ReadPart
-noRead = record { set = 0; awaited = 0; asked = λ k. 0; values = λ k. 0 }
+noRead =
+    record {
+      set = 0;
+      awaited = 0;
+      asked = λ k. 0;
+      values = λ k. 0;
+      stage = 0;
+      firsts = λ k. initial;
+    }
 
 abbrev pub noWrite : WritePart
 noWrite = record { set = 0; awaited = 0; stamp = 0; values = λ k. 0 }
 
--- The last ended transaction: its kind, 0 none yet, 1 a read, 2 a write, and its parts as they
--- ended, with nothing awaited.
+-- The last ended transaction: its kind, 0 none yet, 1 a read, 2 a write, 3 a fast read, and its
+-- parts as they ended, with nothing awaited and no first reply.
 pub record Ended : Type 0 where
   pub kind : ℕ
   pub read : ReadPart
@@ -71,13 +89,13 @@ nothing = record { kind = 0; read = noRead; write = noWrite }
 
 -- the kinds that there are, and which parts each shows; a later kind joins here
 unfoldable pub isKind : ℕ → Bool
-isKind kind = ltb kind 3
+isKind kind = ltb kind 4
 
 abbrev pub showsRead : ℕ → Bool
-showsRead kind = eqb kind 1
+showsRead kind = eqb kind 1 || eqb kind 3
 
 abbrev pub showsWrite : ℕ → Bool
-showsWrite kind = leb 2 kind
+showsWrite kind = eqb kind 2
 
 pub record Client : Type 0 where
   -- the number of its last write started, 0 before the first

@@ -1,21 +1,32 @@
-// The kinds of ended transactions (0 none yet, 1 a read, 2 a write), and which parts each shows.
+// The kinds of last ended transactions, and which parts each shows.
 ghost use mathlib.Core.Path.{_≡_};
 ghost use Rattle.protocol.specs.Tables.{isKind, showsRead, showsWrite};
+
+// None has ended yet, a read, a write, and a fast read. A kind is below `KINDS`.
+pub const NONE: u64 = 0;
+
+pub const READ: u64 = 1;
+
+pub const WRITE: u64 = 2;
+
+pub const FAST_READ: u64 = 3;
+
+const KINDS: u64 = 4;
 
 pub fn is_kind(kind: u64) -> bool
     ensures { λ r. ⌜ r ≡ isKind kind ⌝ }
 {
-    kind < 3
+    kind < KINDS
 }
 
 pub fn shows_read(kind: u64) -> bool
     ensures { λ r. ⌜ r ≡ showsRead kind ⌝ }
 {
-    kind == 1
+    (kind == READ) | (kind == FAST_READ)
 }
 
 pub fn shows_write(kind: u64) -> bool
     ensures { λ r. ⌜ r ≡ showsWrite kind ⌝ }
 {
-    2 <= kind
+    kind == WRITE
 }

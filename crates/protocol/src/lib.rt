@@ -1,10 +1,13 @@
-// The values that the store's calls pass around: versions, entries, messages and answers, and the
-// kinds of ended transactions. The tables, the steps and the refusals are definitions, in specs/.
+// The values that the store's calls pass around: versions, entries, messages and answers, the kinds
+// of ended transactions and of messages, and the outcomes of deliveries. The tables, the steps and
+// the refusals are definitions, in specs/.
 ghost use mathlib.Core.Path.{_≡_};
 ghost use Rattle.protocol.specs.Tables.{laterOf};
 ghost use Rattle.protocol.specs.Steps.{offered};
 
 pub mod kind;
+pub mod message_kind;
+pub mod outcome;
 
 // A version of an item (document 01: line): its value, the stamp of the write that made it, and
 // that write's set.
@@ -47,7 +50,7 @@ impl Entry {
     }
 }
 
-// A message in flight (document 01: in the pile), kinds 1 to 5.
+// A message in flight (document 01: in the pile); `message_kind` numbers the kinds.
 pub enum Message {
     Prepare(Version),
     Prepared {
@@ -64,6 +67,15 @@ pub enum Message {
         stamp: u64,
     },
     Got {
+        client: u64,
+        version: Version,
+        latest: Entry,
+    },
+    FirstGet {
+        client: u64,
+        item: u64,
+    },
+    FirstReply {
         client: u64,
         version: Version,
         latest: Entry,

@@ -25,9 +25,10 @@ use Rattle.layout.specs.Decode.{modeFits, tablesOf, wellFormed, validBlock}
 use Rattle.gather.specs.Sized.{sizes, sized}
 use Rattle.gather.proofs.Tested.{every-same, every-both}
 use Rattle.gather.proofs.Sizes.{entry-sized, version-sized, client-sized}
+use Rattle.range_client.specs.Entries.{entryFrom}
 use Rattle.range_client.specs.Clients.{clientTest}
 use Rattle.range_message.specs.Messages.{messageTest}
-use Rattle.range.specs.Entries.{entryFrom}
+use Rattle.range.specs.Entries.{entriesAt}
 use Rattle.range.specs.Block.{tablesTest}
 use Rattle.encoding.proofs.Folds.{all-table}
 use Rattle.range.proofs.EntryTests.{entries-tests}
@@ -160,7 +161,7 @@ module _ (b : List ℕ) where
 pub tables-tests : (b : List ℕ) (clients partitions items versions messages : ℕ)
     {entries client stored flight : Bool} {full used : ℕ}
     → entries ≡ every (suc clients) (λ i. every items (λ k. entryInRange (sized clients items)
-    (entryFrom b i k)))
+    (entryFrom b (entriesAt i) k)))
     → client ≡ every clients (λ i. clientTest b (suc i) clients items)
     → stored ≡ every versions (λ i. versionInRange (sized clients items) (versionIn b i))
     → flight ≡ every messages (λ i. messageTest b i clients partitions items)

@@ -1,5 +1,5 @@
--- The prepared replies that have come to a client and whether a message is a prepare, read off the
--- words.
+-- The replies that have come to a client and count in the load, and whether a message is a prepare,
+-- read off the words.
 use mathlib.Core.Bool.{cond}
 use mathlib.Core.List.{List}
 use mathlib.Core.Logic.{_≢_}
@@ -7,7 +7,7 @@ use mathlib.Core.Path.{_≡_, refl, sym, ap, _∙_}
 use Prim.Native.Nat.{ℕ, _-_, _≤_, _<_}
 use native.Mathlib.Omega.{arith}
 use lib.Dec.{eqb, leb}
-use borrow.Author.Tests.{le-leb, lt-leb, leb-true, leb-false, eqb-true, eqb-false, ne-eqb}
+use borrow.Author.Tests.{leb-true, leb-false, eqb-true, eqb-false, ne-eqb}
 use Rattle.basics.proofs.Cases.{by-test}
 use Rattle.itemset.specs.Set.{count}
 use Rattle.itemset.proofs.Counts.{count-empty}
@@ -19,18 +19,28 @@ use Rattle.layout.specs.Decode.{clientIn, kindIn, messageOf, messageIn}
 use Rattle.layout.proofs.Held.{kind-read, last-kind}
 
 module _ (b : List ℕ) (d : ℕ) where
-  arrived-none : at b scalars (modeAt d) < 2 → arrived (clientIn b d) ≡ 0
-  unfolding arrived clientIn
-  arrived-none h = rw (lt-leb 2 (at b scalars (modeAt d)) h) (omega (arith, count-empty))
+  abbrev mode : ℕ
+  mode = at b scalars (modeAt d)
 
-  pub arrived-other : at b scalars (modeAt d) < 2 → 0 ≡ arrived (clientIn b d)
-  arrived-other h = sym (arrived-none h)
-
-  pub arrived-write : (s a : ℕ) → s ≡ at b scalars (setAt d) → a ≡ at b scalars (awaitedAt d)
-      → 2 ≤ at b scalars (modeAt d)
-      → count s - count a ≡ arrived (clientIn b d)
+  arrived-none : mode ≢ 2 → mode ≢ 3 → arrived (clientIn b d) ≡ 0
   unfolding arrived clientIn
-  arrived-write s a p q h = rw (le-leb 2 (at b scalars (modeAt d)) h, p, q) refl
+  arrived-none n m =
+      rw (ne-eqb mode 2 n, ne-eqb mode 3 m)
+      (by-test (eqb mode 4) (λ e. rw e (omega (arith, count-empty)))
+      (λ e. rw e (omega (arith, count-empty))))
+
+  pub arrived-other : mode ≢ 2 → mode ≢ 3 → 0 ≡ arrived (clientIn b d)
+  arrived-other n m = sym (arrived-none n m)
+
+  -- of a write, and of the first part of a fast read
+  pub arrived-come : (s a : ℕ) → s ≡ at b scalars (setAt d) → a ≡ at b scalars (awaitedAt d)
+      → 2 ≤ mode → mode ≤ 3 → count s - count a ≡ arrived (clientIn b d)
+  unfolding arrived clientIn
+  arrived-come s a p q l h =
+      by-test (eqb mode 2)
+      (λ e. rw (eqb-true mode 2 e, p, q) (omega arith))
+      (λ e. let first : mode ≡ 3 = omega (arith, eqb-false mode 2 e) in
+      rw (first, p, q) (omega (arith, count-empty)))
 
 pub prepare-kind : (b : List ℕ) (i : ℕ) → isPrepare (messageIn b i) ≡ eqb (kindIn b i) 1
 unfolding messageIn messageOf

@@ -1,5 +1,6 @@
-// The load (messages in flight, and prepared replies that have come to clients still writing), and
-// the versions in use (stored, and in prepares).
+// The load (messages in flight, prepared replies that have come to clients still writing, and first
+// replies that have come in the first part of a fast read), and the versions in use (stored, and in
+// prepares).
 ghost use mathlib.Core.Bool.{cond};
 ghost use mathlib.Core.Path.{_≡_};
 ghost use Prim.Native.Nat.{_+_, _*_, _≤_, _<_};
@@ -9,16 +10,23 @@ ghost use Rattle.protocol.specs.Message.{isPrepare};
 ghost use Rattle.protocol.specs.Range.{arrived, total};
 ghost use Rattle.layout.specs.Layout.{mostClients, mostItems, mostVersions, mostMessages, needed};
 ghost use Rattle.layout.specs.Decode.{clientIn, messageIn};
+use layout::FIRST_PART;
+use layout::WRITING;
+use protocol::message_kind::PREPARE;
 use range_message::message_word;
 
-// The prepared replies that have come to client `d`; a mode above 2 is no mode, and refused
-// elsewhere.
+// The prepared replies that have come to client `d`, which writes, or the first replies, in the
+// first part of a fast read.
 fn arrived_at(b: &[u64], d: u64) -> u64
     requires { ⌜ (1 ≤ d) × (d ≤ mostClients) ⌝ }
     ensures { λ r. ⌜ r ≡ arrived (clientIn (now (b .entry)) d) ⌝ }
     ensures { λ r. ⌜ r ≤ mostItems ⌝ }
 {
-    if client_fields::mode(b, d) < 2 {
+    let mode = client_fields::mode(b, d);
+    if mode < WRITING {
+        return 0;
+    }
+    if FIRST_PART < mode {
         return 0;
     }
     let set = itemset::count(client_fields::set_of(b, d));
@@ -57,7 +65,11 @@ fn prepare_at(b: &[u64], i: u64) -> u64
     ensures { λ r. ⌜ r ≡ cond (isPrepare (messageIn (now (b .entry)) i)) 1 0 ⌝ }
     ensures { λ r. ⌜ r ≤ 1 ⌝ }
 {
-    if message_word(b, i, 0) == 1 { 1 } else { 0 }
+    if message_word(b, i, 0) == PREPARE {
+        1
+    } else {
+        0
+    }
 }
 
 fn prepares(b: &[u64], messages: u64) -> u64

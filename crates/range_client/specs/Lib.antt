@@ -1,2 +1,3 @@
 -- What the contracts of `range_client` cite besides the layout and the protocol.
+pub mod Entries
 pub mod Clients

@@ -88,22 +88,26 @@ module _ (clients partitions items : ℕ) (some : 1 ≤ partitions) (one : 1 ≤
     unfolding messageOf messageInRange entryInRange stampInRange
     get-tests p q = rw (p, q, empty-below) (simp passed)
 
+    pub first-get-tests : kind ≡ 6
+        → ((leb 1 who && leb who clients) && ltb k items) ≡ whole
+    unfolding messageOf messageInRange entryInRange stampInRange
+    first-get-tests q = rw (q, empty-below) (simp passed)
+
   pub got-tests : (kind who k v stamp s : ℕ) (e : Entry) {version entry : Bool}
       → version ≡ entryInRange (sized clients items) (record { stamp = stamp; set = s })
-      → entry ≡ entryInRange (sized clients items) e → kind ≢ 1 → kind ≢ 2 → kind ≢ 3 → kind ≢ 4
-      → (eqb kind 5 && ((leb 1 who && leb who clients) && ltb k items && ltb v (2 ^ 32) && version
-      && entry))
+      → entry ≡ entryInRange (sized clients items) e → 5 ≤ kind → kind ≢ 6
+      → ((eqb kind 5 || eqb kind 7) && ((leb 1 who && leb who clients) && ltb k items
+      && ltb v (2 ^ 32) && version && entry))
       ≡ numberTest kind (messageOf kind who k v stamp s e)
   unfolding messageOf messageInRange entryInRange stampInRange
-  got-tests kind who k v stamp s e p q n₁ n₂ n₃ n₄ =
-      by-test (eqb kind 0) (λ z. rw (eqb-true kind 0 z) refl)
-      (λ z. by-test (eqb kind kinds)
-      (λ f. rw (eqb-true kind kinds f, p, q)
-      (got-order (leb 1 who && leb who clients) (ltb k items) (ltb v (2 ^ 32)) _
-      (ltb s (2 ^ items)) _))
-      (λ f.
-      let past : kinds < kind = omega (arith, eqb-false kind 0 z, eqb-false kind kinds f) in
-      rw (f, le-leb 1 kind (omega arith), lt-leb kind kinds past) refl))
+  got-tests kind who k v stamp s e p q l n =
+      let order = got-order (leb 1 who && leb who clients) (ltb k items) (ltb v (2 ^ 32)) _
+      (ltb s (2 ^ items)) _ in
+      by-test (eqb kind 5) (λ f. rw (eqb-true kind 5 f, p, q) order)
+      (λ f. by-test (eqb kind 7) (λ g. rw (eqb-true kind 7 g, p, q) order)
+      (λ g.
+      let past : kinds < kind = omega (arith, n, eqb-false kind 5 f, eqb-false kind 7 g) in
+      rw (f, g, le-leb 1 kind (omega arith), lt-leb kind kinds past) refl))
 
   -- read off the block
   pub message-words : (b : List ℕ) (i : ℕ) {r : Bool} {kind who k v stamp s : ℕ} {e : Entry}

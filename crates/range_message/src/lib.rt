@@ -25,6 +25,13 @@ use layout::VERSION_WORDS;
 use layout::VERSIONS;
 use protocol::Entry;
 use protocol::Version;
+use protocol::message_kind::COMMIT;
+use protocol::message_kind::FIRST_GET;
+use protocol::message_kind::FIRST_REPLY;
+use protocol::message_kind::GET;
+use protocol::message_kind::GOT;
+use protocol::message_kind::PREPARE;
+use protocol::message_kind::PREPARED;
 
 // Word `f` of stored version `i`.
 fn version_word(b: &[u64], i: u64, f: u64) -> u64
@@ -73,9 +80,8 @@ pub fn message_word(b: &[u64], i: u64, f: u64) -> u64
     b[place]
 }
 
-// The words of a message that its kind uses: 1 prepare, 2 prepared, 3 commit, 4 get, 5 got. In two
-// groups, since the compiler would make a table of jumps of more than three kinds, which takes
-// longer than to compare.
+// The words of a message that its kind uses. In two groups, since the compiler would make a table
+// of jumps of more than three kinds, which takes longer than to compare.
 fn words_in_range(
     kind: u64,
     who: u64,
@@ -93,8 +99,8 @@ fn words_in_range(
         && messageInRange (sizes clients partitions items)
         (messageOf kind who item value stamp set latest)) ⌝ }
 {
-    if kind < 4 {
-        if kind == 1 {
+    if kind < GET {
+        if kind == PREPARE {
             return version_in_range(
                 clients,
                 items,
@@ -106,18 +112,21 @@ fn words_in_range(
                 },
             );
         }
-        if kind == 2 {
+        if kind == PREPARED {
             return (item < items) & stamp_in_range(clients, stamp) & (stamp != 0);
         }
-        if kind == 3 {
+        if kind == COMMIT {
             return (who < partitions) & stamp_in_range(clients, stamp) & (stamp != 0);
         }
         return false;
     }
-    if kind == 4 {
+    if kind == GET {
         return ((1 <= who) & (who <= clients)) & (item < items) & stamp_in_range(clients, stamp);
     }
-    (kind == 5)
+    if kind == FIRST_GET {
+        return ((1 <= who) & (who <= clients)) & (item < items);
+    }
+    ((kind == GOT) | (kind == FIRST_REPLY))
         & (((1 <= who) & (who <= clients))
             & (item < items)
             & (value < 4294967296)

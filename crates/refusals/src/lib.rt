@@ -3,7 +3,6 @@ ghost use mathlib.Core.Bool.{true, cond, _&&_, _||_, not};
 ghost use mathlib.Core.Path.{_≡_};
 ghost use Prim.Native.Nat.{_≤_, _<_};
 ghost use lib.Dec.{eqb};
-ghost use lib.ListN.{length};
 ghost use Rattle.itemset.specs.Set.{allBelow};
 ghost use Rattle.protocol.specs.Range.{capacities, isClient};
 ghost use Rattle.protocol.specs.Calls.{startRead, startWrite, show, clear, handOver, compare};
@@ -17,6 +16,7 @@ use client_fields::last_kind;
 use client_fields::mode;
 use itemset::all_below;
 use itemset::count;
+use layout::IDLE;
 use layout::MOST_CLIENTS;
 use layout::MOST_ITEMS;
 use layout::MOST_MESSAGES;
@@ -24,6 +24,7 @@ use layout::MOST_PARTITIONS;
 use layout::MOST_VERSIONS;
 use layout::MOST_WRITE_ITEMS;
 use layout::NEEDED;
+use protocol::kind::NONE;
 use range::load;
 use range::occupied;
 use range::valid_block;
@@ -61,7 +62,7 @@ fn busy(b: &[u64], d: u64) -> bool
     requires { ⌜ (1 ≤ d) × (d ≤ 8) ⌝ }
     ensures { λ r. ⌜ r ≡ not (eqb (at (now (b .entry)) scalars (modeAt d)) 0) ⌝ }
 {
-    mode(b, d) != 0
+    mode(b, d) != IDLE
 }
 
 // 5: the set is empty, or holds an item that doesn't exist.
@@ -169,7 +170,7 @@ fn of_client_show(b: &[u64], d: u64, out: &[u8]) -> u64
     ensures { λ r. ⌜ r ≡ refusal capacities (tablesOf (now (b .entry)))
         (show d (now (out .entry))) ⌝ }
 {
-    let none = last_kind(b, d) == 0;
+    let none = last_kind(b, d) == NONE;
     let short = (out.len() as u64) < frame_length(b, d);
     refuse(4, busy(b, d), refuse(13, none, refuse(14, short, 0)))
 }
@@ -217,7 +218,7 @@ fn are_idle(b: &[u64], d: u64, e: u64) -> bool
     ensures { λ r. ⌜ r ≡ (eqb (at (now (b .entry)) scalars (modeAt d)) 0
         && eqb (at (now (b .entry)) scalars (modeAt e)) 0) ⌝ }
 {
-    (mode(b, d) == 0) & (mode(b, e) == 0)
+    (mode(b, d) == IDLE) & (mode(b, e) == IDLE)
 }
 
 // A hand-over between clients that exist, on a valid block.

@@ -19,7 +19,8 @@ use Rattle.itemset.proofs.Members.{length-members, length-members-rank}
 use Rattle.protocol.specs.Tables.{ReadPart, WritePart, noRead, noWrite, Ended, showsRead}
 use Rattle.protocol.specs.Tables.{showsWrite, numberOf}
 use Rattle.protocol.specs.Range.{isClient}
-use Rattle.protocol.specs.LogFrame.{mostLogFrame, shownEntry, readBytes, writeBytes, frameByte, frame}
+use Rattle.protocol.specs.LogFrame.{mostLogFrame, shownEntry, readBytes, writeBytes, frameByte}
+use Rattle.protocol.specs.LogFrame.{frame}
 use Rattle.protocol.specs.Calls.{isNothing, shownFrame}
 use Rattle.protocol.proofs.Shown.{length-read, length-write, shownRead, shownWrite, length-frame}
 use Rattle.layout.specs.Layout.{scalars, lastStamps, lastValues, at, lastKindAt, lastSetAt}
@@ -177,7 +178,9 @@ nothing-le d e z = rw z (omega arith)
 
 -- no kind shows both parts
 one-part : (kind : ℕ) → showsRead kind ≡ true → showsWrite kind ≡ false
-one-part kind s = rw (eqb-true kind 1 s) refl
+one-part kind s =
+    by-test (eqb kind 1) (λ e. rw (eqb-true kind 1 e) refl)
+    (λ e. rw (eqb-true kind 3 (rw e at s)) refl)
 
 pub length-frame-le : (d : ℕ) (e : Ended) → length (frame d e) ≤ mostLogFrame
 length-frame-le d e =

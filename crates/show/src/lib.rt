@@ -21,6 +21,9 @@ use hex::put_bytes;
 use itemset::count;
 use itemset::has;
 use itemset::rank;
+use protocol::kind::NONE;
+use protocol::kind::READ;
+use protocol::kind::WRITE;
 use protocol::kind::shows_read;
 use protocol::kind::shows_write;
 
@@ -28,7 +31,13 @@ use protocol::kind::shows_write;
 fn frame_byte(kind: u64) -> u8
     ensures { λ r. ⌜ r ≡ frameByte kind ⌝ }
 {
-    if kind == 1 { 0x21 } else { 0x20 }
+    if kind == READ {
+        0x21
+    } else if kind == WRITE {
+        0x20
+    } else {
+        0x23
+    }
 }
 
 // Kind and client: what every frame begins with.
@@ -167,7 +176,7 @@ pub fn frame_length(b: &[u64], d: u64) -> u64
 {
     let s = last_set(b, d);
     let kind = last_kind(b, d);
-    if kind == 0 {
+    if kind == NONE {
         0
     } else {
         2 + read_length(kind, s) + write_length(kind, s)
@@ -182,7 +191,7 @@ pub fn write_frame(b: &[u64], d: u64, out: &mut [u8])
 {
     let s = last_set(b, d);
     let kind = last_kind(b, d);
-    if kind == 0 {
+    if kind == NONE {
         return;
     }
     let behind = 2 + read_length(kind, s);

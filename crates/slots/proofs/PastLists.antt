@@ -2,13 +2,17 @@
 use mathlib.Core.List.{List}
 use Prim.Native.Nat.{ℕ, _+_, _<_}
 use native.Mathlib.Omega.{arith}
+use lib.Dec.{ltb}
+use borrow.Author.Tests.{ltb-true}
 use Rattle.protocol.specs.declared.Version.{Version}
 use Rattle.protocol.specs.declared.Message.{Message}
-use Rattle.layout.specs.Layout.{mostVersions, mostMessages, versions, messages, base, versionsAt}
-use Rattle.layout.specs.Layout.{messagesAt, versionAt, messageAt}
+use Rattle.protocol.proofs.Put.{by-cond}
+use Rattle.layout.specs.Layout.{mostVersions, mostMessages, header, versions, messages, base, at}
+use Rattle.layout.specs.Layout.{versionsAt, messagesAt, versionAt, messageAt}
 use Rattle.layout.specs.Store.{wordsOfVersion, wordsOfMessage, storeVersion, storeMessage}
 use Rattle.layout.specs.Store.{appendVersion, appendMessage}
-use Rattle.layout.proofs.Past.{SamePast}
+use Rattle.layout.proofs.Past.{SamePast, past-none}
+use Rattle.slots.specs.Room.{keep, send}
 use Rattle.slots.proofs.Runs.{run-length, run-behind}
 use Rattle.slots.proofs.EncodesAppend.{length-words}
 
@@ -33,3 +37,19 @@ past-append-message b n m l =
       past = λ j g. run-behind b from (wordsOfMessage m) messagesAt (n + 1) 0 j
           (omega (arith, length-words m)) (omega arith);
     }
+
+-- ---- where there is room
+
+pub past-keep : (b : List ℕ) (v : Version) → SamePast b (keep b v)
+unfolding keep
+past-keep b v =
+    let n = at b header versionsAt in
+    by-cond (SamePast b) (ltb n mostVersions) (appendVersion b n v) b
+    (λ e. past-append-version b n v (ltb-true n mostVersions e)) (λ e. past-none b)
+
+pub past-send : (b : List ℕ) (m : Message) → SamePast b (send b m)
+unfolding send
+past-send b m =
+    let n = at b header messagesAt in
+    by-cond (SamePast b) (ltb n mostMessages) (appendMessage b n m) b
+    (λ e. past-append-message b n m (ltb-true n mostMessages e)) (λ e. past-none b)

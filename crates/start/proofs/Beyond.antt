@@ -1,44 +1,30 @@
 -- A start keeps the block's length, and every word past the length that a block needs.
+use mathlib.Core.Bool.{Bool, true, false}
 use mathlib.Core.List.{List}
 use mathlib.Core.Path.{refl, sym, subst}
-use Prim.Native.Nat.{ℕ, suc, _+_, _≤_}
+use Prim.Native.Nat.{ℕ, suc, _≤_}
 use native.Mathlib.Omega.{arith}
 use lib.Dec.{lit<}
-use lib.ListN.{length}
 use Rattle.basics.specs.Fold.{upTo}
-use Rattle.itemset.specs.Set.{count, rank}
-use Rattle.itemset.proofs.Counts.{rank-lt}
 use Rattle.itemset.proofs.Pass.{pass-keeps}
-use Rattle.protocol.specs.declared.Message.{Message}
-use Rattle.protocol.specs.declared.Message.the-variants.{Prepare, Get}
 use Rattle.protocol.specs.Tables.{Tables, stampOf}
-use Rattle.protocol.specs.Range.{capacities, load}
-use Rattle.protocol.specs.Steps.{version}
+use Rattle.protocol.specs.Range.{capacities}
+use Rattle.protocol.specs.Steps.{choice}
 use Rattle.protocol.proofs.Refusals.{AcceptedStart, AcceptedWrite}
-use Rattle.layout.specs.Layout.{mostMessages, scalars, asked, values, at, itemAt}
+use Rattle.layout.specs.Layout.{scalars, asked, values, reading, writing, inFirstPart}
+use Rattle.layout.specs.Decode.{viewIn}
 use Rattle.layout.specs.Encodes.{Encodes}
 use Rattle.layout.proofs.Room.{HasRoom, room-valid}
 use Rattle.layout.proofs.Past.{SamePast, past-none, past-trans, past-put}
-use Rattle.slots.proofs.PastLists.{past-append-message}
-use Rattle.start.specs.Start.{busy, sendItem, readStarted, greatestOn, writeStarted}
-use Rattle.start.proofs.Started.{read-started, write-started}
-
--- a pass of messages
-past-sends : {b : List ℕ} (x : List ℕ) (n s : ℕ) (made : List ℕ → ℕ → Message) (items : ℕ)
-    → n + count s ≤ mostMessages → SamePast b x
-    → SamePast b (upTo (λ y k. sendItem n s (made y k) y k) x items)
-past-sends {b} x n s made items l h =
-    pass-keeps s items (SamePast b) _ x h
-    (λ k y g e p. past-trans p (past-append-message y (n + rank s k) (made y k)
-    (omega (arith, rank-lt s k e))))
+use Rattle.start.specs.Start.{busy, askFor, getOf, begun, readStarted, fastReadStarted}
+use Rattle.start.specs.Start.{prepareOf, greatestOn, writeStarted}
+use Rattle.start.proofs.Sent.{past-sends}
+use Rattle.start.proofs.Started.{read-started, fast-read-started, write-started}
 
 module _ (b : List ℕ) (t : Tables) (d s : ℕ) (n : Encodes b t)
     (a : AcceptedStart capacities t d s) where
   abbrev items : ℕ
   items = t .sizes .items
-
-  abbrev sent : ℕ
-  sent = length (t .messages)
 
   room : HasRoom t
   room = room-valid t (a .valid)
@@ -46,29 +32,37 @@ module _ (b : List ℕ) (t : Tables) (d s : ℕ) (n : Encodes b t)
   last : d ≤ 8
   last = omega (arith, a .client .1, room .clients)
 
-  fits : sent + count s ≤ mostMessages
-  unfolding load
-  fits = omega (arith, a .load)
-
   past-busy : (x : List ℕ) (mode : ℕ) → SamePast x (busy x d mode s)
   past-busy x mode =
       let put = past-put d (a .client .0) last in
       past-trans (put x scalars 0 mode (lit< tt))
       (past-trans (put _ scalars 2 s (lit< tt)) (put _ scalars 3 s (lit< tt)))
 
-  pub beyond-read : SamePast b (readStarted b d s)
-  beyond-read =
+  -- a read that has its stamps
+  past-begun : (x : List ℕ) (mode : ℕ) (first : Bool) → SamePast x (begun x d s mode first items)
+  unfolding begun
+  past-begun x mode first =
+      past-trans (past-busy x mode) (past-sends _ s items (λ y k. getOf first d k y))
+
+  -- whatever the stamps are
+  past-asked : (told : List ℕ → ℕ → ℕ)
+      → SamePast b (upTo (λ x k. askFor d s (told x k) x k) b items)
+  past-asked told =
       let put = past-put d (a .client .0) last in
-      let made : List ℕ → ℕ → Message = λ x k. Get d k (at x asked (itemAt d k)) in
-      subst (SamePast b)
-      (read-started b d s items sent (sym (n .items)) (sym (n .messageCount)) _ _ _ refl refl refl)
-      (past-sends _ sent s made items fits
-      (past-trans
-      (pass-keeps s items (SamePast b) _ b (past-none b)
+      pass-keeps s items (SamePast b) _ b (past-none b)
       (λ k x l e h.
       past-trans h (past-trans (put x asked k _ (omega (arith, room .items)))
-      (put _ values k 0 (omega (arith, room .items))))))
-      (past-busy _ 1)))
+      (put _ values k 0 (omega (arith, room .items)))))
+
+  pub beyond-read : SamePast b (readStarted b d s)
+  beyond-read =
+      subst (SamePast b) (read-started b d s items (sym (n .items)) _ _ refl refl)
+      (past-trans (past-asked (λ x k. choice (viewIn x d) k items)) (past-begun _ reading false))
+
+  pub beyond-fast-read : SamePast b (fastReadStarted b d s)
+  beyond-fast-read =
+      subst (SamePast b) (fast-read-started b d s items (sym (n .items)) _ _ refl refl)
+      (past-trans (past-asked (λ x k. 0)) (past-begun _ inFirstPart true))
 
 module _ (b : List ℕ) (t : Tables) (d s : ℕ) (bytes : List ℕ) (n : Encodes b t)
     (w : AcceptedWrite capacities t d s bytes) where
@@ -79,14 +73,12 @@ module _ (b : List ℕ) (t : Tables) (d s : ℕ) (bytes : List ℕ) (n : Encodes
       let number = suc (greatestOn b d z) in
       let stamp = stampOf number d in
       let put = past-put d (a .client .0) (last b t d s n a) in
-      let made : List ℕ → ℕ → Message =
-      λ x k. Prepare (version k (at x values (itemAt d k)) stamp s) in
       subst (SamePast b)
-      (write-started b d s z (length (t .messages)) (sym (n .items))
-      (sym (n .messageCount)) bytes number _ _ _ _ _ refl refl refl refl refl refl)
-      (past-sends _ (length (t .messages)) s made z (fits b t d s n a)
+      (write-started b d s z (sym (n .items)) bytes number _ _ _ _ _ refl refl refl refl refl refl)
       (past-trans
       (pass-keeps s z (SamePast b) _ b (past-none b)
       (λ k x l e h. past-trans h (put x values k _ (omega (arith, room b t d s n a .items)))))
-      (past-trans (past-busy b t d s n a _ 2)
-      (past-trans (put _ scalars 1 number (lit< tt)) (put _ scalars 4 stamp (lit< tt))))))
+      (past-trans (past-busy b t d s n a _ writing)
+      (past-trans (put _ scalars 1 number (lit< tt))
+      (past-trans (put _ scalars 4 stamp (lit< tt))
+      (past-sends _ s z (λ x k. prepareOf d s stamp k x))))))

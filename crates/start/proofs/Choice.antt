@@ -4,7 +4,7 @@
 use mathlib.Core.Bool.{true, cond, _||_}
 use mathlib.Core.List.{List}
 use mathlib.Core.Path.{_≡_, refl, sym, ap, ap₂, _∙_}
-use Prim.Native.Nat.{ℕ, zero, suc, _≤_, _<_, max}
+use Prim.Native.Nat.{ℕ, zero, suc, _+_, _-_, _*_, _≤_, _<_, max}
 use native.Mathlib.Nat.{le-refl}
 use native.Mathlib.Omega.{arith}
 use lib.Bits.{bitAnd}
@@ -19,8 +19,9 @@ use Rattle.itemset.proofs.Bits.{has-and}
 use Rattle.protocol.specs.declared.Entry.{Entry}
 use Rattle.protocol.specs.Tables.{initial}
 use Rattle.protocol.specs.Steps.{choice}
-use Rattle.layout.specs.Layout.{mostItems}
-use Rattle.start.specs.Choice.{cut, ChosenAfter, raisedBy, passed}
+use Rattle.layout.specs.Layout.{mostItems, entryWords, views, base, viewAt}
+use Rattle.layout.specs.Decode.{viewIn}
+use Rattle.start.specs.Choice.{entriesFrom, cut, ChosenAfter, raisedBy, passed}
 use Rattle.start.proofs.Raised.{length-raised, raised-at}
 
 -- what entry e counts at item k
@@ -161,3 +162,22 @@ chosen-all view s items stamps h narrow j l e =
     h .chosen j items (omega arith) e (le-refl items)
     ∙ choice-ext (cut view items) view j items (cut-before view items j l)
     (λ i g. cut-before view items i g)
+
+-- ---- of a view, whose entries all count
+
+-- where the row of client d starts
+abbrev pub viewFrom : ℕ → ℕ
+viewFrom d = base views + entryWords * mostItems * (d - 1)
+
+entries-view : (b : List ℕ) (d s i : ℕ) → entriesFrom b (viewFrom d) true s i ≡ viewIn b d i
+entries-view b d s i =
+    let stamp : viewFrom d + (entryWords * i + 0) ≡ base views + viewAt d i = omega arith in
+    let set : viewFrom d + (entryWords * i + 1) ≡ base views + (viewAt d i + 1) = omega arith in
+    λ x. record { stamp = getD b (stamp x) 0; set = getD b (set x) 0 }
+
+pub chosen-view : (b : List ℕ) (d s items : ℕ) (stamps : List ℕ)
+    → ChosenAfter (entriesFrom b (viewFrom d) true s) s items stamps → items ≤ mostItems
+    → (j : ℕ) → j < items → has s j ≡ true → getD stamps j 0 ≡ choice (viewIn b d) j items
+chosen-view b d s items stamps h narrow j l e =
+    chosen-all _ s items stamps h narrow j l e
+    ∙ choice-ext _ (viewIn b d) j items (entries-view b d s j) (λ i g. entries-view b d s i)

@@ -3,10 +3,9 @@
 use mathlib.Core.Bool.{true, false}
 use mathlib.Core.List.{List}
 use mathlib.Core.Path.{_≡_, refl, sym, ap, _∙_, subst}
-use Prim.Native.Nat.{ℕ, suc, _<_}
+use Prim.Native.Nat.{ℕ, suc}
 use native.Mathlib.Omega.{arith}
 use lib.Dec.{lit<, eqb}
-use lib.ListN.{length}
 use borrow.Author.Tests.{ne-eqb}
 use Rattle.basics.proofs.Cases.{not-both}
 use Rattle.basics.specs.Fold.{upTo}
@@ -14,21 +13,20 @@ use Rattle.itemset.specs.Set.{has}
 use Rattle.itemset.proofs.Laws.{has-below, has-empty}
 use Rattle.protocol.specs.declared.Message.{Message}
 use Rattle.protocol.specs.declared.Message.the-variants.{Prepare}
-use Rattle.protocol.specs.Tables.{Tables, withClient, withMessages}
-use Rattle.protocol.specs.Range.{capacities, load}
+use Rattle.protocol.specs.Tables.{Tables, withClient}
+use Rattle.protocol.specs.Range.{capacities}
 use Rattle.protocol.specs.Steps.{version, valueOf, greatestOf, nextStamp, writer, startedWrite}
-use Rattle.protocol.proofs.Put.{put-same}
 use Rattle.protocol.proofs.Refusals.{AcceptedStart, AcceptedWrite}
-use Rattle.layout.specs.Layout.{scalars, values, at, store, countAt, stampAt, itemAt}
-use Rattle.layout.specs.Encodes.{Encodes, HoldsClient}
-use Rattle.layout.proofs.Room.{HasRoom, NarrowClient, narrow-below, room-valid, room-client}
+use Rattle.layout.specs.Layout.{scalars, store, countAt, stampAt, writing}
+use Rattle.layout.specs.Encodes.{Encodes}
+use Rattle.layout.proofs.Room.{HasRoom, NarrowClient, narrow-below, room-valid}
 use Rattle.layout.proofs.ClientWords.{Words, putWord}
 use Rattle.layout.proofs.ClientHolds.{WordsHold, words-hold}
 use Rattle.layout.proofs.Changed.{Changed, changed-put, encodes-changed}
-use Rattle.start.specs.Start.{busy, valueItem, writeStarted}
+use Rattle.start.specs.Start.{busy, valueItem, prepareOf, writeStarted}
 use Rattle.itemset.proofs.Pass.{filled-at}
 use Rattle.start.proofs.Valued.{bytesOf, valuedWords, valued-changed}
-use Rattle.start.proofs.Sent.{encodes-sent}
+use Rattle.start.proofs.Sent.{encodes-started}
 use Rattle.start.proofs.Numbers.{greatest-held}
 use Rattle.start.proofs.Started.{write-started}
 
@@ -60,11 +58,11 @@ module _ (b : List ℕ) (t : Tables) (d s : ℕ) (bytes : List ℕ) (n : Encodes
 
   abbrev writerWords : Words
   writerWords = putWord (putWord (putWord (putWord
-      (putWord (valuedWords b d s bytes items) scalars 0 2) scalars 2 s) scalars 3 s)
+      (putWord (valuedWords b d s bytes items) scalars 0 writing) scalars 2 s) scalars 3 s)
       scalars 1 number) scalars 4 (nextStamp t d)
 
   abbrev writerBlock : List ℕ
-  writerBlock = store (store (busy valuedBlock d 2 s) scalars (countAt d) number) scalars
+  writerBlock = store (store (busy valuedBlock d writing s) scalars (countAt d) number) scalars
       (stampAt d) (nextStamp t d)
 
   writer-changed : Changed d b writerBlock writerWords
@@ -73,7 +71,7 @@ module _ (b : List ℕ) (t : Tables) (d s : ℕ) (bytes : List ℕ) (n : Encodes
       (omega (arith, a .client .1, room .clients)) (room .items) (n .long) in
       changed-put
       (changed-put
-      (changed-put (changed-put (changed-put valued scalars 0 2 (lit< tt)) scalars 2 s
+      (changed-put (changed-put (changed-put valued scalars 0 writing (lit< tt)) scalars 2 s
       (lit< tt)) scalars 3 s (lit< tt))
       scalars 1 number (lit< tt))
       scalars 4 (nextStamp t d) (lit< tt)
@@ -108,27 +106,16 @@ module _ (b : List ℕ) (t : Tables) (d s : ℕ) (bytes : List ℕ) (n : Encodes
   encodes-writer : Encodes writerBlock busyTables
   encodes-writer = encodes-changed n room (a .client .1) writer-changed narrow-writer writer-hold
 
-  abbrev prepareOf : ℕ → ℕ → Message
-  prepareOf value k = Prepare (version k value (nextStamp t d) s)
-
-  -- what a turn of the send reads is what the writer keeps
-  prepare-made : (x : List ℕ) (ms : List Message) → Encodes x (withMessages busyTables ms) → (k : ℕ)
-      → k < items → has s k ≡ true
-      → prepareOf (at x values (itemAt d k)) k ≡ prepareOf (valueOf s bytes k) k
-  prepare-made x ms h k l i =
-      let held : HoldsClient x d (writer t d s bytes) =
-      subst (HoldsClient x d) (put-same (t .client) d (writer t d s bytes))
-      (h .client d (a .client .0) (a .client .1)) in
-      ap (λ (v : ℕ). prepareOf v k) (held .write (rw some refl) .values k i)
+  -- the prepare of an item with this value
+  abbrev prepare : ℕ → ℕ → Message
+  prepare k value = Prepare (version k value (nextStamp t d) s)
 
   pub encodes-write : Encodes (writeStarted b d s bytes) (startedWrite t d s bytes)
-  unfolding load
   encodes-write =
       subst (λ (x : List ℕ). Encodes x (startedWrite t d s bytes))
-      (write-started b d s items (length (t .messages)) (sym (n .items))
-      (sym (n .messageCount)) bytes number _ _ _ _ _
+      (write-started b d s items (sym (n .items)) bytes number _ _ _ _ _
       (ap suc (sym (greatest-held b t d n (a .client .0) (a .client .1)))) refl refl refl refl refl)
-      (encodes-sent writerBlock busyTables s items (λ x k. prepareOf (at x values (itemAt d k)) k)
-      (λ k. prepareOf (valueOf s bytes k) k)
-      encodes-writer (room-client t d (writer t d s bytes) room narrow-writer)
-      (omega (arith, a .load)) prepare-made)
+      (encodes-started writerBlock t d s (writer t d s bytes)
+      (λ x k. prepareOf d s (nextStamp t d) k x) (λ k. prepare k (valueOf s bytes k))
+      (λ x held k i. ap (prepare k) (held .write (rw some refl) .values k i)) encodes-writer
+      narrow-writer a)

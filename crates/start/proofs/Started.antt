@@ -1,37 +1,49 @@
 -- The starts step by step: what the calls in a row leave is what the definitions say.
+use mathlib.Core.Bool.{Bool, true, false}
 use mathlib.Core.List.{List}
 use mathlib.Core.Path.{_≡_, ap, _∙_}
 use Prim.Native.Nat.{ℕ, suc}
 use Rattle.basics.specs.Fold.{upTo}
 use Rattle.protocol.specs.Tables.{stampOf}
-use Rattle.layout.specs.Layout.{header, scalars, at, store, itemsAt, messagesAt, countAt, stampAt}
-use Rattle.start.specs.Start.{busy, askItem, sendGet, readStarted, valueItem, sendPrepare}
-use Rattle.start.specs.Start.{greatestOn, writeStarted}
+use Rattle.layout.specs.Layout.{header, scalars, at, store, itemsAt, countAt, stampAt}
+use Rattle.layout.specs.Layout.{reading, writing, inFirstPart}
+use Rattle.start.specs.Start.{busy, askFor, askItem, sendGet, begun, readStarted}
+use Rattle.start.specs.Start.{fastReadStarted, greatestOn, valueItem, sendPrepare}
+use Rattle.start.specs.Start.{writeStarted}
 
-module _ (b : List ℕ) (d s items n : ℕ) (i : items ≡ at b header itemsAt)
-    (m : n ≡ at b header messagesAt) where
-  pub read-started : (asked set sent : List ℕ) → asked ≡ upTo (askItem d s items) b items
-      → set ≡ busy asked d 1 s
-      → sent ≡ upTo (sendGet n d s) set items → sent ≡ readStarted b d s
-  unfolding readStarted
-  read-started asked set sent p q r =
-      rw (← i, ← m) (r ∙ ap (λ (x : List ℕ). upTo (sendGet n d s) x items)
-      (q ∙ ap (λ (x : List ℕ). busy x d 1 s) p))
+module _ (b : List ℕ) (d s items : ℕ) where
+  pub begun-row : (mode : ℕ) (first : Bool) (set sent : List ℕ) → set ≡ busy b d mode s
+      → sent ≡ upTo (sendGet first d s) set items → sent ≡ begun b d s mode first items
+  unfolding begun
+  begun-row mode first set sent q r =
+      r ∙ ap (λ (x : List ℕ). upTo (sendGet first d s) x items) q
+
+  module _ (i : items ≡ at b header itemsAt) (asked sent : List ℕ) where
+    pub read-started : asked ≡ upTo (askItem d s items) b items
+        → sent ≡ begun asked d s reading false items → sent ≡ readStarted b d s
+    unfolding readStarted
+    read-started p r = rw (← i) (r ∙ ap (λ (x : List ℕ). begun x d s reading false items) p)
+
+    pub fast-read-started : asked ≡ upTo (askFor d s 0) b items
+        → sent ≡ begun asked d s inFirstPart true items → sent ≡ fastReadStarted b d s
+    unfolding fastReadStarted
+    fast-read-started p r = rw (← i) (r ∙ ap (λ (x : List ℕ). begun x d s inFirstPart true items) p)
 
   -- the write has the number after the greatest that its client knows
-  pub write-started : (bytes : List ℕ) (number : ℕ) (kept set counted stamped sent : List ℕ)
+  pub write-started : items ≡ at b header itemsAt → (bytes : List ℕ)
+      (number : ℕ) (kept set counted stamped sent : List ℕ)
       → number ≡ suc (greatestOn b d items)
-      → kept ≡ upTo (valueItem d s bytes) b items → set ≡ busy kept d 2 s
+      → kept ≡ upTo (valueItem d s bytes) b items → set ≡ busy kept d writing s
       → counted ≡ store set scalars (countAt d) number
       → stamped ≡ store counted scalars (stampAt d) (stampOf number d)
-      → sent ≡ upTo (sendPrepare n d s (stampOf number d)) stamped items
+      → sent ≡ upTo (sendPrepare d s (stampOf number d)) stamped items
       → sent ≡ writeStarted b d s bytes
   unfolding writeStarted
-  write-started bytes number kept set counted stamped sent e p q r u v =
-      rw (← i, ← m, ← e)
+  write-started i bytes number kept set counted stamped sent e p q r u v =
+      rw (← i, ← e)
       (v
-      ∙ ap (λ (x : List ℕ). upTo (sendPrepare n d s (stampOf number d)) x items)
+      ∙ ap (λ (x : List ℕ). upTo (sendPrepare d s (stampOf number d)) x items)
       (u
       ∙ ap (λ (x : List ℕ). store x scalars (stampAt d) (stampOf number d))
       (r ∙ ap (λ (x : List ℕ). store x scalars (countAt d) number)
-      (q ∙ ap (λ (x : List ℕ). busy x d 2 s) p))))
+      (q ∙ ap (λ (x : List ℕ). busy x d writing s) p))))

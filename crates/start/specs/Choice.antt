@@ -1,8 +1,9 @@
--- The choice of stamps as one pass over a view's entries, in item order (document 02, P3).
-use mathlib.Core.Bool.{true, cond, _&&_}
+-- The choice of stamps as one pass over entries, in item order (document 02, P3): a view's, or the
+-- first replies of a fast read (P7).
+use mathlib.Core.Bool.{Bool, true, cond, _&&_, _||_}
 use mathlib.Core.List.{List}
 use mathlib.Core.Path.{_≡_}
-use Prim.Native.Nat.{ℕ, _≤_, _<_, max}
+use Prim.Native.Nat.{ℕ, _+_, _*_, _≤_, _<_, max}
 use lib.Bits.{bitAnd}
 use lib.Dec.{eqb, ltb}
 use lib.ListN.{length, getD, replicate}
@@ -12,7 +13,16 @@ use Rattle.itemset.specs.Set.{has, insert}
 use Rattle.protocol.specs.declared.Entry.{Entry}
 use Rattle.protocol.specs.Tables.{initial}
 use Rattle.protocol.specs.Steps.{choice}
-use Rattle.layout.specs.Layout.{mostItems}
+use Rattle.layout.specs.Layout.{mostItems, entryWords}
+
+-- word f of entry i in the row that starts at a place of the block; of all entries, or of those of
+-- the items in s alone
+abbrev pub entryWord : List ℕ → ℕ → Bool → ℕ → ℕ → ℕ → ℕ
+entryWord b from all s i f = cond (all || has s i) (getD b (from + (entryWords * i + f)) 0) 0
+
+abbrev pub entriesFrom : List ℕ → ℕ → Bool → ℕ → ℕ → Entry
+entriesFrom b from all s i =
+    record { stamp = entryWord b from all s i 0; set = entryWord b from all s i 1 }
 
 -- the view with its entries from k on initial
 abbrev pub cut : (ℕ → Entry) → ℕ → ℕ → Entry

@@ -1,34 +1,31 @@
--- The starts of a read and of a write as changes of the block, item by item.
-use mathlib.Core.Bool.{cond}
+-- The starts of a read, of a fast read and of a write as changes of the block, item by item.
+use mathlib.Core.Bool.{Bool, true, false, cond}
 use mathlib.Core.List.{List}
-use Prim.Native.Nat.{ℕ, suc, _+_, _*_, _%_, _^_, max}
+use Prim.Native.Nat.{ℕ, suc, _*_, _%_, _^_, max}
 use lib.ListN.{getD}
 use Rattle.basics.specs.Fold.{upTo}
 use Rattle.hex.specs.Number.{numberAt}
 use Rattle.itemset.specs.Set.{has, rank}
 use Rattle.protocol.specs.declared.Message.{Message}
-use Rattle.protocol.specs.declared.Message.the-variants.{Prepare, Get}
+use Rattle.protocol.specs.declared.Message.the-variants.{Prepare, Get, FirstGet}
 use Rattle.protocol.specs.Tables.{stampOf}
 use Rattle.protocol.specs.Steps.{choice, greatestIn, version}
-use Rattle.layout.specs.Layout.{header, scalars, asked, values, at, store, itemsAt, messagesAt}
+use Rattle.layout.specs.Layout.{header, scalars, asked, values, at, store, itemsAt}
 use Rattle.layout.specs.Layout.{modeAt, countAt, setAt, awaitedAt, stampAt, itemAt}
+use Rattle.layout.specs.Layout.{reading, writing, inFirstPart}
 use Rattle.layout.specs.Decode.{viewIn}
-use Rattle.layout.specs.Store.{appendMessage}
+use Rattle.slots.specs.Room.{send}
 
 -- a transaction of client d: its mode, and its set, all of it awaited
 abbrev pub busy : List ℕ → ℕ → ℕ → ℕ → List ℕ
 busy b d mode s = store (store (store b scalars (modeAt d) mode) scalars (setAt d) s) scalars
     (awaitedAt d) s
 
--- one more message for item k of set s, behind those that are there
-abbrev pub joinItem : ℕ → ℕ → Message → List ℕ → ℕ → List ℕ
-joinItem there s m b k = cond (has s k) (appendMessage b there m) b
+-- message m, for item k, joins where k is one of s
+abbrev pub sendItem : ℕ → Message → List ℕ → ℕ → List ℕ
+sendItem s m b k = cond (has s k) (send b m) b
 
--- behind n messages and those of the set's items below k
-abbrev pub sendItem : ℕ → ℕ → Message → List ℕ → ℕ → List ℕ
-sendItem n s m b k = joinItem (n + rank s k) s m b k
-
--- ---- a read
+-- ---- a read, ordinary or fast
 
 -- item k: the stamp asked for, no value yet
 abbrev pub askFor : ℕ → ℕ → ℕ → List ℕ → ℕ → List ℕ
@@ -42,18 +39,27 @@ askFrom d s stamps b k = askFor d s (getD stamps k 0) b k
 abbrev pub askItem : ℕ → ℕ → ℕ → List ℕ → ℕ → List ℕ
 askItem d s items b k = askFor d s (choice (viewIn b d) k items) b k
 
--- the get of item k
-abbrev pub getOf : ℕ → ℕ → List ℕ → Message
-getOf d k b = Get d k (at b asked (itemAt d k))
+-- the get of item k: a first get, or one with the stamp asked for
+abbrev pub getOf : Bool → ℕ → ℕ → List ℕ → Message
+getOf first d k b = cond first (FirstGet d k) (Get d k (at b asked (itemAt d k)))
 
-abbrev pub sendGet : ℕ → ℕ → ℕ → List ℕ → ℕ → List ℕ
-sendGet n d s b k = sendItem n s (getOf d k b) b k
+abbrev pub sendGet : Bool → ℕ → ℕ → List ℕ → ℕ → List ℕ
+sendGet first d s b k = sendItem s (getOf first d k b) b k
+
+-- client d has its stamps: it is busy, in this mode, and a get joins for each item
+unfoldable pub begun : List ℕ → ℕ → ℕ → ℕ → Bool → ℕ → List ℕ
+begun b d s mode first items = upTo (sendGet first d s) (busy b d mode s) items
 
 unfoldable pub readStarted : List ℕ → ℕ → ℕ → List ℕ
 readStarted b d s =
     let items = at b header itemsAt in
-    upTo (sendGet (at b header messagesAt) d s)
-    (busy (upTo (askItem d s items) b items) d 1 s) items
+    begun (upTo (askItem d s items) b items) d s reading false items
+
+-- nothing is asked for by its stamp yet
+unfoldable pub fastReadStarted : List ℕ → ℕ → ℕ → List ℕ
+fastReadStarted b d s =
+    let items = at b header itemsAt in
+    begun (upTo (askFor d s 0) b items) d s inFirstPart true items
 
 -- ---- a write
 
@@ -65,15 +71,18 @@ abbrev pub valueItem : ℕ → ℕ → List ℕ → List ℕ → ℕ → List �
 valueItem d s bytes b k = cond (has s k)
     (store b values (itemAt d k) (numberAt 4 bytes (4 * rank s k) % 2 ^ 32)) b
 
-abbrev pub sendPrepare : ℕ → ℕ → ℕ → ℕ → List ℕ → ℕ → List ℕ
-sendPrepare n d s stamp b k = sendItem n s
-    (Prepare (version k (at b values (itemAt d k)) stamp s)) b k
+-- the prepare of item k, with the value kept for it
+abbrev pub prepareOf : ℕ → ℕ → ℕ → ℕ → List ℕ → Message
+prepareOf d s stamp k b = Prepare (version k (at b values (itemAt d k)) stamp s)
+
+abbrev pub sendPrepare : ℕ → ℕ → ℕ → List ℕ → ℕ → List ℕ
+sendPrepare d s stamp b k = sendItem s (prepareOf d s stamp k b) b k
 
 unfoldable pub writeStarted : List ℕ → ℕ → ℕ → List ℕ → List ℕ
 writeStarted b d s bytes =
     let items = at b header itemsAt in
     let count = suc (greatestOn b d items) in
     let stamp = stampOf count d in
-    upTo (sendPrepare (at b header messagesAt) d s stamp)
-    (store (store (busy (upTo (valueItem d s bytes) b items) d 2 s) scalars (countAt d) count)
+    upTo (sendPrepare d s stamp)
+    (store (store (busy (upTo (valueItem d s bytes) b items) d writing s) scalars (countAt d) count)
     scalars (stampAt d) stamp) items

@@ -14,7 +14,7 @@ use layout::ENTRY_WORDS;
 use layout::MOST_ITEMS;
 use layout::VIEWS;
 
-// Client `d` is busy with the items of `s`, all of them awaited: mode 1 is a read, 2 a write.
+// Client `d` is busy with the items of `s`, all of them awaited, in this mode.
 pub fn put_busy(b: &mut [u64], d: u64, mode: u64, s: u64)
     requires { ⌜ (1 ≤ d) × (d ≤ 8) ⌝ }
     ensures { λ _. ⌜ now (b .exit) ≡ busy (now (b .entry)) d mode s ⌝ }

@@ -1,11 +1,11 @@
 // The start of a write: the value of each item of the set, one stamp for all of them, and a prepare
 // for each.
 ghost use mathlib.Core.Path.{_≡_};
-ghost use Prim.Native.Nat.{_+_, _*_, _^_, _≤_, _<_};
+ghost use Prim.Native.Nat.{_*_, _^_, _≤_, _<_};
 ghost use lib.ListN.{length};
 ghost use Rattle.basics.specs.Fold.{upTo};
 ghost use Rattle.itemset.specs.Set.{count};
-ghost use Rattle.layout.specs.Layout.{mostMessages, needed, header, at, itemsAt, messagesAt};
+ghost use Rattle.layout.specs.Layout.{needed, header, at, itemsAt};
 ghost use Rattle.start.specs.Start.{greatestOn, valueItem, sendPrepare, writeStarted};
 use client_fields::put_count;
 use client_fields::put_stamp;
@@ -14,7 +14,8 @@ use client_fields::value;
 use hex::number_at;
 use itemset::has;
 use itemset::rank;
-use messages::append;
+use layout::WRITING;
+use messages::send;
 use protocol::Message;
 use protocol::Version;
 use start::greatest;
@@ -43,17 +44,15 @@ fn keep_items(b: &mut [u64], d: u64, s: u64, bytes: &[u8], items: u64)
     }
 }
 
-// A prepare of item `k` of set `s`, with the value kept for it, joins the `n` messages and those of
-// the items below it.
-fn prepare_item(b: &mut [u64], n: u64, d: u64, s: u64, stamp: u64, k: u64)
-    requires { ⌜ (n + count s ≤ mostMessages) × (1 ≤ d) × (d ≤ 8) × (k < 64) ⌝ }
-    ensures { λ _. ⌜ now (b .exit) ≡ sendPrepare n d s stamp (now (b .entry)) k ⌝ }
+// The prepare of item `k` of set `s`, with the value kept for it, joins.
+fn prepare_item(b: &mut [u64], d: u64, s: u64, stamp: u64, k: u64)
+    requires { ⌜ (1 ≤ d) × (d ≤ 8) × (k < 64) ⌝ }
+    ensures { λ _. ⌜ now (b .exit) ≡ sendPrepare d s stamp (now (b .entry)) k ⌝ }
 {
     if has(s, k) {
         let value = value(b, d, k);
-        append(
+        send(
             b,
-            n + rank(s, k),
             Message::Prepare(Version {
                 item: k,
                 value,
@@ -64,22 +63,22 @@ fn prepare_item(b: &mut [u64], n: u64, d: u64, s: u64, stamp: u64, k: u64)
     }
 }
 
-fn prepare_items(b: &mut [u64], n: u64, d: u64, s: u64, stamp: u64, items: u64)
-    requires { ⌜ (n + count s ≤ mostMessages) × (1 ≤ d) × (d ≤ 8) × (items ≤ 64) ⌝ }
-    ensures { λ _. ⌜ now (b .exit) ≡ upTo (sendPrepare n d s stamp) (now (b .entry)) items ⌝ }
+// A prepare for each item of set `s`, ascending.
+fn prepare_items(b: &mut [u64], d: u64, s: u64, stamp: u64, items: u64)
+    requires { ⌜ (1 ≤ d) × (d ≤ 8) × (items ≤ 64) ⌝ }
+    ensures { λ _. ⌜ now (b .exit) ≡ upTo (sendPrepare d s stamp) (now (b .entry)) items ⌝ }
 {
     let mut k = 0;
     while k < items {
-        prepare_item(b, n, d, s, stamp, k);
+        prepare_item(b, d, s, stamp, k);
         k += 1;
     }
 }
 
 // Client `d` starts a write of set `s` with these value bytes, four for each item, in a block with
-// `items` items and `n` messages.
-pub fn start_write(b: &mut [u64], d: u64, s: u64, bytes: &[u8], items: u64, n: u64)
-    requires { ⌜ (1 ≤ d) × (d ≤ 8) × (items ≤ 64) × (n + count s ≤ mostMessages)
-        × (items ≡ at (now b) header itemsAt) × (n ≡ at (now b) header messagesAt)
+// `items` items.
+pub fn start_write(b: &mut [u64], d: u64, s: u64, bytes: &[u8], items: u64)
+    requires { ⌜ (1 ≤ d) × (d ≤ 8) × (items ≤ 64) × (items ≡ at (now b) header itemsAt)
         × (greatestOn (now b) d items < 2 ^ 32) × (needed ≤ length (now b))
         × (4 * count s ≤ length (now bytes)) ⌝ }
     ensures { λ _. ⌜ now (b .exit) ≡ writeStarted (now (b .entry)) d s (now (bytes .entry)) ⌝ }
@@ -87,8 +86,8 @@ pub fn start_write(b: &mut [u64], d: u64, s: u64, bytes: &[u8], items: u64, n: u
     let number = greatest(b, d, items) + 1;
     let stamp = number * 16 + d;
     keep_items(b, d, s, bytes, items);
-    put_busy(b, d, 2, s);
+    put_busy(b, d, WRITING, s);
     put_count(b, d, number);
     put_stamp(b, d, stamp);
-    prepare_items(b, n, d, s, stamp, items);
+    prepare_items(b, d, s, stamp, items);
 }

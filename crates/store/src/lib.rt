@@ -1,13 +1,14 @@
-// The store: eight calls on one lent block of words (document 01: fresh, start a read, start a
-// write, deliver, show; document 02: clear, hand over, compare), for C. Each returns a number:
-// refused, the refusal; accepted, 0 in the lowest byte and the answer above it (`numberOfAnswer`).
+// The store: nine calls on one lent block of words (document 01: fresh, start a read, start a
+// write, deliver, show; document 02: start a fast read, clear, hand over, compare), for C. Each
+// returns a number: refused, the refusal; accepted, 0 in the lowest byte and the answer above it
+// (`numberOfAnswer`).
 ghost use mathlib.Core.Path.{_≡_};
-ghost use Rattle.protocol.specs.Calls.{startRead, startWrite, deliver, show, clear, handOver};
-ghost use Rattle.protocol.specs.Calls.{compare, numberOfAnswer};
+ghost use Rattle.protocol.specs.Calls.{startRead, startFastRead, startWrite, deliver, show, clear};
+ghost use Rattle.protocol.specs.Calls.{handOver, compare, numberOfAnswer};
 ghost use Rattle.layout.specs.Decode.{tablesOf};
 ghost use Rattle.gather.specs.Sized.{sizes};
 ghost use Rattle.block_calls.specs.Calls.{freshAnswerOn, freshAfter, freshTables, answerOn};
-ghost use Rattle.block_calls.specs.Calls.{outputOn, blockAfter, tablesAfter, Fits};
+ghost use Rattle.block_calls.specs.Calls.{outputOn, blockAfter, tablesAfter, readCall, Fits};
 use protocol::Answer;
 
 // The number that tells this answer.
@@ -46,6 +47,19 @@ pub extern "C" fn koolvent_fresh(b: &mut [u64], clients: u64, partitions: u64, i
     number_of(store_calls::fresh(b, clients, partitions, items))
 }
 
+// The start of a read, ordinary or fast. One function for both, for speed: two of `store_calls`
+// would share a third, which hands its answer over in memory.
+fn read(b: &mut [u64], fast: bool, client: u64, set: u64) -> u64
+    ensures answer { λ r. ⌜ r ≡ numberOfAnswer
+        (answerOn (now (b .entry)) (readCall fast client set)) ⌝ }
+    ensures block { λ _. ⌜ now (b .exit)
+        ≡ blockAfter (now (b .entry)) (readCall fast client set) ⌝ }
+    ensures tables { λ _. ⌜ tablesOf (now (b .exit))
+        ≡ tablesAfter (now (b .entry)) (readCall fast client set) ⌝ }
+{
+    number_of(store_calls::read(b, fast, client, set))
+}
+
 #[no_mangle]
 pub extern "C" fn koolvent_start_read(b: &mut [u64], client: u64, set: u64) -> u64
     ensures answer { λ r. ⌜ r ≡ numberOfAnswer
@@ -54,7 +68,19 @@ pub extern "C" fn koolvent_start_read(b: &mut [u64], client: u64, set: u64) -> u
     ensures tables { λ _. ⌜ tablesOf (now (b .exit))
         ≡ tablesAfter (now (b .entry)) (startRead client set) ⌝ }
 {
-    number_of(store_calls::start_read(b, client, set))
+    read(b, false, client, set)
+}
+
+#[no_mangle]
+pub extern "C" fn koolvent_start_fast_read(b: &mut [u64], client: u64, set: u64) -> u64
+    ensures answer { λ r. ⌜ r ≡ numberOfAnswer
+        (answerOn (now (b .entry)) (startFastRead client set)) ⌝ }
+    ensures block { λ _. ⌜ now (b .exit)
+        ≡ blockAfter (now (b .entry)) (startFastRead client set) ⌝ }
+    ensures tables { λ _. ⌜ tablesOf (now (b .exit))
+        ≡ tablesAfter (now (b .entry)) (startFastRead client set) ⌝ }
+{
+    read(b, true, client, set)
 }
 
 #[no_mangle]

@@ -1,10 +1,15 @@
 // The calls but a delivery, each with its answer. A refused one changes nothing.
 ghost use mathlib.Core.Path.{_≡_};
-ghost use Rattle.protocol.specs.Calls.{startRead, startWrite, show, clear, handOver, compare};
+ghost use Prim.Native.Nat.{_≤_};
+ghost use lib.ListN.{length};
+ghost use Rattle.protocol.specs.Calls.{startRead, startFastRead, startWrite, show, clear};
+ghost use Rattle.protocol.specs.Calls.{handOver, compare};
+ghost use Rattle.layout.specs.Layout.{needed, header, at, itemsAt};
 ghost use Rattle.layout.specs.Decode.{tablesOf};
 ghost use Rattle.gather.specs.Sized.{sizes};
 ghost use Rattle.block_calls.specs.Calls.{freshAnswerOn, freshAfter, freshTables, refusalOn};
-ghost use Rattle.block_calls.specs.Calls.{answerOn, outputOn, blockAfter, tablesAfter};
+ghost use Rattle.block_calls.specs.Calls.{answerOn, outputOn, blockAfter, tablesAfter, readCall};
+ghost use Rattle.block_calls.specs.Calls.{readChanged};
 use protocol::Answer;
 use show::frame_length;
 use show::write_frame;
@@ -25,17 +30,44 @@ pub fn fresh(b: &mut [u64], clients: u64, partitions: u64, items: u64) -> Answer
     }
 }
 
-// A read that is accepted.
-fn read_on(b: &mut [u64], d: u64, s: u64) -> Answer
-    requires { ⌜ refusalOn (now b) (startRead d s) ≡ 0 ⌝ }
-    ensures answer { λ r. ⌜ r ≡ answerOn (now (b .entry)) (startRead d s) ⌝ }
-    ensures block { λ _. ⌜ now (b .exit) ≡ blockAfter (now (b .entry)) (startRead d s) ⌝ }
+// What the start of a read changes.
+fn begin_read(b: &mut [u64], fast: bool, d: u64, s: u64, items: u64)
+    requires { ⌜ (1 ≤ d) × (d ≤ 8) × (items ≤ 64) × (items ≡ at (now b) header itemsAt)
+        × (needed ≤ length (now b)) ⌝ }
+    ensures { λ _. ⌜ now (b .exit) ≡ readChanged fast (now (b .entry)) d s ⌝ }
+{
+    if fast {
+        start_read::start_fast_read(b, d, s, items);
+    } else {
+        start_read::start_read(b, d, s, items);
+    }
+}
+
+// A read that is accepted, ordinary or fast.
+fn read_on(b: &mut [u64], fast: bool, d: u64, s: u64) -> Answer
+    requires { ⌜ refusalOn (now b) (readCall fast d s) ≡ 0 ⌝ }
+    ensures answer { λ r. ⌜ r ≡ answerOn (now (b .entry)) (readCall fast d s) ⌝ }
+    ensures block { λ _. ⌜ now (b .exit) ≡ blockAfter (now (b .entry)) (readCall fast d s) ⌝ }
 {
     let items = layout::items(b);
-    let messages = layout::message_count(b);
-    start_read::start_read(b, d, s, items, messages);
+    begin_read(b, fast, d, s, items);
     let length = layout::message_count(b);
     Answer::Started { length }
+}
+
+// The start of a read, ordinary or fast: a fast one is refused as a read is (document 02, P7).
+pub fn read(b: &mut [u64], fast: bool, d: u64, s: u64) -> Answer
+    ensures answer { λ r. ⌜ r ≡ answerOn (now (b .entry)) (readCall fast d s) ⌝ }
+    ensures block { λ _. ⌜ now (b .exit) ≡ blockAfter (now (b .entry)) (readCall fast d s) ⌝ }
+    ensures tables { λ _. ⌜ tablesOf (now (b .exit))
+        ≡ tablesAfter (now (b .entry)) (readCall fast d s) ⌝ }
+{
+    let refusal = refusals::of_read(b, d, s);
+    if refusal == 0 {
+        read_on(b, fast, d, s)
+    } else {
+        Answer::Refused(refusal)
+    }
 }
 
 pub fn start_read(b: &mut [u64], d: u64, s: u64) -> Answer
@@ -44,12 +76,16 @@ pub fn start_read(b: &mut [u64], d: u64, s: u64) -> Answer
     ensures tables { λ _. ⌜ tablesOf (now (b .exit))
         ≡ tablesAfter (now (b .entry)) (startRead d s) ⌝ }
 {
-    let refusal = refusals::of_read(b, d, s);
-    if refusal == 0 {
-        read_on(b, d, s)
-    } else {
-        Answer::Refused(refusal)
-    }
+    read(b, false, d, s)
+}
+
+pub fn start_fast_read(b: &mut [u64], d: u64, s: u64) -> Answer
+    ensures answer { λ r. ⌜ r ≡ answerOn (now (b .entry)) (startFastRead d s) ⌝ }
+    ensures block { λ _. ⌜ now (b .exit) ≡ blockAfter (now (b .entry)) (startFastRead d s) ⌝ }
+    ensures tables { λ _. ⌜ tablesOf (now (b .exit))
+        ≡ tablesAfter (now (b .entry)) (startFastRead d s) ⌝ }
+{
+    read(b, true, d, s)
 }
 
 // A write that is accepted.
@@ -60,8 +96,7 @@ fn write_on(b: &mut [u64], d: u64, s: u64, bytes: &[u8]) -> Answer
         (startWrite d s (now (bytes .entry))) ⌝ }
 {
     let items = layout::items(b);
-    let messages = layout::message_count(b);
-    start_write::start_write(b, d, s, bytes, items, messages);
+    start_write::start_write(b, d, s, bytes, items);
     let length = layout::message_count(b);
     Answer::Started { length }
 }

@@ -14,8 +14,8 @@ use Rattle.protocol.specs.declared.Answer.the-variants.{Refused, Made, Started,
 use Rattle.protocol.specs.declared.Answer.the-variants.{Cleared, HandedOver, Compared}
 use Rattle.protocol.specs.Calls.{bytesOfAnswer}
 use Rattle.store_frames.specs.declared.StoreFrame.the-variants.{Fresh, Read, Write}
-use Rattle.store_frames.specs.declared.StoreFrame.the-variants.{Deliver, Show, Clear}
-use Rattle.store_frames.specs.declared.StoreFrame.the-variants.{HandOver, Compare}
+use Rattle.store_frames.specs.declared.StoreFrame.the-variants.{Deliver, Show, FastRead}
+use Rattle.store_frames.specs.declared.StoreFrame.the-variants.{Clear, HandOver, Compare}
 use Rattle.store_frames.specs.declared.Parsed.{Parsed}
 use Rattle.store_frames.specs.declared.Parsed.the-variants.{Frame, Malformed}
 use Rattle.store_frames.specs.Answers.{answerLine}
@@ -55,6 +55,7 @@ handedOn (Frame (Read client s) n) f = []
 handedOn (Frame (Write client s) n) f = valueBytes f
 handedOn (Frame (Deliver place) n) f = []
 handedOn (Frame (Show client) n) f = []
+handedOn (Frame (FastRead client s) n) f = []
 handedOn (Frame Clear n) f = []
 handedOn (Frame (HandOver giver receiver) n) f = []
 handedOn (Frame (Compare first second) n) f = []
@@ -101,6 +102,10 @@ rows =
     ∷ "05ff\n" ⇒ Frame (Show 255) 2
     ∷ "05\n" ⇒ Malformed
     ∷ "050201\n" ⇒ Malformed
+    -- fast read: laid out as a read
+    ∷ "06028000000000000001\n" ⇒ Frame (FastRead 2 0x8000000000000001) 10
+    ∷ "060280000000000000\n" ⇒ Malformed
+    ∷ "0602800000000000000100\n" ⇒ Malformed
     -- clear
     ∷ "40\n" ⇒ Frame Clear 1
     ∷ "4000\n" ⇒ Malformed
@@ -120,6 +125,7 @@ rows =
     ∷ "7f\n" ⇒ Malformed
     ∷ "0002\n" ⇒ Malformed
     ∷ "0602\n" ⇒ Malformed
+    ∷ "07020000000000000001\n" ⇒ Malformed
     ∷ "2102\n" ⇒ Malformed
     ∷ "220102\n" ⇒ Malformed
     ∷ "430102\n" ⇒ Malformed

@@ -11,8 +11,8 @@ use Rattle.basics.proofs.Cases.{by-test, and-left, and-right}
 use Rattle.store_frames.specs.Limits.{mostFrame}
 use Rattle.store_frames.specs.declared.StoreFrame.{StoreFrame}
 use Rattle.store_frames.specs.declared.StoreFrame.the-variants.{Fresh, Read, Write, Deliver}
-use Rattle.store_frames.specs.declared.StoreFrame.the-variants.{Show, Clear, HandOver}
-use Rattle.store_frames.specs.declared.StoreFrame.the-variants.{Compare}
+use Rattle.store_frames.specs.declared.StoreFrame.the-variants.{Show, FastRead, Clear}
+use Rattle.store_frames.specs.declared.StoreFrame.the-variants.{HandOver, Compare}
 use Rattle.store_frames.specs.declared.Parsed.{Parsed}
 use Rattle.store_frames.specs.declared.Parsed.the-variants.{Frame, Malformed}
 use Rattle.store_frames.specs.StoreFrames.{kindOf, isStoreFrame, valuesIn, isWrite, parsed}
@@ -70,6 +70,7 @@ parsed-long f h =
       isStoreFrame-other 0x04 3 f
           (λ e. omega arith),
       isStoreFrame-other 0x05 2 f (λ e. omega arith),
+      isStoreFrame-other 0x06 10 f (λ e. omega arith),
       isStoreFrame-other 0x40 1 f (λ e. omega arith),
       isStoreFrame-other 0x41 3 f (λ e. omega arith),
       isStoreFrame-other 0x42 3 f (λ e. omega arith),
@@ -83,6 +84,7 @@ Headed f (Read client s) = Unit
 Headed f (Write client s) = 10 ≤ length f
 Headed f (Deliver place) = Unit
 Headed f (Show client) = Unit
+Headed f (FastRead client s) = Unit
 Headed f Clear = Unit
 Headed f (HandOver giver receiver) = Unit
 Headed f (Compare first second) = Unit
@@ -94,10 +96,11 @@ Sized f (Frame g n) = (n ≡ length f) × Headed f g
 later-sized : (f : List ℕ) → Sized f (parsedLater f)
 unfolding parsedLater
 later-sized f =
-    by-test (isStoreFrame 0x40 1 f) (λ a. rw a (refl, tt))
-    (λ a. by-test (isStoreFrame 0x41 3 f) (λ b. rw (a, b) (refl, tt))
-    (λ b. by-test (isStoreFrame 0x42 3 f) (λ c. rw (a, b, c) (refl, tt))
-    (λ c. rw (a, b, c) tt)))
+    by-test (isStoreFrame 0x06 10 f) (λ a. rw a (refl, tt))
+    (λ a. by-test (isStoreFrame 0x40 1 f) (λ b. rw (a, b) (refl, tt))
+    (λ b. by-test (isStoreFrame 0x41 3 f) (λ c. rw (a, b, c) (refl, tt))
+    (λ c. by-test (isStoreFrame 0x42 3 f) (λ d. rw (a, b, c, d) (refl, tt))
+    (λ d. rw (a, b, c, d) tt))))
 
 parsed-sized : (f : List ℕ) → Sized f (parsed f)
 unfolding parsed

@@ -13,8 +13,8 @@ use Rattle.hex.specs.Number.{numberAt}
 use Rattle.hex.specs.Text.{isHex, bytesOf}
 use Rattle.store_frames.specs.Limits.{mostLine}
 use Rattle.store_frames.specs.declared.StoreFrame.the-variants.{Fresh, Read, Write, Deliver}
-use Rattle.store_frames.specs.declared.StoreFrame.the-variants.{Show, Clear, HandOver}
-use Rattle.store_frames.specs.declared.StoreFrame.the-variants.{Compare}
+use Rattle.store_frames.specs.declared.StoreFrame.the-variants.{Show, FastRead, Clear}
+use Rattle.store_frames.specs.declared.StoreFrame.the-variants.{HandOver, Compare}
 use Rattle.store_frames.specs.declared.Parsed.{Parsed}
 use Rattle.store_frames.specs.declared.Parsed.the-variants.{Frame, Malformed}
 
@@ -50,15 +50,16 @@ valuesIn n = (n - 10) / 4
 abbrev pub isWrite : List ℕ → Bool
 isWrite f = isStoreFrame 0x03 (10 + 4 * valuesIn (length f)) f && leb (valuesIn (length f)) 64
 
--- document 02's: `40`: clear. `41` giver, receiver (a byte each): hand over. `42` first, second:
--- compare. Any other is malformed
+-- document 02's: `06` desk, set: fast read, 'with the layout and checks of `02`'. `40`: clear. `41`
+-- giver, receiver (a byte each): hand over. `42` first, second: compare. Any other is malformed
 unfoldable pub parsedLater : List ℕ → Parsed
 parsedLater f =
     let n = length f in
-    cond (isStoreFrame 0x40 1 f) (Frame Clear n)
+    cond (isStoreFrame 0x06 10 f) (Frame (FastRead (numberAt 1 f 1) (numberAt 8 f 2)) n)
+    (cond (isStoreFrame 0x40 1 f) (Frame Clear n)
     (cond (isStoreFrame 0x41 3 f) (Frame (HandOver (numberAt 1 f 1) (numberAt 1 f 2)) n)
     (cond (isStoreFrame 0x42 3 f) (Frame (Compare (numberAt 1 f 1) (numberAt 1 f 2)) n)
-    Malformed))
+    Malformed)))
 
 -- `01` desks, cabinets, lines (a byte each): fresh. `02` desk, set (8 bytes): read. `03` desk, set,
 -- values: write. `04` place (2 bytes): deliver. `05` desk: show; or one of document 02's

@@ -32,6 +32,10 @@ pub enum StoreFrame {
     Show {
         client: u64,
     },
+    FastRead {
+        client: u64,
+        set: u64,
+    },
     Clear,
     HandOver {
         giver: u64,

@@ -25,7 +25,7 @@ pub fn sentence(frame: Option<&Call>, line: &[u8]) -> String {
 fn accepted(frame: &Call, bytes: &[u8]) -> Option<String> {
     match (frame, bytes) {
         (Call::Fresh { .. }, [0]) => Some("accepted".to_owned()),
-        (Call::Read { .. } | Call::Write { .. }, [0, high, low]) => {
+        (Call::Read { .. } | Call::FastRead { .. } | Call::Write { .. }, [0, high, low]) => {
             Some(format!("accepted, {}", in_flight(*high, *low)))
         }
         (Call::Deliver { .. }, [0, kind, high, low, outcome]) => {
@@ -73,6 +73,8 @@ fn kind_name(kind: u8) -> Option<&'static str> {
         3 => Some("commit"),
         4 => Some("get"),
         5 => Some("got reply"),
+        6 => Some("first get"),
+        7 => Some("first reply"),
         _ => None,
     }
 }

@@ -1,7 +1,7 @@
 //! Log lines, and the verdict on a log.
 
 use super::words::valued;
-use crate::frames::log::{Entry, LogFrame, WritePart};
+use crate::frames::log::{Entry, LogFrame, Manner, WritePart};
 use crate::judge::findings::{source, FINDINGS};
 use crate::judge::well_formed::lines;
 use crate::judge::{reasoned, Verdict};
@@ -52,9 +52,13 @@ fn verdict_words(verdict: Verdict, why: &str) -> String {
 /// What the frame says.
 pub fn sentence(frame: &LogFrame) -> String {
     let client = frame.client;
-    let shown = frame.read.as_ref().map(|_| {
+    let shown = frame.read.as_ref().map(|read| {
         let entries: Vec<String> = frame.shown().iter().map(entry_words).collect();
-        format!("client {client} shows {}", entries.join("; "))
+        let how = match read.manner {
+            Manner::Ordinary => "shows",
+            Manner::Fast => "shows by a fast read",
+        };
+        format!("client {client} {how} {}", entries.join("; "))
     });
     let wrote = frame.write.as_ref().map(|WritePart { set, number, values }| {
         format!("write number {number} of client {client}: {}", valued(*set, values))

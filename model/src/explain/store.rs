@@ -16,6 +16,9 @@ pub fn sentence(call: &Call) -> String {
         Call::Read { client, set } => {
             format!("client {client} starts to read {}", items_of(*set))
         }
+        Call::FastRead { client, set } => {
+            format!("client {client} starts a fast read of {}", items_of(*set))
+        }
         Call::Write { client, set, values } => {
             format!("client {client} starts to write {}", written(*set, values))
         }

@@ -4,11 +4,24 @@ use super::hex::{number, to_hex};
 use crate::set::items;
 use crate::stamp::Stamp;
 
-/// Kind bytes of frames, in words, and whether each has a read part, a write part and a receiver.
-const KINDS: [(u8, &str, [bool; 3]); 3] = [
-    (0x20, "write", [false, true, false]),
-    (0x21, "read", [true, false, false]),
-    (0x22, "hand-over", [false, false, true]),
+/// How a read was made.
+#[derive(Clone, Copy, Debug, PartialEq, Eq)]
+pub enum Manner {
+    Ordinary,
+    /// Of the latest committed versions.
+    Fast,
+}
+
+/// The parts of a frame: how its read part was made if it has one, and whether it has a write part
+/// and a receiver.
+type Parts = (Option<Manner>, bool, bool);
+
+/// Kind bytes of frames, in words, and their parts.
+const KINDS: [(u8, &str, Parts); 4] = [
+    (0x20, "write", (None, true, false)),
+    (0x21, "read", (Some(Manner::Ordinary), false, false)),
+    (0x22, "hand-over", (None, false, true)),
+    (0x23, "fast read", (Some(Manner::Fast), false, false)),
 ];
 
 /// What a read shows of one item: the number and client (the writing desk) of its stamp, and its
@@ -36,10 +49,12 @@ pub struct LogFrame {
     pub receiver: Option<u8>,
 }
 
-/// In `21`: set, then per line number, writing desk, value. A set holds item k (document 01's line
-/// of a sheet) as the bit worth 2 to the power k, and there is an entry for each item, ascending.
+/// In `21`, and of a fast read in `23`: set, then per line number, writing desk, value. A set holds
+/// item k (document 01's line of a sheet) as the bit worth 2 to the power k, and there is an entry
+/// for each item, ascending.
 #[derive(Clone, Debug, PartialEq, Eq)]
 pub struct ReadPart {
+    pub manner: Manner,
     pub set: u64,
     pub shown: Vec<Shown>,
 }
@@ -69,7 +84,14 @@ impl LogFrame {
 
     /// A frame `21`.
     pub fn of_read(client: u8, set: u64, shown: Vec<Shown>) -> LogFrame {
-        LogFrame { client, read: Some(ReadPart { set, shown }), write: None, receiver: None }
+        let read = Some(ReadPart { manner: Manner::Ordinary, set, shown });
+        LogFrame { client, read, write: None, receiver: None }
+    }
+
+    /// A frame `23`.
+    pub fn of_fast_read(client: u8, set: u64, shown: Vec<Shown>) -> LogFrame {
+        let read = Some(ReadPart { manner: Manner::Fast, set, shown });
+        LogFrame { client, read, write: None, receiver: None }
     }
 
     /// A frame `22`.
@@ -79,7 +101,8 @@ impl LogFrame {
 
     /// The frame's bytes, most significant byte first.
     pub fn bytes(&self) -> Vec<u8> {
-        let parts = [self.read.is_some(), self.write.is_some(), self.receiver.is_some()];
+        let manner = self.read.as_ref().map(|read| read.manner);
+        let parts = (manner, self.write.is_some(), self.receiver.is_some());
         let kind = KINDS.iter().find(|(_, _, has)| *has == parts);
         let mut bytes = vec![kind.expect("a frame with a part").0, self.client];
         if let Some(read) = &self.read {
@@ -128,7 +151,7 @@ impl LogFrame {
 
     /// What its read part shows, if it has one.
     pub fn shown(&self) -> Vec<Entry> {
-        let Some(ReadPart { set, shown }) = &self.read else {
+        let Some(ReadPart { set, shown, .. }) = &self.read else {
             return Vec::new();
         };
         let entry = |(item, shown): (u64, &Shown)| Entry {
@@ -150,22 +173,25 @@ impl<'a> Rest<'a> {
         Some(taken)
     }
 
-    fn frame(&mut self, [read, write, receiver]: [bool; 3]) -> Option<LogFrame> {
+    fn frame(&mut self, (manner, write, receiver): Parts) -> Option<LogFrame> {
         let client = self.take(1)?[0];
-        let read = if read { Some(self.read_part()?) } else { None };
+        let read = match manner {
+            Some(manner) => Some(self.read_part(manner)?),
+            None => None,
+        };
         let write = if write { Some(self.write_part()?) } else { None };
         let receiver = if receiver { Some(self.take(1)?[0]) } else { None };
         Some(LogFrame { client, read, write, receiver })
     }
 
-    fn read_part(&mut self) -> Option<ReadPart> {
+    fn read_part(&mut self, manner: Manner) -> Option<ReadPart> {
         let set = number(self.take(8)?);
         let shown = self.take(9 * set.count_ones() as usize)?.chunks(9).map(|entry| Shown {
             number: word(&entry[..4]),
             client: entry[4],
             value: word(&entry[5..]),
         });
-        Some(ReadPart { set, shown: shown.collect() })
+        Some(ReadPart { manner, set, shown: shown.collect() })
     }
 
     fn write_part(&mut self) -> Option<WritePart> {

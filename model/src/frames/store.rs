@@ -37,6 +37,10 @@ pub fn parse(line: &[u8]) -> Result<Call, String> {
             let output = vec![0; ROOM];
             return Ok(Call::Show { client, output });
         }
+        [6, _, ref set @ ..] if set.len() == 8 => {
+            let set = number(set);
+            return Ok(Call::FastRead { client, set });
+        }
         [0x40] => return Ok(Call::Clear),
         [0x41, giver, receiver] => {
             return Ok(Call::HandOver { giver: giver.into(), receiver: receiver.into() })
@@ -49,6 +53,7 @@ pub fn parse(line: &[u8]) -> Result<Call, String> {
         [3, ..] => "a write has 10 bytes and 4 for each of at most 64 values",
         [4, ..] => "a delivery has 3 bytes",
         [5, ..] => "a showing has 2 bytes",
+        [6, ..] => "a fast read has 10 bytes",
         [0x40, ..] => "a clearing has 1 byte",
         [0x41, ..] => "a hand-over has 3 bytes",
         [0x42, ..] => "a comparison has 3 bytes",

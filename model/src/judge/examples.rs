@@ -1,5 +1,6 @@
 //! Logs with the verdicts that documents 01 and 02 give them, worked out by hand from their text.
 
+mod fast_reads;
 mod fractured;
 mod inherited;
 mod limits;
@@ -37,6 +38,7 @@ pub fn findings() -> Vec<Example> {
     findings.extend(fractured::examples());
     findings.extend(own_write_missed::examples());
     findings.extend(inherited::examples());
+    findings.extend(fast_reads::examples());
     findings.extend(precedence::examples());
     findings
 }
@@ -80,11 +82,20 @@ fn write(client: u8, set: u64, number: u32, values: &[u32]) -> String {
 
 /// A line `21`: desk, set, and per line number, writing desk, value.
 fn read(client: u8, set: u64, shown: &[(u32, u8, u32)]) -> String {
+    format!("21{}", read_part(client, set, shown))
+}
+
+/// A line `23`, laid out as `21`.
+fn fast_read(client: u8, set: u64, shown: &[(u32, u8, u32)]) -> String {
+    format!("23{}", read_part(client, set, shown))
+}
+
+fn read_part(client: u8, set: u64, shown: &[(u32, u8, u32)]) -> String {
     let shown: String = shown
         .iter()
         .map(|(number, writer, value)| format!("{number:08x}{writer:02x}{value:08x}"))
         .collect();
-    format!("21{client:02x}{set:016x}{shown}\n")
+    format!("{client:02x}{set:016x}{shown}\n")
 }
 
 /// A line `22`: giver, receiver.

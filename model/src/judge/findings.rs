@@ -1,7 +1,7 @@
 //! The three findings, each by its definition: what of the read at this place of the log is at
 //! fault?
 
-use crate::frames::log::{Entry, LogFrame};
+use crate::frames::log::{Entry, LogFrame, Manner};
 use crate::stamp::Stamp;
 use std::collections::BTreeMap;
 
@@ -60,9 +60,10 @@ pub fn fractured(log: &[LogFrame], place: usize) -> Option<String> {
 }
 
 /// Finding 3: a write above, by the same client or taken over by it, wrote a shown item with a
-/// later stamp.
+/// later stamp. A fast read may miss such a write.
 pub fn own_write_missed(log: &[LogFrame], place: usize) -> Option<String> {
-    let own = own_writes(log, place);
+    let is_fast = log[place].read.as_ref().is_some_and(|read| read.manner == Manner::Fast);
+    let own = if is_fast { Vec::new() } else { own_writes(log, place) };
     for entry in log[place].shown() {
         for (line, way) in &own {
             for wrote in log[*line].written() {

@@ -30,6 +30,16 @@ fn log_of(frames: &[LogFrame]) -> Vec<u8> {
     frames.iter().flat_map(|frame| frame.line().into_bytes()).collect()
 }
 
+/// The log with every line of one kind made one of another; a kind is two digits.
+pub fn with_kinds(log: &[u8], from: &[u8], to: &[u8]) -> Vec<u8> {
+    let lines = log.split_inclusive(|byte| *byte == b'\n');
+    let made = lines.map(|line| match line.strip_prefix(from) {
+        Some(rest) => [to, rest].concat(),
+        None => line.to_vec(),
+    });
+    made.collect::<Vec<_>>().concat()
+}
+
 /// Replaces, inserts or takes out one byte, or cuts the log off.
 pub fn spoil(log: &mut Vec<u8>, random: &mut Random) {
     let place = random.place(log.len() + 1);

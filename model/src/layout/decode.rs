@@ -4,11 +4,11 @@ use super::places::{self, Scalar, NEEDED};
 use super::stamp_of;
 use crate::set::items;
 use crate::stamp::{Entry, Stamp};
-use crate::store::message::Message;
+use crate::store::message::{Message, COMMIT, FIRST_GET, FIRST_REPLY, GET, GOT, PREPARE, PREPARED};
 use crate::store::range::is_usable;
 use crate::store::tables::{
-    Client, Ended, Sizes, Tables, Version, IDLE, LOAD_CAPACITY, NONE, READ, READING,
-    VERSION_CAPACITY, WRITE, WRITING,
+    Client, Ended, Sizes, Tables, Version, KINDS, LOAD_CAPACITY, MODES, NONE, VERSION_CAPACITY,
+    WRITE, WRITING,
 };
 
 /// Whether refusal 1 doesn't apply to these words.
@@ -71,7 +71,10 @@ fn running(words: &[u64], client: usize, record: &mut Client) -> Option<()> {
         };
         record.values[item] = words[places::value(client, item)];
     }
-    [IDLE, READING, WRITING].contains(&record.mode).then_some(())
+    for item in items(record.first_replied()) {
+        record.firsts[item as usize] = entry(words, places::first(client, item as usize));
+    }
+    (record.mode < MODES).then_some(())
 }
 
 fn last(words: &[u64], client: usize, last: &mut Ended) -> Option<()> {
@@ -85,12 +88,12 @@ fn last(words: &[u64], client: usize, last: &mut Ended) -> Option<()> {
     }
     for item in items(last.set) {
         let item = item as usize;
-        if last.kind == READ {
+        if last.kind != WRITE {
             last.stamps[item] = stamp(words, places::last_stamp(client, item));
         }
         last.values[item] = words[places::last_value(client, item)];
     }
-    [READ, WRITE].contains(&last.kind).then_some(())
+    (last.kind < KINDS).then_some(())
 }
 
 fn version(words: &[u64], place: usize) -> Version {
@@ -107,11 +110,15 @@ fn message(words: &[u64], place: usize) -> Option<Message> {
     let version = version(words, place + 2);
     let Version { item, stamp, .. } = version;
     match words[place] {
-        1 => Some(Message::Prepare(version)),
-        2 => Some(Message::Prepared { item, stamp }),
-        3 => Some(Message::Commit { partition, stamp }),
-        4 => Some(Message::Get { client, item, stamp }),
-        5 => Some(Message::Got { client, version, latest: entry(words, place + 6) }),
+        PREPARE => Some(Message::Prepare(version)),
+        PREPARED => Some(Message::Prepared { item, stamp }),
+        COMMIT => Some(Message::Commit { partition, stamp }),
+        GET => Some(Message::Get { client, item, stamp }),
+        GOT => Some(Message::Got { client, version, latest: entry(words, place + 6) }),
+        FIRST_GET => Some(Message::FirstGet { client, item }),
+        FIRST_REPLY => {
+            Some(Message::FirstReply { client, version, latest: entry(words, place + 6) })
+        }
         _ => None,
     }
 }

@@ -6,7 +6,7 @@ use super::stamp_word;
 use crate::set::items;
 use crate::stamp::Entry;
 use crate::store::message::Message;
-use crate::store::tables::{Client, Tables, Version, NONE, READ, WRITE, WRITING};
+use crate::store::tables::{Client, Tables, Version, NONE, WRITE, WRITING};
 
 /// A word of the block that is a field of the tables.
 #[derive(Clone, Copy, Debug, PartialEq, Eq)]
@@ -72,7 +72,8 @@ fn entry(to: &mut Visit, place: usize, entry: &Entry) {
     one(to, place + 1, entry.set, Sort::Set);
 }
 
-/// A writing client has one stamp, any other one for each item of its set.
+/// A writing client has one stamp, any other one for each item of its set; a fast read has the
+/// first replies that it keeps.
 fn running(to: &mut Visit, client: usize, record: &Client) {
     let scalar = |scalar| places::scalar(client, scalar);
     one(to, scalar(Scalar::Mode), record.mode, Sort::Mode);
@@ -91,6 +92,11 @@ fn running(to: &mut Visit, client: usize, record: &Client) {
         }
         one(to, places::value(client, place), record.values[place], Sort::Value);
     }
+    for (item, first) in items(record.first_replied()).zip(record.first_replies()) {
+        let place = places::first(client, item as usize);
+        one(to, place, stamp_word(first.stamp), Sort::FirstStamp);
+        one(to, place + 1, first.set, Sort::FirstSet);
+    }
 }
 
 /// Nothing but the kind where none has ended; one stamp of a write, and of a read one for each
@@ -108,7 +114,7 @@ fn last(to: &mut Visit, client: usize, record: &Client) {
     }
     for item in items(last.set) {
         let item = item as usize;
-        if last.kind == READ {
+        if last.kind != WRITE {
             one(to, places::last_stamp(client, item), stamp_word(last.stamps[item]), Sort::Stamp);
         }
         one(to, places::last_value(client, item), last.values[item], Sort::Value);
@@ -131,7 +137,7 @@ fn message(to: &mut Visit, place: usize, message: &Message) {
         (1, parts.partition, Sort::Partition),
         (2, parts.item, Sort::Item),
         (3, parts.value, Sort::Value),
-        (4, Some(stamp_word(parts.stamp)), Sort::Stamp),
+        (4, parts.stamp.map(stamp_word), Sort::Stamp),
         (5, parts.set, Sort::Set),
     ] {
         if let Some(part) = part {

@@ -18,7 +18,8 @@ const ASKED: usize = VIEWS + ENTRY_WORDS * MOST_ITEMS * MOST_CLIENTS;
 const VALUES: usize = ASKED + MOST_ITEMS * MOST_CLIENTS;
 const LAST_STAMPS: usize = VALUES + MOST_ITEMS * MOST_CLIENTS;
 const LAST_VALUES: usize = LAST_STAMPS + MOST_ITEMS * MOST_CLIENTS;
-const STORED: usize = LAST_VALUES + MOST_ITEMS * MOST_CLIENTS;
+const FIRSTS: usize = LAST_VALUES + MOST_ITEMS * MOST_CLIENTS;
+const STORED: usize = FIRSTS + ENTRY_WORDS * MOST_ITEMS * MOST_CLIENTS;
 const IN_FLIGHT: usize = STORED + VERSION_WORDS * VERSION_CAPACITY as usize;
 
 /// The words that a block needs.
@@ -64,7 +65,7 @@ pub fn view(client: usize, item: usize) -> usize {
     VIEWS + ENTRY_WORDS * by_item(client, item)
 }
 
-/// The stamp that a read asks for.
+/// The stamp that a read asks for, and of a fast read's second part the one that it will show.
 pub fn asked(client: usize, item: usize) -> usize {
     ASKED + by_item(client, item)
 }
@@ -82,6 +83,11 @@ pub fn last_stamp(client: usize, item: usize) -> usize {
 /// The value of the transaction that ended last.
 pub fn last_value(client: usize, item: usize) -> usize {
     LAST_VALUES + by_item(client, item)
+}
+
+/// The stamp of a first reply that a fast read keeps, then its set.
+pub fn first(client: usize, item: usize) -> usize {
+    FIRSTS + ENTRY_WORDS * by_item(client, item)
 }
 
 fn by_item(client: usize, item: usize) -> usize {
@@ -103,7 +109,8 @@ pub fn client_at(place: usize) -> Option<usize> {
     let client = match place {
         SCALARS..LATEST => (place - SCALARS) / CLIENT_WORDS,
         VIEWS..ASKED => (place - VIEWS) / (ENTRY_WORDS * MOST_ITEMS),
-        ASKED..STORED => (place - ASKED) / MOST_ITEMS % MOST_CLIENTS,
+        ASKED..FIRSTS => (place - ASKED) / MOST_ITEMS % MOST_CLIENTS,
+        FIRSTS..STORED => (place - FIRSTS) / (ENTRY_WORDS * MOST_ITEMS),
         _ => return None,
     };
     Some(client + 1)

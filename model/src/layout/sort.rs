@@ -2,9 +2,10 @@
 
 use super::stamp_word;
 use crate::stamp::Stamp;
+use crate::store::message::FIRST_REPLY;
 use crate::store::range::GREATEST;
 use crate::store::tables::{
-    Sizes, CLIENTS, ITEMS, LOAD_CAPACITY, PARTITIONS, VERSION_CAPACITY, WRITE, WRITING,
+    Sizes, CLIENTS, ITEMS, KINDS, LOAD_CAPACITY, MODES, PARTITIONS, VERSION_CAPACITY,
 };
 
 /// What a field is a number of.
@@ -25,6 +26,9 @@ pub enum Sort {
     Value,
     Stamp,
     Set,
+    /// Of a first reply that is kept.
+    FirstStamp,
+    FirstSet,
 }
 
 impl Sort {
@@ -36,15 +40,15 @@ impl Sort {
             Sort::NumberOfItems => ITEMS as u64,
             Sort::NumberOfVersions => VERSION_CAPACITY,
             Sort::NumberOfMessages => LOAD_CAPACITY,
-            Sort::Mode => WRITING,
-            Sort::LastKind => WRITE,
-            Sort::MessageKind => 5,
+            Sort::Mode => MODES - 1,
+            Sort::LastKind => KINDS - 1,
+            Sort::MessageKind => FIRST_REPLY,
             Sort::Client => sizes.clients,
             Sort::Partition => sizes.partitions - 1,
             Sort::Item => sizes.items - 1,
             Sort::Count | Sort::Value => GREATEST,
-            Sort::Stamp => stamp_word(Stamp::new(GREATEST, sizes.clients)),
-            Sort::Set => u64::MAX >> (ITEMS as u64 - sizes.items),
+            Sort::Stamp | Sort::FirstStamp => stamp_word(Stamp::new(GREATEST, sizes.clients)),
+            Sort::Set | Sort::FirstSet => u64::MAX >> (ITEMS as u64 - sizes.items),
         }
     }
 }

@@ -1,9 +1,12 @@
 //! The clauses about answers, messages and ends.
 
-use super::history::{History, Kind, Label, Part};
+use super::history::History;
+use super::label::{Kind, Label};
+use super::transaction::{Part, Read, Transaction};
 use super::Clause;
 use crate::answer::Answer;
 use crate::call::{Call, Event};
+use crate::frames::log::Manner;
 use crate::set::{items, size};
 
 fn holds(kept: bool, clause: Clause) -> Result<(), Clause> {
@@ -48,7 +51,8 @@ pub(super) fn kind_is_that_of_the_message(label: &Label, kind: u64) -> Result<()
 }
 
 /// The delivery of a read's n-th reply, and no other, reports it ended, after exactly n requests
-/// and n replies.
+/// and n replies; of a fast read that of the last reply to its requests, of which there is one more
+/// for each item fetched again, once.
 pub(super) fn read_ends_with_its_last_reply_alone(
     history: &History,
     label: &Label,
@@ -61,10 +65,14 @@ pub(super) fn read_ends_with_its_last_reply_alone(
         };
         reads += 1;
         let n = size(transaction.set) as usize;
-        let is_last_reply = label.kind == Kind::Got && read.replies.len() == n;
+        let again = match read.manner {
+            Manner::Ordinary => 0,
+            Manner::Fast => read.fetched_again(transaction.set),
+        };
+        let is_last_reply = label.is_reply() && read.replies.len() == n + again;
         let stated = if is_last_reply { 1 } else { 0 };
         holds(outcome == stated, Clause::ReadEnd)?;
-        holds(!is_last_reply || read.requests == n, Clause::ReadEnd)?;
+        holds(!is_last_reply || read.requests.len() == n + again, Clause::ReadEnd)?;
     }
     holds(outcome != 1 || reads > 0, Clause::ReadEnd)
 }
@@ -132,8 +140,8 @@ pub(super) fn freed_places_serve(
     holds(answer.refusal() != 9 || size(set) > history.freed, Clause::FreedPlaces)
 }
 
-/// Every running read has exactly one get or got of its client in the list for each item without a
-/// reply.
+/// Every running read has exactly one request or reply of its client in the list for each item that
+/// has had fewer replies than requests.
 pub(super) fn one_message_for_each_awaited_item(history: &History) -> Result<(), Clause> {
     let running = history.transactions.iter().filter(|of| of.ended.is_none());
     for transaction in running {
@@ -142,9 +150,9 @@ pub(super) fn one_message_for_each_awaited_item(history: &History) -> Result<(),
         };
         let client = transaction.client;
         for item in items(transaction.set) {
-            let awaited = !read.replies.iter().any(|reply| reply.item == item);
+            let awaited = read.replied(item) < read.requested(item);
             let messages = history.messages.iter().filter(|label| {
-                [Kind::Get, Kind::Got].contains(&label.kind)
+                (label.is_request() || label.is_reply())
                     && label.client == client
                     && label.item == item
             });
@@ -155,4 +163,45 @@ pub(super) fn one_message_for_each_awaited_item(history: &History) -> Result<(),
         }
     }
     Ok(())
+}
+
+/// Of each item of its set a fast read has at most one first get, one get, one first reply and one
+/// got, and it asks for no other; one that the event ended too.
+pub(super) fn fast_reads_are_bounded(history: &History, event: usize) -> Result<(), Clause> {
+    for (of, read) in fast_reads_until(history, event) {
+        if let Some(item) = read.out_of_bounds(of.set) {
+            return Err(Clause::Bounded { client: of.client, item });
+        }
+    }
+    Ok(())
+}
+
+/// Until its n-th reply has come a fast read has sent n requests, and from then on it sends none
+/// beyond those that joined with that reply; one that the event ended too.
+///
+/// What a delivery sends is in the labels as the steps say, so no delivery breaks this clause by
+/// itself: a store that sends a request sooner or later answers another length of the list, and
+/// breaks `Clause::Length`, or `Clause::ReadEnd` where the read then ends otherwise. But starts are
+/// taken as they are answered, and one that is accepted while its client's fast read is under way
+/// sends requests besides. `Clause::Bounded` sees those of other items and those of a kind that was
+/// sent before, this clause also the get of an item that has had its first reply alone.
+pub(super) fn fast_reads_send_in_two_rounds(history: &History, event: usize) -> Result<(), Clause> {
+    for (of, read) in fast_reads_until(history, event) {
+        let stated = read.sent.unwrap_or(size(of.set) as usize);
+        holds(read.requests.len() == stated, Clause::TwoRounds { client: of.client })?;
+    }
+    Ok(())
+}
+
+/// The fast reads that are running or that the event ended.
+fn fast_reads_until(
+    history: &History,
+    event: usize,
+) -> impl Iterator<Item = (&Transaction, &Read)> {
+    let all = history.transactions.iter();
+    let until = all.filter(move |of| of.ended.is_none_or(|ended| ended == event));
+    until.filter_map(|of| match &of.part {
+        Part::Read(read) if read.manner == Manner::Fast => Some((of, read)),
+        _ => None,
+    })
 }

@@ -2,101 +2,18 @@
 //!
 //! A message is of the client whose start put it there, or of the same client as the message whose
 //! delivery did. With the labels go the numbers that make a write's: a client learns a number by
-//! writing, by a hand-over, and by a got, which has that of its item's latest write when the get
-//! was delivered. The number of a got's version its client knew already, since it asked for it. And
-//! with them go the writes that count as each client's own.
+//! writing, by a hand-over, and by a reply, which has that of its item's latest write when the get
+//! was delivered. The number of a got's version its client knew already, since it asked for it.
+//! That latest write is also what a first reply brings, and the sets of these writes tell which
+//! items a fast read fetches again. And with them go the writes that count as each client's own.
 
+use super::label::{Kind, Label};
+use super::transaction::{Part, Read, Transaction, Write};
 use crate::frames::hex;
-use crate::frames::log::LogFrame;
+use crate::frames::log::{LogFrame, Manner};
 use crate::set::{items, size};
-use crate::stamp::Stamp;
+use crate::stamp::{Entry, Stamp};
 use std::collections::{BTreeMap, BTreeSet};
-
-/// The kinds of message, with their numbers.
-#[derive(Clone, Copy, Debug, PartialEq, Eq)]
-pub(super) enum Kind {
-    Prepare = 1,
-    Prepared = 2,
-    Commit = 3,
-    Get = 4,
-    Got = 5,
-}
-
-/// What is known of a message in flight.
-#[derive(Clone, Copy, Debug)]
-pub(super) struct Label {
-    pub(super) kind: Kind,
-    pub(super) client: u64,
-    /// The item; of a commit the partition.
-    pub(super) item: u64,
-    /// The transaction whose start it goes back to, by its place among them.
-    pub(super) transaction: usize,
-    /// Of a got, the event that delivered the get behind it.
-    pub(super) answered: usize,
-    /// Of a got, the number of its item's latest write at that event.
-    latest: u64,
-}
-
-/// A reply of a read: its item, and the event that delivered the get behind it.
-#[derive(Clone, Copy, Debug)]
-pub(super) struct Reply {
-    pub(super) item: u64,
-    pub(super) answered: usize,
-}
-
-/// A read from its accepted start.
-#[derive(Clone, Debug, Default)]
-pub(super) struct Read {
-    /// By item: the latest stamp that reads of its client had shown before its start.
-    pub(super) after: BTreeMap<u64, Stamp>,
-    /// Gets of its client that joined from its start to its end.
-    pub(super) requests: usize,
-    /// Gots of its client that were delivered from its start to its end.
-    pub(super) replies: Vec<Reply>,
-}
-
-/// A write from its accepted start.
-#[derive(Clone, Debug)]
-pub(super) struct Write {
-    /// The latest stamp that its client had been shown before its start.
-    pub(super) after: Stamp,
-    pub(super) stamp: Stamp,
-    /// Item and value, ascending.
-    pub(super) values: Vec<(u64, u32)>,
-    /// Items whose own prepare is not delivered.
-    unstored: Vec<u64>,
-    /// Items whose own prepared reply is not delivered.
-    pub(super) unprepared: Vec<u64>,
-    /// The event with which it was stored at all its partitions.
-    pub(super) stored: Option<usize>,
-}
-
-impl Write {
-    /// The value it put on an item.
-    pub(super) fn value(&self, item: u64) -> Option<u32> {
-        let written = self.values.iter().find(|(written, _)| *written == item);
-        written.map(|(_, value)| *value)
-    }
-}
-
-/// What a transaction is, a read or a write.
-#[derive(Clone, Debug)]
-pub(super) enum Part {
-    Read(Read),
-    Write(Write),
-}
-
-/// A read or write from its accepted start, with the event of its end.
-#[derive(Clone, Debug)]
-pub(super) struct Transaction {
-    pub(super) client: u64,
-    pub(super) set: u64,
-    pub(super) ended: Option<usize>,
-    /// The writes that counted as its client's own at its start, by their places among the
-    /// transactions.
-    own: BTreeSet<usize>,
-    pub(super) part: Part,
-}
 
 /// The list of messages and all transactions so far, with the sizes of the fresh.
 #[derive(Clone, Debug, Default)]
@@ -107,14 +24,16 @@ pub(super) struct History {
     /// By client: the writes that count as its own, those that it has ended and those that it was
     /// handed, by their places among the transactions.
     own: BTreeMap<u64, BTreeSet<usize>>,
-    /// By item: the greatest number of a write of it whose commit at its partition was delivered.
-    committed: BTreeMap<u64, u64>,
+    /// By item: the latest write of it whose commit at its partition was delivered.
+    committed: BTreeMap<u64, Entry>,
     /// By client: the greatest number that it has written or learnt of.
     known: BTreeMap<u64, u64>,
     /// By client: the latest stamp among all entries that showings gave it, its own writes' too.
     shown: BTreeMap<u64, Stamp>,
-    /// By client and item: the latest stamp that a read of that client showed.
+    /// By client and item: the latest stamp that a read of that client showed, and the latest that
+    /// a fast one did.
     read: BTreeMap<u64, BTreeMap<u64, Stamp>>,
+    read_fast: BTreeMap<u64, BTreeMap<u64, Stamp>>,
     /// Prepares delivered, and versions that clearings took away.
     pub(super) stored: u64,
     pub(super) gone: u64,
@@ -128,19 +47,21 @@ impl History {
         History { partitions, ..History::default() }
     }
 
-    /// An accepted read start: one get per item joins.
-    pub(super) fn start_read(&mut self, client: u64, set: u64) {
+    /// An accepted read start: one get per item joins, of a fast read one first get.
+    pub(super) fn start_read(&mut self, event: usize, client: u64, set: u64, manner: Manner) {
         let after = self.read.get(&client).cloned().unwrap_or_default();
-        let read = Read { after, ..Read::default() };
-        self.start(client, set, Part::Read(read), Kind::Get);
-        let joined = size(set) as usize;
-        for read in self.running_reads_mut(client) {
-            read.requests += joined;
+        let kind = match manner {
+            Manner::Ordinary => Kind::Get,
+            Manner::Fast => Kind::FirstGet,
+        };
+        let gets = self.start(event, client, set, Part::Read(Read::new(manner, after)), kind);
+        for (_, read) in self.running_reads_mut(client) {
+            read.requests.extend(&gets);
         }
     }
 
     /// An accepted write start: one prepare per item joins.
-    pub(super) fn start_write(&mut self, client: u64, set: u64, values: &[u8]) {
+    pub(super) fn start_write(&mut self, event: usize, client: u64, set: u64, values: &[u8]) {
         let items: Vec<u64> = items(set).collect();
         let values = values.chunks_exact(4).map(|value| hex::number(value) as u32);
         let write = Write {
@@ -150,10 +71,11 @@ impl History {
             unstored: items.clone(),
             unprepared: items,
             stored: None,
+            committed: BTreeMap::new(),
         };
         self.learn(client, write.stamp.number);
         self.freed = self.freed.saturating_sub(size(set));
-        self.start(client, set, Part::Write(write), Kind::Prepare);
+        self.start(event, client, set, Part::Write(write), Kind::Prepare);
     }
 
     /// The stamp of the client's next write: 1 more than the greatest number that it knows.
@@ -171,14 +93,18 @@ impl History {
         *known = number.max(*known);
     }
 
-    fn start(&mut self, client: u64, set: u64, part: Part, kind: Kind) {
+    /// The transaction begins, and one message of the kind joins for each item; gives these.
+    fn start(&mut self, event: usize, client: u64, set: u64, part: Part, kind: Kind) -> Vec<Label> {
         let transaction = self.transactions.len();
         let own = self.own.get(&client).cloned().unwrap_or_default();
-        self.transactions.push(Transaction { client, set, ended: None, own, part });
-        for item in items(set) {
-            let label = Label { kind, client, item, transaction, answered: 0, latest: 0 };
-            self.messages.push(label);
-        }
+        let of = Transaction { client, set, started: event, ended: None, own, part };
+        self.transactions.push(of);
+        let latest = Entry::INITIAL;
+        let label =
+            |item| Label { kind, client, item, transaction, answered: 0, latest, stamp: None };
+        let joining: Vec<Label> = items(set).map(label).collect();
+        self.messages.extend(&joining);
+        joining
     }
 
     /// An accepted delivery within the list: the message leaves, and what its step sends joins.
@@ -196,19 +122,38 @@ impl History {
                 self.join(label, Kind::Prepared, label.item);
             }
             Kind::Prepared => self.deliver_prepared(label),
-            Kind::Commit => self.deliver_commit(label),
-            Kind::Get => {
+            Kind::Commit => self.deliver_commit(event, label),
+            Kind::Get | Kind::FirstGet => {
                 let latest = self.committed.get(&label.item).copied().unwrap_or_default();
-                self.join(Label { answered: event, latest, ..label }, Kind::Got, label.item);
+                let (reply, stamp) = match label.kind {
+                    Kind::FirstGet => (Kind::FirstReply, Some(latest.stamp)),
+                    _ => (Kind::Got, label.stamp),
+                };
+                self.join(Label { answered: event, latest, stamp, ..label }, reply, label.item);
             }
-            Kind::Got => {
-                self.learn(label.client, label.latest);
-                for read in self.running_reads_mut(label.client) {
-                    read.replies.push(Reply { item: label.item, answered: label.answered });
-                }
-            }
+            Kind::Got | Kind::FirstReply => self.deliver_reply(label),
         }
         label
+    }
+
+    /// The reply is counted; with the last first reply of a fast read the items that it found older
+    /// are fetched again, and their gets join, ascending.
+    fn deliver_reply(&mut self, label: Label) {
+        self.learn(label.client, label.latest.stamp.number);
+        let mut gets = Vec::new();
+        for (set, read) in self.running_reads_mut(label.client) {
+            read.replies.push(label);
+            if label.kind == Kind::FirstReply && read.firsts().count() as u64 == size(set) {
+                let get =
+                    |(item, stamp)| Label { kind: Kind::Get, item, stamp: Some(stamp), ..label };
+                gets = read.found_older(set).into_iter().map(get).collect();
+                read.requests.extend(&gets);
+            }
+            if read.replies.len() as u64 == size(set) {
+                read.sent = Some(read.requests.len());
+            }
+        }
+        self.messages.extend(gets);
     }
 
     fn deliver_prepared(&mut self, label: Label) {
@@ -227,14 +172,17 @@ impl History {
         }
     }
 
-    fn deliver_commit(&mut self, label: Label) {
-        let of = &self.transactions[label.transaction];
-        let Part::Write(write) = &of.part else {
+    fn deliver_commit(&mut self, event: usize, label: Label) {
+        let of = &mut self.transactions[label.transaction];
+        let Part::Write(write) = &mut of.part else {
             return;
         };
+        write.committed.insert(label.item, event);
         for item in items(of.set).filter(|item| item % self.partitions == label.item) {
             let committed = self.committed.entry(item).or_default();
-            *committed = write.stamp.number.max(*committed);
+            if write.stamp > committed.stamp {
+                *committed = Entry::new(write.stamp, of.set);
+            }
         }
     }
 
@@ -292,11 +240,12 @@ impl History {
         all.filter(move |of| of.client == client && of.ended.is_none())
     }
 
-    fn running_reads_mut(&mut self, client: u64) -> impl Iterator<Item = &mut Read> {
+    /// The client's running reads with their sets.
+    fn running_reads_mut(&mut self, client: u64) -> impl Iterator<Item = (u64, &mut Read)> {
         let all = self.transactions.iter_mut();
         all.filter(move |of| of.client == client && of.ended.is_none()).filter_map(|of| {
             match &mut of.part {
-                Part::Read(read) => Some(read),
+                Part::Read(read) => Some((of.set, read)),
                 Part::Write(_) => None,
             }
         })
@@ -307,17 +256,40 @@ impl History {
         let (written, shown) = (frame.written(), frame.shown());
         let latest = self.shown.entry(client).or_default();
         *latest = written.iter().chain(&shown).map(|entry| entry.stamp).fold(*latest, Stamp::max);
-        let read = self.read.entry(client).or_default();
-        for entry in &shown {
-            let latest = read.entry(entry.item).or_default();
-            *latest = entry.stamp.max(*latest);
+        let is_fast = frame.read.as_ref().is_some_and(|read| read.manner == Manner::Fast);
+        let fast = is_fast.then_some(&mut self.read_fast);
+        for by_client in std::iter::once(&mut self.read).chain(fast) {
+            let read = by_client.entry(client).or_default();
+            for entry in &shown {
+                let latest = read.entry(entry.item).or_default();
+                *latest = entry.stamp.max(*latest);
+            }
         }
+    }
+
+    /// The latest stamp that a fast read of the client has shown for the item.
+    pub(super) fn shown_fast(&self, client: u64, item: u64) -> Stamp {
+        let shown = self.read_fast.get(&client).and_then(|shown| shown.get(&item));
+        shown.copied().unwrap_or_default()
     }
 
     /// The client's transaction that ended last, if none of it is running.
     pub(super) fn last_ended(&self, client: u64) -> Option<&Transaction> {
         let last = self.transactions.iter().rfind(|of| of.client == client);
         last.filter(|of| of.ended.is_some())
+    }
+
+    /// The writes of the item whose commit at its partition was delivered before the event.
+    pub(super) fn committed_before(
+        &self,
+        event: usize,
+        item: u64,
+    ) -> impl Iterator<Item = (&Transaction, &Write)> {
+        let partition = item % self.partitions;
+        let is_committed = move |write: &Write| {
+            write.committed.get(&partition).is_some_and(|committed| *committed < event)
+        };
+        self.writes().filter(move |(_, write)| write.value(item).is_some() && is_committed(write))
     }
 
     /// All accepted writes so far.

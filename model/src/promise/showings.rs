@@ -1,10 +1,12 @@
 //! The clauses about what a showing gives after an end and before the client's next start.
 
-use super::history::{History, Part, Read, Transaction, Write};
+use super::history::History;
+use super::label::Label;
+use super::transaction::{Part, Read, Transaction, Write};
 use super::Clause;
 use crate::answer::Answer;
 use crate::call::{Call, Event};
-use crate::frames::log::{Entry, LogFrame};
+use crate::frames::log::{Entry, LogFrame, Manner};
 use crate::set::size;
 use crate::stamp::Stamp;
 
@@ -33,20 +35,29 @@ pub(super) fn check(
             frame_is_that_of_the_write(last, write, &frame)?;
         }
         Part::Read(read) => {
-            let entries = entries_of_the_read(last, &frame)?;
+            let entries = entries_of_the_read(last, read, &frame)?;
             let mut writes = Vec::new();
             for entry in &entries {
-                writes.extend(put_there_by_a_write(history, entry)?.map(|write| (entry, write)));
+                writes.push((entry, put_there_by_a_write(history, entry)?));
             }
             for (entry, write) in &writes {
-                no_sibling_is_older(write, entry, &entries)?;
+                write.map_or(Ok(()), |write| no_sibling_is_older(write, entry, &entries))?;
+            }
+            if read.manner == Manner::Fast {
+                for entry in &entries {
+                    no_committed_write_is_missed(history, last, entry)?;
+                    freshest_when_answered(read, entry)?;
+                }
             }
             for (entry, write) in &writes {
-                stored_before_the_answer(write, read, entry)?;
+                let reply = brought_by_the_last_reply(read, entry)?;
+                write.map_or(Ok(()), |write| stored_before_the_answer(write, reply))?;
             }
-            no_own_write_is_missed(history, last, &entries)?;
-            for entry in &entries {
-                never_falls(read, entry)?;
+            if read.manner == Manner::Ordinary {
+                no_own_write_is_missed(history, last, &entries)?;
+                for entry in &entries {
+                    never_falls(read, entry)?;
+                }
             }
         }
     }
@@ -93,13 +104,19 @@ fn later_than_all_shown_before(write: &Write, frame: &LogFrame) -> Result<(), Cl
     }
 }
 
-/// A read is shown with its client and set, and an entry for each item.
-fn entries_of_the_read(last: &Transaction, frame: &LogFrame) -> Result<Vec<Entry>, Clause> {
-    match &frame.read {
-        Some(read) if u64::from(frame.client) == last.client && read.set == last.set => {
-            Ok(frame.shown())
-        }
-        _ => Err(Clause::Frame),
+/// A read is shown with its client and set, as it was made, and an entry for each item.
+fn entries_of_the_read(
+    last: &Transaction,
+    read: &Read,
+    frame: &LogFrame,
+) -> Result<Vec<Entry>, Clause> {
+    let is_that = frame.read.as_ref().is_some_and(|shown| {
+        (u64::from(frame.client), shown.set, shown.manner) == (last.client, last.set, read.manner)
+    });
+    if is_that {
+        Ok(frame.shown())
+    } else {
+        Err(Clause::Frame)
     }
 }
 
@@ -129,18 +146,45 @@ fn no_sibling_is_older(write: &Write, entry: &Entry, entries: &[Entry]) -> Resul
     }
 }
 
-/// The entry's write was stored at all its partitions before the get behind the item's reply was
+/// No entry is older than a write of that item whose commit at the item's partition was delivered
+/// before the read's start.
+fn no_committed_write_is_missed(
+    history: &History,
+    read: &Transaction,
+    entry: &Entry,
+) -> Result<(), Clause> {
+    let mut committed = history.committed_before(read.started, entry.item);
+    if committed.any(|(_, write)| entry.stamp < write.stamp) {
+        Err(Clause::CommittedMissed { item: entry.item })
+    } else {
+        Ok(())
+    }
+}
+
+/// No entry is older than the item's latest write when the first get behind its first reply was
 /// delivered.
-fn stored_before_the_answer(write: &Write, read: &Read, entry: &Entry) -> Result<(), Clause> {
-    let reply = read.replies.iter().find(|reply| reply.item == entry.item);
-    let in_time = match (write.stored, reply) {
-        (Some(stored), Some(reply)) => stored < reply.answered,
-        _ => false,
-    };
-    if in_time {
+fn freshest_when_answered(read: &Read, entry: &Entry) -> Result<(), Clause> {
+    match read.first(entry.item) {
+        Some(first) if entry.stamp < first.latest.stamp => Err(Clause::Stale { item: entry.item }),
+        _ => Ok(()),
+    }
+}
+
+/// The last reply for the item, which brought the entry: of a fast read it has that stamp; of an
+/// ordinary read it is the only one.
+fn brought_by_the_last_reply<'a>(read: &'a Read, entry: &Entry) -> Result<&'a Label, Clause> {
+    let last = read.last_reply(entry.item);
+    let brought = last.filter(|reply| reply.stamp.is_none_or(|stamp| stamp == entry.stamp));
+    brought.ok_or(Clause::NotBrought { item: entry.item })
+}
+
+/// The entry's write was stored at all its partitions before the get behind the reply that brought
+/// it was delivered.
+fn stored_before_the_answer(write: &Write, reply: &Label) -> Result<(), Clause> {
+    if write.stored.is_some_and(|stored| stored < reply.answered) {
         Ok(())
     } else {
-        Err(Clause::AnsweredBeforeStored { item: entry.item })
+        Err(Clause::AnsweredBeforeStored { item: reply.item })
     }
 }
 

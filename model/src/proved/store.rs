@@ -13,6 +13,12 @@ mod library {
             items: u64,
         ) -> u64;
         pub fn koolvent_start_read(block: *mut u64, length: usize, client: u64, set: u64) -> u64;
+        pub fn koolvent_start_fast_read(
+            block: *mut u64,
+            length: usize,
+            client: u64,
+            set: u64,
+        ) -> u64;
         pub fn koolvent_start_write(
             block: *mut u64,
             length: usize,
@@ -49,6 +55,11 @@ impl Calls for Proved {
     #[inline]
     fn start_read(&self, block: &mut [u64], client: u64, set: u64) -> u64 {
         unsafe { library::koolvent_start_read(block.as_mut_ptr(), block.len(), client, set) }
+    }
+
+    #[inline]
+    fn start_fast_read(&self, block: &mut [u64], client: u64, set: u64) -> u64 {
+        unsafe { library::koolvent_start_fast_read(block.as_mut_ptr(), block.len(), client, set) }
     }
 
     #[inline]

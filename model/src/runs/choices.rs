@@ -60,6 +60,8 @@ impl Runner<'_, '_> {
                 self.call(Call::Clear);
                 self.call(write);
             }
+        } else if self.random.percent(self.fast_reads) {
+            self.call(Call::FastRead { client, set });
         } else {
             self.call(Call::Read { client, set });
         }
@@ -143,9 +145,15 @@ impl Runner<'_, '_> {
         let nobody = self.random.pick(&[0, beyond, 256 + client, 1 << 63, u64::MAX]);
         let set = self.some_set();
         let past_the_end = self.run.store.tables.messages.len() as u64;
-        let call = match self.random.below(17) {
+        let call = match self.random.below(21) {
             0 => Call::Read { client: nobody, set },
             1 => Call::Show { client: nobody, output: vec![1; 600] },
+            17 => Call::FastRead { client: nobody, set },
+            18 => Call::FastRead { client, set },
+            19 => Call::FastRead { client, set: 0 },
+            20 if self.sizes.items < 64 => {
+                Call::FastRead { client, set: set | 1 << self.sizes.items }
+            }
             2 => Call::Read { client, set },
             3 => Call::Read { client, set: 0 },
             4 if self.sizes.items < 64 => Call::Read { client, set: set | 1 << self.sizes.items },

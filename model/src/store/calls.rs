@@ -4,11 +4,11 @@ use super::fault::{self, Fault};
 use super::range::GREATEST;
 use super::refusals;
 use super::shown::shown_frame;
-use super::tables::{Sizes, Tables, ITEMS, WIDEST_WRITE};
+use super::tables::{Client, Sizes, Tables, FIRST_PART, ITEMS, SECOND_PART, WIDEST_WRITE};
 use super::Store;
 use crate::answer::Answer;
 use crate::call::{Call, Event};
-use crate::frames::log::Shown;
+use crate::frames::log::{Manner, Shown};
 use std::borrow::Cow;
 
 impl Store {
@@ -19,6 +19,7 @@ impl Store {
                 self.fresh(*long_enough, Sizes::new(*clients, *partitions, *items))
             }
             Call::Read { client, set } => self.start_read(*client, *set),
+            Call::FastRead { client, set } => self.start_fast_read(*client, *set),
             Call::Write { client, set, values } => self.start_write(*client, *set, values),
             Call::Deliver { place } => self.deliver(*place),
             Call::Show { client, .. } => self.show(*client, output),
@@ -47,11 +48,29 @@ impl Store {
 
     /// Starts a read of the items of the set.
     pub fn start_read(&mut self, client: u64, set: u64) -> Answer {
-        let refusal = refusals::start_read(&self.tables, client, set);
+        let tables = match self.fault {
+            Some(Fault::FastReaderReads) => Cow::Owned(self.with_fast_readers_idle()),
+            _ => Cow::Borrowed(&self.tables),
+        };
+        let refusal = refusals::start_read(&tables, self.load(), client, set);
         if let Some(refusal) = self.spoilt(refusal, 8) {
             return Answer::Refused(refusal);
         }
         self.step_start_read(client, set);
+        self.started()
+    }
+
+    /// Starts a fast read of the items of the set, with the checks of a read.
+    pub fn start_fast_read(&mut self, client: u64, set: u64) -> Answer {
+        let tables = match self.fault {
+            Some(Fault::FastReaderStarts) => Cow::Owned(self.with_fast_readers_idle()),
+            _ => Cow::Borrowed(&self.tables),
+        };
+        let refusal = refusals::start_read(&tables, self.load(), client, set);
+        if let Some(refusal) = self.spoilt(refusal, 8) {
+            return Answer::Refused(refusal);
+        }
+        self.step_start_fast_read(client, set);
         self.started()
     }
 
@@ -66,7 +85,8 @@ impl Store {
             Some(Fault::WidestWriteRefused) => WIDEST_WRITE - 1,
             _ => WIDEST_WRITE,
         };
-        let refusal = match refusals::start_write(&tables, widest, client, set, values) {
+        let load = self.load();
+        let refusal = match refusals::start_write(&tables, load, widest, client, set, values) {
             Some(17)
                 if self.has(Fault::WidthAfterSeven)
                     && self.tables.greatest_number(client) == GREATEST =>
@@ -85,6 +105,7 @@ impl Store {
     /// Delivers the message at a place in the list.
     pub fn deliver(&mut self, place: u64) -> Answer {
         let refusal = refusals::deliver(&self.tables, place);
+        let refusal = self.spoilt_delivery(refusal, place);
         if let Some(refusal) = self.spoilt(refusal, 0) {
             return Answer::Refused(refusal);
         }
@@ -102,6 +123,9 @@ impl Store {
         let mut frame = shown_frame(&self.tables, client).expect("a transaction has ended");
         if let (true, Some(read)) = (self.has(Fault::InitialReads), &mut frame.read) {
             read.shown.fill(Shown::INITIAL);
+        }
+        if let (true, Some(read)) = (self.has(Fault::ShownAsOrdinary), &mut frame.read) {
+            read.manner = Manner::Ordinary;
         }
         let bytes = frame.bytes();
         output[..bytes.len()].copy_from_slice(&bytes);
@@ -160,6 +184,17 @@ impl Store {
         let seen = tables.view.iter_mut().flatten().map(|entry| &mut entry.stamp.number);
         for number in seen.filter(|number| **number == GREATEST) {
             *number -= 1;
+        }
+        tables
+    }
+
+    /// The tables, with no fast read under way.
+    fn with_fast_readers_idle(&self) -> Tables {
+        let mut tables = self.tables.clone();
+        for client in &mut tables.clients {
+            if [FIRST_PART, SECOND_PART].contains(&client.mode) {
+                *client = Client::resting(client.count, client.last);
+            }
         }
         tables
     }

@@ -1,7 +1,7 @@
 //! Wrong stores. For tests alone: each shows that some test would notice a store that is wrong in
 //! this way.
 
-use super::tables::{Tables, IDLE, WIDEST_WRITE, WRITE, WRITING};
+use super::tables::{Client, Tables, IDLE, WIDEST_WRITE, WRITE, WRITING};
 use crate::set::size;
 
 /// One way in which a store can be wrong.
@@ -113,6 +113,83 @@ pub enum Fault {
     ComparesSets,
     /// A comparison leaves out what the second client knows no write of.
     ComparesKnown,
+    /// A fast read is made as an ordinary one.
+    FastIsOrdinary,
+    /// A client with a fast read under way isn't refused another by 4.
+    FastReaderStarts,
+    /// A client with a fast read under way isn't refused an ordinary one by 4.
+    FastReaderReads,
+    /// A first get is answered with the item's newest stored version.
+    NewestFirst,
+    /// A first get is answered with the initial version, which is never fractured.
+    InitialFirst,
+    /// A first get is answered with the newest stored version before the item's latest.
+    OlderFirst,
+    /// A first get is answered with the version that the client's view would have a read ask for.
+    FirstFromTheView,
+    /// First replies aren't offered to the view.
+    FirstRepliesUnseen,
+    /// Of a first reply the set of its latest is kept, not of its version.
+    LatestsSetKept,
+    /// The second part of a fast read asks for the stamp of the item's own first reply.
+    OwnLatestAgain,
+    /// The second part of a fast read is chosen from the view, not from the first replies.
+    SiblingsOfTheView,
+    /// The second part of a fast read fetches the right items, with the stamps that the view chooses.
+    SecondStampsOfTheView,
+    /// The second part of a fast read fetches every item again.
+    EveryItemAgain,
+    /// A fast read ends with its last first reply, whatever a sibling shows.
+    EndsWithTheFirstPart,
+    /// The second part of a fast read fetches siblings outside the read set too.
+    OutsideTheSetAgain,
+    /// The gets of a second part join in descending order.
+    SecondGetsDescending,
+    /// Of the gets of a second part that of the item whose first reply came last joins last.
+    SecondGetsByReply,
+    /// The gets of a second part join one after another, each with the got before it.
+    SecondGetsInTurn,
+    /// Gots of a second part aren't offered to the view.
+    SecondGotsUnseen,
+    /// A got of a second part takes the place of the first reply that is kept.
+    SecondGotsKept,
+    /// A got of a second part whose set shows another item older has that one fetched again.
+    ThirdPart,
+    /// A got of a second part whose latest is later than its version has the item fetched again.
+    LatestFetchedToo,
+    /// Of an item fetched again the first reply is shown.
+    FirstReplyShown,
+    /// Of an item fetched again the first reply is shown where no sibling then shows it older: the
+    /// one that it was fetched for has been fetched again itself.
+    OlderReplyShown,
+    /// A fast read is shown in the frame of an ordinary one.
+    ShownAsOrdinary,
+    /// The load has the first replies also of a second part.
+    FirstsInTheSecondLoad,
+    /// The load has no first replies.
+    FirstsOutOfTheLoad,
+    /// A clearing doesn't spare the first replies that a read keeps.
+    FirstsForgotten,
+    /// A clearing spares first replies until the first part is over.
+    FirstsSparedInTheFirstPart,
+    /// A clearing spares of a second part's first replies those of items fetched again alone.
+    FirstsSparedIfAwaited,
+    /// A clearing doesn't spare a second part's first replies of items fetched again.
+    FirstsSparedUnlessAwaited,
+    /// A first reply is awaited by its item and the initial stamp.
+    FirstReplyByStamp,
+    /// A got is awaited in the first part of a fast read, whatever its stamp.
+    GotInTheFirstPart,
+    /// A first reply is awaited in the second part of a fast read.
+    FirstReplyInTheSecondPart,
+    /// A first reply is awaited by an ordinary read.
+    FirstReplyToAnyRead,
+    /// A first reply is awaited by a write.
+    FirstReplyToAWrite,
+    /// A first reply is taken in the first part of a fast read, whatever its item.
+    FirstReplyNotAwaited,
+    /// A first get of an item whose latest isn't stored is answered with value 0.
+    UnstoredLatestAnswered,
 }
 
 /// Whether no client has a transaction under way.
@@ -128,7 +205,10 @@ pub(super) fn holds_a_wide_set(tables: &Tables) -> bool {
     let in_messages = messages.flat_map(|parts| [parts.set, parts.latest.map(|entry| entry.set)]);
     let under_way = tables.clients.iter().filter(|client| client.mode == WRITING);
     let ended = tables.clients.iter().filter(|client| client.last.kind == WRITE);
+    let firsts = tables.clients.iter().flat_map(Client::first_replies);
     entries
+        .copied()
+        .chain(firsts)
         .map(|entry| entry.set)
         .chain(versions)
         .chain(in_messages.flatten())

@@ -2,7 +2,7 @@
 
 use super::message::{Message, Parts};
 use super::tables::{
-    Tables, Version, IDLE, LOAD_CAPACITY, NONE, READ, READING, VERSION_CAPACITY, WRITE, WRITING,
+    Tables, Version, IDLE, KINDS, LOAD_CAPACITY, MODES, NONE, VERSION_CAPACITY, WRITING,
 };
 use crate::set::{has, items, lies_in};
 use crate::stamp::Stamp;
@@ -49,12 +49,10 @@ fn named_things_exist(tables: &Tables) -> bool {
         })
 }
 
-/// A client is idle, reading or writing, and what it ended last is nothing, a read or a write.
+/// A client is idle, reading, writing or in either part of a fast read, and what it ended last is
+/// nothing, a read, a write or a fast read.
 fn modes_and_kinds_are_known(tables: &Tables) -> bool {
-    tables.existing_clients().all(|client| {
-        [IDLE, READING, WRITING].contains(&client.mode)
-            && [NONE, READ, WRITE].contains(&client.last.kind)
-    })
+    tables.existing_clients().all(|client| client.mode < MODES && client.last.kind < KINDS)
 }
 
 /// Counts are at most 4,294,967,295 and values of 32 bits.
@@ -76,6 +74,7 @@ fn sets_hold_existing_items(tables: &Tables) -> bool {
         && tables.existing_clients().all(|client| {
             exist(client.set)
                 && exist(client.awaited)
+                && client.first_replies().all(|first| exist(first.set))
                 && (client.last.kind == NONE || exist(client.last.set))
         })
         && tables.versions.iter().all(|version| exist(version.set))
@@ -92,11 +91,13 @@ fn stamps_are_initial_or_in_range(tables: &Tables) -> bool {
     };
     tables.entries().all(|(_, entry)| known(entry.stamp))
         && tables.existing_clients().all(|client| {
-            client.running_stamps().all(known) && client.last_stamps().into_iter().all(known)
+            client.running_stamps().all(known)
+                && client.first_replies().all(|first| known(first.stamp))
+                && client.last_stamps().into_iter().all(known)
         })
         && tables.versions.iter().all(|version| known(version.stamp))
         && parts(tables).all(|parts| {
-            known(parts.stamp) && parts.latest.is_none_or(|latest| known(latest.stamp))
+            parts.stamp.is_none_or(known) && parts.latest.is_none_or(|latest| known(latest.stamp))
         })
 }
 

@@ -4,7 +4,10 @@
 use super::message::Message;
 use super::range::{is_usable, GREATEST};
 use super::shown::shown_frame;
-use super::tables::{Sizes, Tables, IDLE, LOAD_CAPACITY, READING, VERSION_CAPACITY, WRITING};
+use super::tables::{
+    Sizes, Tables, Version, FIRST_PART, IDLE, LOAD_CAPACITY, READING, SECOND_PART,
+    VERSION_CAPACITY, WRITING,
+};
 use crate::set::{has, size};
 use crate::stamp::Stamp;
 
@@ -20,19 +23,21 @@ pub(super) fn fresh(long_enough: bool, sizes: Sizes) -> Option<u64> {
     first(&[(2, &|| !sizes.are_allowed()), (1, &|| !long_enough)])
 }
 
-pub(super) fn start_read(tables: &Tables, client: u64, set: u64) -> Option<u64> {
+/// Of an ordinary or a fast read, where the load is this.
+pub(super) fn start_read(tables: &Tables, load: u64, client: u64, set: u64) -> Option<u64> {
     first(&[
         (1, &|| !is_usable(tables)),
         (3, &|| !tables.has_client(client)),
         (4, &|| tables.client(client).mode != IDLE),
         (5, &|| set == 0 || !tables.holds_only_existing(set)),
-        (8, &|| tables.load() + size(set) > LOAD_CAPACITY),
+        (8, &|| load + size(set) > LOAD_CAPACITY),
     ])
 }
 
-/// Of a store whose widest write has so many items.
+/// Where the load is this and the widest write has so many items.
 pub(super) fn start_write(
     tables: &Tables,
+    load: u64,
     widest: u64,
     client: u64,
     set: u64,
@@ -46,7 +51,7 @@ pub(super) fn start_write(
         (6, &|| values.len() as u64 != 4 * size(set)),
         (17, &|| size(set) > widest),
         (7, &|| tables.greatest_number(client) == GREATEST),
-        (8, &|| tables.load() + size(set) > LOAD_CAPACITY),
+        (8, &|| load + size(set) > LOAD_CAPACITY),
         (9, &|| tables.versions_and_prepares() + size(set) > VERSION_CAPACITY),
     ])
 }
@@ -96,28 +101,35 @@ pub(super) fn compare(tables: &Tables, one: u64, other: u64) -> Option<u64> {
 }
 
 /// A prepare of an item and stamp already stored; a prepared whose client isn't writing, a got
-/// whose client isn't reading, or either not awaited with that item and stamp.
+/// whose client isn't reading, or either not awaited with that item and stamp. In the first part of
+/// a fast read no got is awaited, and a first reply is there alone, by its item alone.
 fn is_unwanted(tables: &Tables, message: &Message) -> bool {
-    let awaits = |client: u64, mode: u64, item: u64, stamp: Stamp| {
+    let awaits = |client: u64, modes: &[u64], item: u64| {
         let record = tables.client(client);
-        record.mode == mode && has(record.awaited, item) && record.stamps[item as usize] == stamp
+        modes.contains(&record.mode) && has(record.awaited, item)
     };
+    let asked = |client: u64, item: u64| tables.client(client).stamps[item as usize];
     match *message {
         Message::Prepare(version) => tables.version(version.item, version.stamp).is_some(),
-        Message::Prepared { item, stamp } => !awaits(stamp.client, WRITING, item, stamp),
-        Message::Got { client, version, .. } => {
-            !awaits(client, READING, version.item, version.stamp)
+        Message::Prepared { item, stamp } => {
+            let client = stamp.client;
+            !(awaits(client, &[WRITING], item) && asked(client, item) == stamp)
         }
-        Message::Commit { .. } | Message::Get { .. } => false,
+        Message::Got { client, version: Version { item, stamp, .. }, .. } => {
+            !(awaits(client, &[READING, SECOND_PART], item) && asked(client, item) == stamp)
+        }
+        Message::FirstReply { client, version, .. } => !awaits(client, &[FIRST_PART], version.item),
+        Message::Commit { .. } | Message::Get { .. } | Message::FirstGet { .. } => false,
     }
 }
 
-/// A get of a version that isn't stored, the initial one excepted.
+/// A get of a version that isn't stored, the initial one excepted. A first get is for the version
+/// with its item's latest stamp.
 fn asks_for_a_version_not_stored(tables: &Tables, message: &Message) -> bool {
-    match *message {
-        Message::Get { item, stamp, .. } => {
-            stamp != Stamp::INITIAL && tables.version(item, stamp).is_none()
-        }
-        _ => false,
-    }
+    let (item, stamp) = match *message {
+        Message::Get { item, stamp, .. } => (item, stamp),
+        Message::FirstGet { item, .. } => (item, tables.latest[item as usize].stamp),
+        _ => return false,
+    };
+    stamp != Stamp::INITIAL && tables.version(item, stamp).is_none()
 }

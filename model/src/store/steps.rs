@@ -2,7 +2,9 @@
 
 use super::fault::Fault;
 use super::message::Message;
-use super::tables::{Client, Ended, Version, ITEMS, READ, READING, WRITE, WRITING};
+use super::tables::{
+    Client, Ended, Version, FAST_READ, ITEMS, READ, READING, SECOND_PART, WRITE, WRITING,
+};
 use super::Store;
 use crate::answer::{NONE_ENDED, READ_ENDED, WRITE_ENDED};
 use crate::set::{has, items, without};
@@ -24,22 +26,18 @@ impl Store {
 
     /// The latest stamp among the view's own entry for the item and all view entries whose set
     /// contains it.
-    fn stamp_to_ask_for(&self, client: u64, set: u64, item: u64) -> Stamp {
+    pub(super) fn stamp_to_ask_for(&self, client: u64, set: u64, item: u64) -> Stamp {
         let entries = match self.fault {
             Some(Fault::PassEndsWithTheSet) => u64::BITS - set.leading_zeros(),
             _ => self.tables.sizes.items as u32,
         };
         let view = &self.tables.view(client)[..entries as usize];
-        let mut chosen = match self.fault {
+        let own = match self.fault {
             Some(Fault::OwnEntryByItsSet) => Stamp::INITIAL,
             _ => view[item as usize].stamp,
         };
-        for entry in view.iter().filter(|entry| has(entry.set, item)) {
-            if self.is_later(entry.stamp, chosen) {
-                chosen = entry.stamp;
-            }
-        }
-        chosen
+        let siblings = view.iter().filter(|entry| has(entry.set, item));
+        self.latest(own, siblings.map(|entry| entry.stamp))
     }
 
     /// The next number becomes the count and with the client makes the stamp; one prepare per item,
@@ -95,6 +93,10 @@ impl Store {
             Message::Commit { partition, stamp } => self.deliver_commit(partition, stamp),
             Message::Get { client, item, stamp } => self.deliver_get(client, item, stamp),
             Message::Got { client, version, latest } => self.deliver_got(client, version, latest),
+            Message::FirstGet { client, item } => self.deliver_first_get(client, item),
+            Message::FirstReply { client, version, latest } => {
+                self.deliver_first_reply(client, version, latest)
+            }
         }
     }
 
@@ -125,8 +127,8 @@ impl Store {
         }
     }
 
-    /// The view entry of a got's item becomes the later of itself and the version.
-    fn see_version(&mut self, client: u64, version: Version) {
+    /// The view entry of a reply's item becomes the later of itself and the version.
+    pub(super) fn see_version(&mut self, client: u64, version: Version) {
         let item = version.item;
         let is_last = without(self.tables.client(client).awaited, item) == 0;
         let entry = Entry::new(version.stamp, version.set);
@@ -171,17 +173,11 @@ impl Store {
         NONE_ENDED
     }
 
-    /// Appends a got with the version of exactly that stamp, and the item's latest. The initial
-    /// version has value 0 and the empty set.
+    /// Appends a got with the version of exactly that stamp, and the item's latest.
     fn deliver_get(&mut self, client: u64, item: u64, stamp: Stamp) -> u64 {
-        let initial = Version { item, value: 0, stamp, set: 0 };
-        let mut version = self.tables.version(item, stamp).copied().unwrap_or(initial);
+        let mut version = self.version_of(item, stamp);
         if self.has(Fault::NewestVersion) {
-            for stored in self.tables.versions.iter().filter(|v| v.item == item) {
-                if stored.stamp > version.stamp {
-                    version = *stored;
-                }
-            }
+            version = self.newest_version(version);
             self.tables.client_mut(client).stamps[item as usize] = version.stamp;
         }
         if self.has(Fault::GotWithoutSet) {
@@ -192,28 +188,82 @@ impl Store {
         NONE_ENDED
     }
 
+    /// The version with exactly that stamp. The initial version has value 0 and the empty set.
+    pub(super) fn version_of(&self, item: u64, stamp: Stamp) -> Version {
+        let initial = Version { item, value: 0, stamp, set: 0 };
+        self.tables.version(item, stamp).copied().unwrap_or(initial)
+    }
+
+    /// For faults alone: the newest stored version of the item, or this one.
+    pub(super) fn newest_version(&self, version: Version) -> Version {
+        let stored = self.tables.versions.iter().filter(|stored| stored.item == version.item);
+        stored.fold(version, |newest, stored| match stored.stamp > newest.stamp {
+            true => *stored,
+            false => newest,
+        })
+    }
+
+    /// For faults alone: the newest stored version of the item before the stamp, or this one.
+    pub(super) fn newest_before(&self, version: Version, stamp: Stamp) -> Version {
+        let stored = self.tables.versions.iter().filter(|stored| stored.item == version.item);
+        let before = stored.filter(|stored| stored.stamp < stamp);
+        before.max_by_key(|stored| stored.stamp).copied().unwrap_or(version)
+    }
+
     /// Keeps the version as the item's answer and sees it after the latest; with the last one the
     /// read ends.
     fn deliver_got(&mut self, client: u64, version: Version, latest: Entry) -> u64 {
         let item = version.item;
-        self.see(client, item, latest);
-        self.see_version(client, version);
-        let ends_early = self.has(Fault::EndAtFirstReply);
+        let is_second = self.tables.client(client).mode == SECOND_PART;
+        if !(is_second && self.has(Fault::SecondGotsUnseen)) {
+            self.see(client, item, latest);
+            self.see_version(client, version);
+        }
         let record = self.tables.client_mut(client);
         record.values[item as usize] = version.value;
         record.awaited = without(record.awaited, item);
-        if record.awaited != 0 {
-            return if ends_early { READ_ENDED } else { NONE_ENDED };
+        if is_second {
+            self.spoil_second_got(client, version, latest);
         }
-        let ended = Ended {
-            kind: READ,
+        if self.tables.client(client).awaited != 0 {
+            return self.outcome_before_the_end();
+        }
+        self.end_read(client)
+    }
+
+    /// The outcome of a reply after which a read awaits others.
+    pub(super) fn outcome_before_the_end(&self) -> u64 {
+        match self.fault {
+            Some(Fault::EndAtFirstReply) => READ_ENDED,
+            _ => NONE_ENDED,
+        }
+    }
+
+    /// The read of the client has ended; of each item the last reply is shown.
+    pub(super) fn end_read(&mut self, client: u64) -> u64 {
+        let record = self.tables.client(client);
+        let is_fast = record.mode == SECOND_PART;
+        let mut ended = Ended {
+            kind: if is_fast { FAST_READ } else { READ },
             set: record.set,
             stamps: record.stamps,
             values: record.values,
             ..Ended::NONE
         };
+        if is_fast {
+            self.spoil_shown(client, &mut ended);
+        }
+        let record = self.tables.client_mut(client);
         *record = Client::resting(record.count, ended);
         READ_ENDED
+    }
+
+    /// The latest of this stamp and the others.
+    pub(super) fn latest(&self, own: Stamp, others: impl Iterator<Item = Stamp>) -> Stamp {
+        others.fold(own, |latest, stamp| match self.is_later(stamp, latest) {
+            true => stamp,
+            false => latest,
+        })
     }
 
     /// Whether the stamp is later than the one already there.

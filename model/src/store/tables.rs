@@ -56,6 +56,12 @@ pub const IDLE: u64 = 0;
 pub const READING: u64 = 1;
 /// The mode of a client with a running write.
 pub const WRITING: u64 = 2;
+/// The mode of a client with a fast read whose first replies haven't all come.
+pub const FIRST_PART: u64 = 3;
+/// The mode of a client with a fast read that fetches items again.
+pub const SECOND_PART: u64 = 4;
+/// How many modes there are.
+pub const MODES: u64 = 5;
 
 /// A client (desk): its mode and its running transaction. Steps leave an idle client no set; damage
 /// may.
@@ -71,6 +77,9 @@ pub struct Client {
     pub stamps: [Stamp; ITEMS],
     /// By item of the set: the value that came, or is written.
     pub values: [u64; ITEMS],
+    /// By item of the set whose first reply has come to a fast read: that version's stamp and write
+    /// set.
+    pub firsts: [Entry; ITEMS],
     pub last: Ended,
 }
 
@@ -80,6 +89,10 @@ pub const NONE: u64 = 0;
 pub const READ: u64 = 1;
 /// The kind of a last ended write.
 pub const WRITE: u64 = 2;
+/// The kind of a last ended fast read.
+pub const FAST_READ: u64 = 3;
+/// How many kinds of a last ended transaction there are.
+pub const KINDS: u64 = 4;
 
 /// A client's last ended transaction.
 #[derive(Clone, Copy, Debug, PartialEq, Eq)]
@@ -88,7 +101,7 @@ pub struct Ended {
     pub set: u64,
     /// Of a write, its one stamp.
     pub stamp: Stamp,
-    /// Of a read, by item of the set.
+    /// Of a read, ordinary or fast, by item of the set.
     pub stamps: [Stamp; ITEMS],
     /// By item of the set.
     pub values: [u64; ITEMS],
@@ -118,8 +131,24 @@ impl Client {
             awaited: 0,
             stamps: [Stamp::INITIAL; ITEMS],
             values: [0; ITEMS],
+            firsts: [Entry::INITIAL; ITEMS],
             last,
         }
+    }
+
+    /// The items whose first reply is kept: in the first part of a fast read those no longer
+    /// awaited, in its second all.
+    pub fn first_replied(&self) -> u64 {
+        match self.mode {
+            FIRST_PART => self.set & !self.awaited,
+            SECOND_PART => self.set,
+            _ => 0,
+        }
+    }
+
+    /// The first replies that are kept.
+    pub fn first_replies(&self) -> impl Iterator<Item = Entry> + '_ {
+        items(self.first_replied()).map(|item| self.firsts[item as usize])
     }
 
     /// The stamps of the items of its set.
@@ -130,7 +159,9 @@ impl Client {
     /// The stamps of its last ended transaction.
     pub fn last_stamps(&self) -> Vec<Stamp> {
         match self.last.kind {
-            READ => items(self.last.set).map(|item| self.last.stamps[item as usize]).collect(),
+            READ | FAST_READ => {
+                items(self.last.set).map(|item| self.last.stamps[item as usize]).collect()
+            }
             WRITE => vec![self.last.stamp],
             _ => Vec::new(),
         }
@@ -207,11 +238,12 @@ impl Tables {
         seen.fold(self.client(client).count, u64::max)
     }
 
-    /// Messages, and for each writing client the prepared replies that have come.
+    /// Messages, and the replies that have come: for each writing client the prepared replies, and
+    /// for each fast read the first replies until its first part is over.
     pub fn load(&self) -> u64 {
         let come: u64 = self
             .existing_clients()
-            .filter(|client| client.mode == WRITING)
+            .filter(|client| [WRITING, FIRST_PART].contains(&client.mode))
             .map(|client| size(client.set & !client.awaited))
             .sum();
         self.messages.len() as u64 + come

@@ -3,21 +3,28 @@
 use super::Busy;
 use crate::stamp::{Entry, Stamp};
 use crate::store::message::Message;
-use crate::store::tables::{Client, Sizes, Tables, Version, WRITING};
+use crate::store::tables::{Client, Sizes, Tables, Version, FIRST_PART, SECOND_PART, WRITING};
 
 const STAMP: Stamp = Stamp { number: 7, client: 2 };
 const VERSION: Version = Version { item: 3, value: 9, stamp: STAMP, set: 0b1000 };
 const GET: Message = Message::Get { client: 2, item: 3, stamp: Stamp::INITIAL };
 
-/// Blocks full of messages, of messages and replies, of versions, and of versions and prepares,
-/// some that the widest read or write fills, and some whose count or a number in whose view is the
-/// greatest; and the same with 1, 2 and 3 less. The first eight are at the brim.
+/// So many sorts of blocks there are, each at the brim and with 1, 2 and 3 less.
+pub const SORTS: usize = 11;
+
+/// Blocks full of messages, of messages and replies, of messages and first replies, of versions,
+/// and of versions and prepares, some that the widest read or write fills, one in which the last
+/// first reply makes room, and some whose count or a number in whose view is the greatest; and the
+/// same with 1, 2 and 3 less. The first are at the brim.
 pub fn brimming() -> Vec<Busy> {
-    let sorts: [fn(usize) -> Tables; 8] = [
+    let sorts: [fn(usize) -> Tables; SORTS] = [
         messages,
         room_for_the_widest_read,
         room_for_the_widest_write,
         replies,
+        first_replies,
+        second_part,
+        last_first_reply,
         versions,
         prepares,
         count,
@@ -72,6 +79,39 @@ fn replies(less: usize) -> Tables {
         ..Client::INITIAL
     };
     tables.messages = vec![GET; 66 - less];
+    tables
+}
+
+/// Of client 2's 63 first replies 61 have come.
+fn first_replies(less: usize) -> Tables {
+    let mut tables = with_fast_read(FIRST_PART, 0b11);
+    tables.messages = vec![GET; 67 - less];
+    tables
+}
+
+/// Client 2 fetches two items again; first replies no longer count.
+fn second_part(less: usize) -> Tables {
+    let mut tables = with_fast_read(SECOND_PART, 0b11);
+    tables.messages = vec![GET; 126 - less];
+    tables
+}
+
+/// Client 2's last first reply shows that all other items are to be fetched again.
+fn last_first_reply(less: usize) -> Tables {
+    let mut tables = with_fast_read(FIRST_PART, 1);
+    let latest = Entry::new(STAMP, ALL_BUT_THE_LAST);
+    let version = Version { item: 0, value: 9, stamp: STAMP, set: ALL_BUT_THE_LAST };
+    let last = Message::FirstReply { client: 2, version, latest };
+    tables.messages = [vec![GET; 65 - less], vec![last]].concat();
+    tables
+}
+
+const ALL_BUT_THE_LAST: u64 = u64::MAX >> 1;
+
+/// Client 2 in a part of a fast read of 63 items that keeps first replies of the initial versions.
+fn with_fast_read(mode: u64, awaited: u64) -> Tables {
+    let mut tables = Tables::fresh(Sizes::new(2, 1, 63));
+    *tables.client_mut(2) = Client { mode, set: ALL_BUT_THE_LAST, awaited, ..Client::INITIAL };
     tables
 }
 

@@ -40,14 +40,15 @@ pub fn damaged_blocks(
         let mut chooser =
             Chooser { random, tables: tables.as_ref().unwrap_or(&busy.tables), damaged: place };
         let [read, write] = [chooser.read(), chooser.write()];
+        let fast_read = chooser.fast_read();
         let [hand_over, compare] = [chooser.hand_over(), chooser.compare()];
         let others = [chooser.deliver(), chooser.show(), Call::Clear, hand_over, compare];
-        for call in [read, write].into_iter().chain(others) {
+        for call in [read, fast_read, write].into_iter().chain(others) {
             let answer = match &tables {
                 Some(_) => agree(served, &words, &call),
                 None => refused(served, &words, &call, 1),
             };
-            damaged.met.count(&call, answer?);
+            damaged.met.count_on(chooser.tables, &call, answer?);
         }
         // What was there before a fresh doesn't matter, so few are enough.
         if damaged.blocks.is_multiple_of(16) {

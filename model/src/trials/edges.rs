@@ -18,7 +18,7 @@ pub fn edges(served: &dyn Calls, busy: &Busy, met: &mut Met) -> Result<(), Diffe
     lengths(served, busy, met)?;
     let calls = [sizes(), reads(busy), writes(busy), deliveries(busy), showings(busy), pairs(busy)];
     for call in calls.concat().into_iter().chain([Call::Clear]) {
-        met.count(&call, agree(served, &busy.words, &call)?);
+        met.count_on(&busy.tables, &call, agree(served, &busy.words, &call)?);
     }
     Ok(())
 }
@@ -30,6 +30,7 @@ fn lengths(served: &dyn Calls, busy: &Busy, met: &mut Met) -> Result<(), Differe
         fresh(1, 1, 1),
         fresh(9, 8, 64),
         Call::Read { client: 1, set: 1 },
+        Call::FastRead { client: 1, set: 1 },
         Call::Write { client: 1, set: 1, values: vec![1; 4] },
         Call::Deliver { place: 0 },
         Call::Show { client: 1, output: vec![1; 600] },
@@ -41,7 +42,7 @@ fn lengths(served: &dyn Calls, busy: &Busy, met: &mut Met) -> Result<(), Differe
     words.resize(NEEDED + 70, 5);
     for length in [0, 1, 5, NEEDED - 1, NEEDED, NEEDED + 1, NEEDED + 70] {
         for call in &calls {
-            met.count(call, agree(served, &words[..length], call)?);
+            met.count_on(&busy.tables, call, agree(served, &words[..length], call)?);
         }
     }
     Ok(())
@@ -82,11 +83,12 @@ fn sets(busy: &Busy) -> Vec<u64> {
     [&few[..], &[0, 1 << (items - 1), all, past, all | past, 1 << 63, u64::MAX]].concat()
 }
 
+/// Ordinary and fast.
 fn reads(busy: &Busy) -> Vec<Call> {
     let mut calls = Vec::new();
     for client in clients(busy) {
         for set in sets(busy) {
-            calls.push(Call::Read { client, set });
+            calls.extend([Call::Read { client, set }, Call::FastRead { client, set }]);
         }
     }
     calls

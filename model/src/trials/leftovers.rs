@@ -17,6 +17,8 @@ pub(super) fn leftovers(sizes: &Sizes, length: usize, random: &mut Random) -> Ve
             words[places::value(client, item)] = value(random);
             words[places::last_stamp(client, item)] = stamp(sizes, random);
             words[places::last_value(client, item)] = value(random);
+            words[places::first(client, item)] = stamp(sizes, random);
+            words[places::first(client, item) + 1] = set(sizes, random);
         }
     }
     for place in 0..VERSION_CAPACITY as usize {
@@ -24,7 +26,7 @@ pub(super) fn leftovers(sizes: &Sizes, length: usize, random: &mut Random) -> Ve
     }
     for place in 0..LOAD_CAPACITY as usize {
         let message = &mut words[places::message(place)..NEEDED];
-        message[0] = random.between(1, 5);
+        message[0] = random.between(1, 7);
         message[1] = random.between(1, sizes.clients.min(sizes.partitions).max(2) - 1);
         version(sizes, &mut message[2..], random);
         message[6] = stamp(sizes, random);

@@ -22,6 +22,16 @@ pub struct Runs {
     pub shown_again: usize,
     pub served: usize,
     pub taken_over: usize,
+    pub fast_reads_shown: usize,
+    pub fetched_again: usize,
+    pub fallen: usize,
+    pub own_missed: usize,
+    pub fast_shown_again: usize,
+    pub fast_gots: usize,
+    pub stored_meanwhile: usize,
+    pub committed_before: usize,
+    pub own_committed: usize,
+    pub committed_meanwhile: usize,
     pub greatest_load: u64,
     pub most_versions: usize,
 }
@@ -67,6 +77,16 @@ fn random_run(
     runs.shown_again += summary.shown_again;
     runs.served += summary.served;
     runs.taken_over += summary.taken_over;
+    runs.fast_reads_shown += summary.fast_reads_shown;
+    runs.fetched_again += summary.fetched_again;
+    runs.fallen += summary.fallen;
+    runs.own_missed += summary.own_missed;
+    runs.fast_shown_again += summary.fast_shown_again;
+    runs.fast_gots += summary.fast_gots;
+    runs.stored_meanwhile += summary.stored_meanwhile;
+    runs.committed_before += summary.committed_before;
+    runs.own_committed += summary.own_committed;
+    runs.committed_meanwhile += summary.committed_meanwhile;
     runs.greatest_load = runs.greatest_load.max(run.greatest_load);
     runs.most_versions = runs.most_versions.max(run.most_versions);
     Ok(())

@@ -7,7 +7,8 @@ use crate::set::items;
 use crate::stamp::{Entry, Stamp};
 use crate::store::message::Message;
 use crate::store::tables::{
-    Client, Ended, Sizes, Tables, Version, IDLE, ITEMS, READ, READING, WRITE, WRITING,
+    Client, Ended, Sizes, Tables, Version, FAST_READ, FIRST_PART, IDLE, ITEMS, READ, READING,
+    SECOND_PART, WRITE, WRITING,
 };
 
 /// The block of a seed. Words that are no field often hold the stamp of a stored version.
@@ -60,7 +61,7 @@ impl Maker {
         let version = self.version(stamp);
         let initial = Version { stamp: Stamp::INITIAL, ..version };
         let partition = self.random.below(self.tables.sizes.partitions);
-        let message = match self.random.below(16) {
+        let message = match self.random.below(22) {
             0 => {
                 self.tables.view_mut(client)[item as usize] = entry;
                 return;
@@ -75,7 +76,9 @@ impl Maker {
             5 => Message::Get { client, item, stamp },
             6 => Message::Got { client, version, latest: Entry::INITIAL },
             7 => Message::Got { client, version: initial, latest: entry },
-            8..14 => {
+            8 => Message::FirstReply { client, version, latest: Entry::INITIAL },
+            9 => Message::FirstReply { client, version: initial, latest: entry },
+            10..20 => {
                 let record = self.record(stamp);
                 *self.tables.client_mut(client) = record;
                 return;
@@ -85,20 +88,34 @@ impl Maker {
         self.tables.messages.push(message);
     }
 
-    /// A client that writes with the stamp, asks for it, or has ended with it.
+    /// A client that writes with the stamp, asks for it, keeps it of a first reply, or has ended
+    /// with it.
     fn record(&mut self, stamp: Stamp) -> Client {
         let set = self.set();
+        let mut firsts = [Entry::INITIAL; ITEMS];
         let mut stamps = [Stamp::INITIAL; ITEMS];
         items(set).for_each(|item| stamps[item as usize] = stamp);
         let running = Client { set, stamps, ..Client::INITIAL };
-        let read = Ended { kind: READ, set, stamps, ..Ended::NONE };
+        let kind = self.random.pick(&[READ, FAST_READ]);
+        let read = Ended { kind, set, stamps, ..Ended::NONE };
         let write = Ended { kind: WRITE, set, stamp, ..Ended::NONE };
-        match self.random.below(6) {
+        let mode = self.random.pick(&[FIRST_PART, SECOND_PART]);
+        let awaited = set & self.random.number() | 1 << set.trailing_zeros();
+        let fast = Client { mode, set, awaited, ..Client::INITIAL };
+        // Of one item alone, fetched again or not.
+        if fast.first_replied() != 0 {
+            let kept: Vec<u64> = items(fast.first_replied()).collect();
+            firsts[self.random.pick(&kept) as usize].stamp = stamp;
+        }
+        match self.random.below(10) {
             0 | 1 => Client { mode: WRITING, awaited: set, ..running },
             2 => Client { mode: READING, awaited: set, ..running },
             3 => Client { mode: IDLE, ..running },
             4 => Client { last: read, ..Client::INITIAL },
-            _ => Client { last: write, ..Client::INITIAL },
+            5 => Client { last: write, ..Client::INITIAL },
+            6 => Client { mode: FIRST_PART, awaited: set, ..running },
+            7 => Client { mode: SECOND_PART, awaited: set, ..running },
+            _ => Client { firsts, ..fast },
         }
     }
 

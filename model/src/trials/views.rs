@@ -4,7 +4,7 @@
 use super::Busy;
 use crate::random::Random;
 use crate::stamp::{Entry, Stamp};
-use crate::store::tables::{Client, Sizes, Tables, READING, WRITING};
+use crate::store::tables::{Client, Sizes, Tables, FIRST_PART, READING, SECOND_PART, WRITING};
 
 /// The block of a seed. Each view is a copy of another but for some entries, which are earlier,
 /// later, of another set or anything; now and then a client is busy.
@@ -87,7 +87,7 @@ impl Maker {
     /// Mostly idle, with any count.
     fn record(&mut self, client: u64) {
         let count = self.random.below(5);
-        let mode = self.random.pick(&[READING, WRITING]);
+        let mode = self.random.pick(&[READING, WRITING, FIRST_PART, SECOND_PART]);
         let mut busy = Client { mode, count, set: 1, awaited: 1, ..Client::INITIAL };
         busy.stamps[0] = Stamp::new(1, client);
         *self.tables.client_mut(client) = match self.random.below(5) {

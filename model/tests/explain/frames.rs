@@ -91,13 +91,16 @@ fn bytes_that_answer_no_such_frame_are_told() {
         ("02020000000000000003", "00"),
         ("040000", "000002"),
         ("040000", "0000000200"),
-        ("040000", "0006000200"),
+        ("040000", "0008000200"),
         ("040000", "0001000203"),
         ("0502", "00"),
         ("0502", "002102"),
         ("0502", "13"),
         ("0502", "00220201"),
         ("06", "00"),
+        ("06020000000000000003", "00"),
+        ("06020000000000000003", "0006000200"),
+        ("07", "00"),
         ("40", "00"),
         ("40", "00000000"),
         ("410102", "00"),
@@ -149,6 +152,28 @@ fn a_comparison_is_said_with_how_the_first_stands_to_the_second() {
     for (answer, sentence) in standings {
         assert_eq!(said("420108", answer), format!("{asked}: {sentence}"));
     }
+}
+
+#[test]
+fn a_fast_read_is_said_from_its_start_to_its_showing() {
+    assert_eq!(
+        said("06020000000000000003", "000002"),
+        "client 2 starts a fast read of items 0 and 1: accepted, 2 messages in flight"
+    );
+    let delivered = "the message at place 0 is delivered";
+    assert_eq!(
+        said("040000", "0006000200"),
+        format!("{delivered}: a first get, 2 messages in flight")
+    );
+    assert_eq!(
+        said("040000", "0007000001"),
+        format!("{delivered}: a first reply, 0 messages in flight; with it a read ends")
+    );
+    assert_eq!(
+        said("0502", "0023020000000000000001000000010100000007"),
+        "client 2 is asked what it ended last: client 2 shows by a fast read item 0 from write \
+         number 1 of client 1, value 7"
+    );
 }
 
 #[test]

@@ -28,6 +28,15 @@ log line 4: client 8 shows item 0 from write number 2147483648 of client 8, valu
 }
 
 #[test]
+fn a_fast_read() {
+    assert_lines(
+        "23020000000000000003000000010100000007000000000000000000\n",
+        "log line 1: client 2 shows by a fast read item 0 from write number 1 of client 1, value 7; \
+         item 1 initial\n",
+    );
+}
+
+#[test]
 fn a_hand_over() {
     assert_lines("220108\n", "log line 1: client 1 hands over to client 8\n");
 }

@@ -45,7 +45,9 @@ fn the_text_of_a_line() {
 fn the_kind_and_length_of_a_store_frame() {
     let frames = [
         ("00", "unknown kind 00"),
-        ("06", "unknown kind 06"),
+        ("06", "wrong length: a fast read has 10 bytes, this 1"),
+        ("060200000000000003", "wrong length: a fast read has 10 bytes, this 9"),
+        ("07", "unknown kind 07"),
         ("20", "unknown kind 20"),
         ("010202", "wrong length: a fresh start has 4 bytes, this 3"),
         ("0102020202", "wrong length: a fresh start has 4 bytes, this 5"),
@@ -76,7 +78,10 @@ fn the_kind_and_length_of_a_store_frame() {
 #[test]
 fn the_kind_and_length_of_a_log_line() {
     let lines = [
-        ("23010000000000000001", "unknown kind 23"),
+        ("24010000000000000001", "unknown kind 24"),
+        ("25010000000000000001", "unknown kind 25"),
+        ("23010000000000000001", "wrong length: a fast read of 1 item has 19 bytes, this 10"),
+        ("2301", "wrong length: 2, too short for a client and a set"),
         ("22010000000000000001", "wrong length: a hand-over has 3 bytes, this 10"),
         ("2201", "wrong length: a hand-over has 3 bytes, this 2"),
         ("1f", "unknown kind 1f"),

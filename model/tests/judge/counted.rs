@@ -1,7 +1,9 @@
 //! Verdicts on every small log, on every log with one byte spoiled, and on every log cut off, as
 //! counted and found by hand.
 
-use koolvent_model::judge::generate::{every_small_log, every_small_log_with_hand_overs};
+use koolvent_model::judge::generate::{
+    every_small_log, every_small_log_with_hand_overs, with_kinds,
+};
 use koolvent_model::judge::{examples, judge, Verdict};
 
 /// How often each sort of verdict was met.
@@ -48,6 +50,20 @@ fn every_small_log_by_what_was_counted() {
     assert_eq!(tally.clean, 10 * 73 * 9 - tally.own_write_missed);
 }
 
+/// The same logs with a fast read for the read: what was missed is clean.
+#[test]
+fn every_small_log_of_a_fast_read_by_what_was_counted() {
+    let mut tally = Tally::default();
+    for log in every_small_log() {
+        tally.count(judge(&with_kinds(&log, b"21", b"23")));
+    }
+    assert_eq!(tally.malformed, 6 * 9 * 35 * 9);
+    assert_eq!(tally.unwritten, 10 * (9 * 35 - 89) * 9);
+    assert_eq!(tally.fractured, 10 * 16 * 9);
+    assert_eq!(tally.own_write_missed, 0);
+    assert_eq!(tally.clean, 10 * 73 * 9);
+}
+
 /// Counted by hand. There are 3 writers, 36 pairs of hand-overs, 3 readers, 2 entries and 24
 /// orders. A read that shows the write is clean, wherever the write stands. One that shows the
 /// initial entry misses the write if that stands above it, in 12 of the orders, and is the reader's
@@ -76,6 +92,7 @@ fn good_logs() -> Vec<Vec<u8>> {
         "clean read above a fault",
         "equal numbers, sibling of a greater client",
         "chain in order",
+        "own write missed below a fast read",
     ];
     let logs: Vec<Vec<u8>> = examples::all()
         .into_iter()

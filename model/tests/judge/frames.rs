@@ -13,6 +13,8 @@ const READ: &[u8] = &[
     0x01, 0x02, 0x03, 0x04,
 ];
 
+const FAST_READ: &[u8] =
+    &[0x23, 0x02, 0, 0, 0, 0, 0, 0, 0, 0x10, 0, 0, 0, 0x09, 0x03, 0, 0, 0, 0x04];
 const HAND_OVER: &[u8] = &[0x22, 0x08, 0x03];
 
 fn write() -> LogFrame {
@@ -61,9 +63,20 @@ fn frames_have_the_bytes_of_the_paper() {
     assert_eq!(write().line(), "200380000000000000020001020300000007fffefdfc\n");
     assert_eq!(LogFrame::parse(WRITE), Ok(write()));
     assert_eq!(LogFrame::parse(READ), Ok(read()));
+    let fast = LogFrame::of_fast_read(2, 0x10, vec![Shown { number: 9, client: 3, value: 4 }]);
+    assert_eq!(fast.bytes(), FAST_READ);
+    assert_eq!(LogFrame::parse(FAST_READ), Ok(fast));
     let hand_over = LogFrame::of_hand_over(8, 3);
     assert_eq!((hand_over.bytes(), hand_over.line()), (HAND_OVER.to_vec(), "220803\n".to_owned()));
     assert_eq!(LogFrame::parse(HAND_OVER), Ok(hand_over));
+}
+
+#[test]
+fn a_fast_read_is_laid_out_as_a_read_and_is_another_frame() {
+    let as_read = [&[0x21], &FAST_READ[1..]].concat();
+    let [fast, read] = [FAST_READ, &as_read].map(|bytes| LogFrame::parse(bytes).expect("a frame"));
+    assert_eq!((fast.shown(), fast.written()), (read.shown(), Vec::new()));
+    assert_ne!(fast, read);
 }
 
 #[test]
@@ -74,7 +87,7 @@ fn a_hand_over_shows_and_writes_nothing() {
 
 #[test]
 fn every_truncation_and_extension_of_a_frame_is_refused() {
-    for frame in [WRITE, READ, HAND_OVER] {
+    for frame in [WRITE, READ, FAST_READ, HAND_OVER] {
         for length in 0..frame.len() {
             assert!(LogFrame::parse(&frame[..length]).is_err());
         }
@@ -86,8 +99,8 @@ fn every_truncation_and_extension_of_a_frame_is_refused() {
 
 #[test]
 fn other_kinds_are_refused() {
-    for kind in (0..0x20).chain(0x23..=0xff) {
-        for frame in [WRITE, READ, HAND_OVER] {
+    for kind in (0..0x20).chain(0x24..=0xff) {
+        for frame in [WRITE, READ, FAST_READ, HAND_OVER] {
             assert!(LogFrame::parse(&[&[kind], &frame[1..]].concat()).is_err());
         }
     }
@@ -99,10 +112,11 @@ fn parsing_leaves_clients_sets_and_numbers_to_the_judge() {
         LogFrame::of_write(0, 0, 0, vec![]),
         LogFrame::of_write(255, u64::MAX, u32::MAX, vec![u32::MAX; 64]),
         LogFrame::of_read(9, 0, vec![]),
+        LogFrame::of_fast_read(9, 0, vec![]),
         LogFrame::of_hand_over(0, 9),
         LogFrame::of_hand_over(255, 255),
     ];
-    let lengths = [14, 270, 10, 3, 3];
+    let lengths = [14, 270, 10, 10, 3, 3];
     for (frame, length) in frames.into_iter().zip(lengths) {
         assert_eq!(frame.bytes().len(), length);
         assert_eq!(LogFrame::parse(&frame.bytes()), Ok(frame));
@@ -115,7 +129,7 @@ fn random_bytes_are_no_frame_or_the_bytes_of_their_frame() {
     let mut below = |bound| random.below(bound);
     let mut parsed = 0;
     for _ in 0..20_000 {
-        let mut bytes = vec![0x20 + below(3) as u8, below(256) as u8];
+        let mut bytes = vec![0x20 + below(4) as u8, below(256) as u8];
         let set = below(4) << (below(3) * 31);
         bytes.extend(set.to_be_bytes());
         bytes.extend((0..below(30)).map(|_| below(256) as u8));

@@ -1,8 +1,8 @@
 //! Wrong judges: the hand-worked examples and the random logs each tell them from a right one.
 
-use koolvent_model::frames::log::LogFrame;
+use koolvent_model::frames::log::{LogFrame, Manner};
 use koolvent_model::judge::findings::{fractured, own_write_missed, unwritten, Finding};
-use koolvent_model::judge::generate::random_log;
+use koolvent_model::judge::generate::{random_log, random_long_log, with_kinds};
 use koolvent_model::judge::{examples, judge, judge_by, Verdict};
 use koolvent_model::random::Random;
 use koolvent_model::stamp::Stamp;
@@ -17,12 +17,12 @@ fn mistaken(judge: &dyn Fn(&[u8]) -> Verdict) -> Vec<&'static str> {
         .collect()
 }
 
-/// The example catches the wrong judge, and so does one of a thousand random logs.
+/// The example catches the wrong judge, and so does one of five thousand random logs.
 fn assert_caught(wrong: &dyn Fn(&[u8]) -> Verdict, example: &str) {
     let mistaken = mistaken(wrong);
     assert!(mistaken.contains(&example), "wrong on {mistaken:?} only");
     let mut random = Random::new(5);
-    let mut logs = (0..1_000).map(|_| random_log(&mut random));
+    let mut logs = (0..5_000).map(|_| random_log(&mut random));
     assert!(logs.any(|log| wrong(&log) != judge(&log)));
 }
 
@@ -172,6 +172,9 @@ fn writes_of_any_client_counted_as_own_are_caught() {
 /// Finding 3 with another reading of what counts as a client's own: at this line of the log, what
 /// the writes at these lines wrote.
 fn missed_by(log: &[LogFrame], place: usize, own: impl Fn(usize) -> bool) -> Option<String> {
+    if log[place].read.as_ref()?.manner != Manner::Ordinary {
+        return None;
+    }
     let own: Vec<_> =
         (0..log.len()).filter(|line| own(*line)).flat_map(|line| log[line].written()).collect();
     let fault = log[place]
@@ -336,6 +339,45 @@ fn a_hand_over_to_oneself_taken_is_caught() {
         judge(&lines.filter(|line| !to_oneself(line)).collect::<Vec<_>>().concat())
     };
     assert_caught(&lax, "hand-over to the giver itself");
+}
+
+#[test]
+fn fast_reads_judged_as_ordinary_ones_are_caught() {
+    let strict = |log: &[u8]| judge(&with_kinds(log, b"23", b"21"));
+    assert_caught(&strict, "own write missed by a fast read");
+    assert_caught(&strict, "giver's write missed by a fast read");
+    let mut random = Random::new(7);
+    let long = (0..50).map(|_| random_long_log(&mut random));
+    assert!(long.filter(|log| strict(log) != judge(log)).count() >= 5);
+}
+
+#[test]
+fn ordinary_reads_judged_as_fast_ones_are_caught() {
+    let lax = |log: &[u8]| judge(&with_kinds(log, b"21", b"23"));
+    assert_caught(&lax, "own write missed below a fast read");
+}
+
+#[test]
+fn fast_reads_let_pass_are_caught() {
+    fn is_fast(frame: &LogFrame) -> bool {
+        frame.bytes()[0] == 0x23
+    }
+    fn not_unwritten(log: &[LogFrame], place: usize) -> Option<String> {
+        unwritten(log, place).filter(|_| !is_fast(&log[place]))
+    }
+    fn not_fractured(log: &[LogFrame], place: usize) -> Option<String> {
+        fractured(log, place).filter(|_| !is_fast(&log[place]))
+    }
+    let wrong = judge_with([not_unwritten, fractured, own_write_missed]);
+    assert_caught(&wrong, "unwritten fast read");
+    let wrong = judge_with([unwritten, not_fractured, own_write_missed]);
+    assert_caught(&wrong, "fractured fast read");
+}
+
+#[test]
+fn fast_reads_refused_are_caught() {
+    let refusing = |log: &[u8]| judge(&with_kinds(log, b"23", b"26"));
+    assert_caught(&refusing, "whole fast read");
 }
 
 #[test]

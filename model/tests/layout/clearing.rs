@@ -25,11 +25,11 @@ fn versions_that_stay_move_down_and_all_other_words_but_the_count_stay() {
         words[field.place] = field.word;
     }
     assert_eq!(words[3], 4);
-    assert_eq!(words[3344..3361], [2, 4, 18, 4, 0, 7, 17, 3, 1, 5, 18, 2, 1, 8, 17, 3, 9]);
+    assert_eq!(words[4368..4385], [2, 4, 18, 4, 0, 7, 17, 3, 1, 5, 18, 2, 1, 8, 17, 3, 9]);
 
     let mut expected = words.clone();
     expected[3] = 2;
-    expected[3344..3352].copy_from_slice(&[0, 7, 17, 3, 1, 8, 17, 3]);
+    expected[4368..4376].copy_from_slice(&[0, 7, 17, 3, 1, 8, 17, 3]);
     assert_eq!(Modelled::default().clear(&mut words), 2 << 8);
     assert_eq!(words, expected);
 

@@ -6,12 +6,13 @@ use koolvent_model::runs::{run_watched, tables_amid, Sort as Runs};
 use koolvent_model::stamp::{Entry, Stamp};
 use koolvent_model::store::message::Message;
 use koolvent_model::store::tables::{
-    Client, Ended, Sizes, Tables, Version, READ, READING, WRITE, WRITING,
+    Client, Ended, Sizes, Tables, Version, FAST_READ, READ, READING, SECOND_PART, WRITE, WRITING,
 };
 use std::collections::{BTreeMap, BTreeSet};
 
-/// The largest tables, all of whose words that can be fields are: half of the clients read and have
-/// ended writes, half write and have ended reads.
+/// The largest tables, all of whose words that can be fields are: two of the clients read and have
+/// ended writes, two fetch items again and have ended fast reads, and four write and have ended
+/// reads, two of them fast.
 fn full_tables() -> Tables {
     let mut tables = Tables::fresh(Sizes::new(8, 8, 64));
     let stamp = Stamp::new(u64::from(u32::MAX), 8);
@@ -19,12 +20,15 @@ fn full_tables() -> Tables {
     tables.latest = [entry; 64];
     tables.view = [[entry; 64]; 8];
     for (place, record) in tables.clients.iter_mut().enumerate() {
-        let (mode, kind) = [(READING, WRITE), (WRITING, READ)][place % 2];
+        let (mode, kind) =
+            [(READING, WRITE), (WRITING, READ), (SECOND_PART, FAST_READ), (WRITING, FAST_READ)]
+                [place % 4];
         let mut last = Ended { kind, set: u64::MAX, values: [1; 64], ..Ended::NONE };
         match kind {
-            READ => last.stamps = [stamp; 64],
-            _ => last.stamp = stamp,
+            WRITE => last.stamp = stamp,
+            _ => last.stamps = [stamp; 64],
         }
+        let firsts = if mode == SECOND_PART { [entry; 64] } else { [Entry::INITIAL; 64] };
         *record = Client {
             mode,
             count: 1,
@@ -32,6 +36,7 @@ fn full_tables() -> Tables {
             awaited: u64::MAX,
             stamps: [stamp; 64],
             values: [1; 64],
+            firsts,
             last,
         };
     }
@@ -50,8 +55,9 @@ fn fields_lie_within_the_needed_length_and_no_two_at_one_place() {
     let places: BTreeSet<usize> = fields.iter().map(|field| field.place).collect();
     assert_eq!(places.len(), fields.len());
     assert_eq!(places.last(), Some(&(NEEDED - 1)));
-    // Header, scalars, latest, views, asked and last stamps, values, versions, messages.
-    let of_clients = 8 * 7 + 4 * 64 + 4 * 64 + 2 * 8 * 64;
+    // Header, scalars, asked and last stamps, values, first replies, latest, views, versions,
+    // messages.
+    let of_clients = 8 * 6 + 4 + 2 + 4 * 64 + 6 * 64 + 2 * 8 * 64 + 2 * 128;
     let count = 5 + of_clients + 128 + 8 * 128 + 4 * 512 + 8 * 128;
     assert_eq!(fields.len(), count);
     for field in fields {
@@ -93,8 +99,8 @@ fn words_that_are_no_field_say_nothing() {
 #[test]
 fn another_word_in_a_field_is_another_table_or_none() {
     let mut sorts = BTreeMap::new();
-    for seed in 0..12 {
-        let tables = tables_amid(Runs::Small, seed);
+    let small = (0..12).map(|seed| tables_amid(Runs::Small, seed));
+    for tables in small.chain((4..6).map(|seed| tables_amid(Runs::AnySize, seed))) {
         let mut words = encode(&tables);
         for field in fields(&tables) {
             for other in [field.word ^ 1, field.word ^ 1 << 40, !field.word] {
@@ -105,7 +111,7 @@ fn another_word_in_a_field_is_another_table_or_none() {
             *sorts.entry(field.sort).or_insert(0) += 1;
         }
     }
-    assert_eq!(sorts.len(), 15, "{sorts:?}");
+    assert_eq!(sorts.len(), 17, "{sorts:?}");
 }
 
 #[test]

@@ -1,22 +1,14 @@
 //! The words of a session, worked out by hand.
 
+use crate::assert_words;
 use koolvent_model::layout::{decode, encode};
 use koolvent_model::store::tables::Sizes;
 use koolvent_model::store::Store;
 
-/// The words that aren't 0, as the place of the first of a row and the row.
-fn assert_words(store: &Store, rows: &[(usize, &[u64])]) {
-    let mut expected = vec![0; 6416];
-    for (place, row) in rows {
-        expected[*place..][..row.len()].copy_from_slice(row);
-    }
+/// The words of the store's tables that aren't 0.
+fn assert_encoded(store: &Store, rows: &[(usize, &[u64])]) {
     let words = encode(&store.tables);
-    assert_eq!(words.len(), 6416);
-    let differ: Vec<(usize, u64, u64)> = (0..6416)
-        .filter(|place| words[*place] != expected[*place])
-        .map(|place| (place, words[place], expected[place]))
-        .collect();
-    assert_eq!(differ, [], "place, encoded, worked out by hand");
+    assert_words(&words, &[0; 7440], rows);
     assert_eq!(decode(&words).as_ref(), Some(&store.tables));
 }
 
@@ -26,27 +18,27 @@ fn assert_words(store: &Store, rows: &[(usize, &[u64])]) {
 fn the_words_of_the_session() {
     let mut store = Store::new();
     store.fresh(true, Sizes::new(2, 2, 3));
-    assert_words(&store, &[(0, &[2, 2, 3])]);
+    assert_encoded(&store, &[(0, &[2, 2, 3])]);
 
     store.start_write(1, 0b11, &[0, 0, 0, 7, 0, 0, 0, 8]);
     let prepares: [u64; 16] = [1, 0, 0, 7, 17, 3, 0, 0, 1, 0, 1, 8, 17, 3, 0, 0];
-    assert_words(
+    assert_encoded(
         &store,
-        &[(0, &[2, 2, 3, 0, 2]), (16, &[2, 1, 3, 3, 17]), (1808, &[7, 8]), (5392, &prepares)],
+        &[(0, &[2, 2, 3, 0, 2]), (16, &[2, 1, 3, 3, 17]), (1808, &[7, 8]), (6416, &prepares)],
     );
 
     store.deliver(0);
     store.deliver(0);
     let versions: [u64; 8] = [0, 7, 17, 3, 1, 8, 17, 3];
     let replies: [u64; 16] = [2, 0, 0, 0, 17, 0, 0, 0, 2, 0, 1, 0, 17, 0, 0, 0];
-    assert_words(
+    assert_encoded(
         &store,
         &[
             (0, &[2, 2, 3, 2, 2]),
             (16, &[2, 1, 3, 3, 17]),
             (1808, &[7, 8]),
-            (3344, &versions),
-            (5392, &replies),
+            (4368, &versions),
+            (6416, &replies),
         ],
     );
 
@@ -58,26 +50,26 @@ fn the_words_of_the_session() {
         (144, &[17, 3]),
         (272, &[17, 3, 17, 3]),
         (2832, &[7, 8]),
-        (3344, &versions),
+        (4368, &versions),
     ];
     let commit: [u64; 8] = [3, 1, 0, 0, 17, 0, 0, 0];
-    let after_the_write = [&written[..], &[(0, &[2, 2, 3, 2, 1]), (5392, &commit)]];
-    assert_words(&store, &after_the_write.concat());
+    let after_the_write = [&written[..], &[(0, &[2, 2, 3, 2, 1]), (6416, &commit)]];
+    assert_encoded(&store, &after_the_write.concat());
 
     store.start_read(2, 0b11);
     store.deliver(1);
     let get: [u64; 8] = [4, 2, 1, 0, 0, 0, 0, 0];
     let got: [u64; 8] = [5, 2, 0, 0, 0, 0, 17, 3];
     let reading: [(usize, &[u64]); 5] =
-        [(0, &[2, 2, 3, 2, 3]), (32, &[1, 0, 3, 3]), (5392, &commit), (5400, &get), (5408, &got)];
-    assert_words(&store, &[&written[..], &reading].concat());
+        [(0, &[2, 2, 3, 2, 3]), (32, &[1, 0, 3, 3]), (6416, &commit), (6424, &get), (6432, &got)];
+    assert_encoded(&store, &[&written[..], &reading].concat());
 
     store.deliver(1);
     store.deliver(1);
     store.deliver(1);
     let read: [(usize, &[u64]); 4] =
-        [(0, &[2, 2, 3, 2, 1]), (32, &[0, 0, 0, 0, 0, 1, 3]), (400, &[17, 3]), (5392, &commit)];
-    assert_words(&store, &[&written[..], &read].concat());
+        [(0, &[2, 2, 3, 2, 1]), (32, &[0, 0, 0, 0, 0, 1, 3]), (400, &[17, 3]), (6416, &commit)];
+    assert_encoded(&store, &[&written[..], &read].concat());
 
     store.start_read(2, 0b110);
     let asked: [u64; 16] = [4, 2, 1, 0, 17, 0, 0, 0, 4, 2, 2, 0, 0, 0, 0, 0];
@@ -86,16 +78,16 @@ fn the_words_of_the_session() {
         (32, &[1, 0, 6, 6, 0, 1, 3]),
         (400, &[17, 3]),
         (1361, &[17]),
-        (5392, &commit),
-        (5400, &asked),
+        (6416, &commit),
+        (6424, &asked),
     ];
-    assert_words(&store, &[&written[..], &reading_again].concat());
+    assert_encoded(&store, &[&written[..], &reading_again].concat());
 
     store.deliver(1);
     store.deliver(1);
     let gots: [u64; 16] = [5, 2, 1, 8, 17, 3, 0, 0, 5, 2, 2, 0, 0, 0, 0, 0];
-    let answered = [&reading_again[..5], &[(5400, &gots)]].concat();
-    assert_words(&store, &[&written[..], &answered].concat());
+    let answered = [&reading_again[..5], &[(6424, &gots)]].concat();
+    assert_encoded(&store, &[&written[..], &answered].concat());
 
     store.deliver(1);
     store.deliver(1);
@@ -105,9 +97,9 @@ fn the_words_of_the_session() {
         (400, &[17, 3, 17, 3]),
         (2385, &[17]),
         (2897, &[8]),
-        (5392, &commit),
+        (6416, &commit),
     ];
-    assert_words(&store, &[&written[..], &read_again].concat());
+    assert_encoded(&store, &[&written[..], &read_again].concat());
 
     // Client 2 has seen number 1, so its first write has number 2, and its count is 2.
     store.start_write(2, 0b100, &[0, 0, 0, 9]);
@@ -119,8 +111,8 @@ fn the_words_of_the_session() {
         (1874, &[9]),
         (2385, &[17]),
         (2897, &[8]),
-        (5392, &commit),
-        (5400, &prepare),
+        (6416, &commit),
+        (6424, &prepare),
     ];
-    assert_words(&store, &[&written[..], &writing].concat());
+    assert_encoded(&store, &[&written[..], &writing].concat());
 }

@@ -1,8 +1,9 @@
-//! The exported call. Its logs are more than 100,000: 60,912 small ones and 40,000 random ones
+//! The exported call. Its logs are more than 200,000: 121,824 small ones and 80,000 random ones
 //! alone.
 
 use koolvent_model::judge::generate::{
     every_small_log, every_small_log_with_hand_overs, random_log, random_long_log, spoil,
+    with_kinds,
 };
 use koolvent_model::judge::{examples, judge, Verdict};
 use koolvent_model::proved;
@@ -71,23 +72,23 @@ fn random_logs() {
         tally.count(agreed(&random_log(&mut random)));
     }
     tally.assert_met(&[Sort::Malformed, Sort::CLEAN], 5_000);
-    tally.assert_met(&FINDINGS, 2_500);
+    tally.assert_met(&FINDINGS, 2_000);
 }
 
 #[test]
 fn random_logs_spoiled_once_or_more() {
     let mut random = Random::new(32);
     let mut tally = Tally::default();
-    for _ in 0..10_000 {
+    for _ in 0..40_000 {
         let mut log = random_log(&mut random);
         for _ in 0..=random.below(3) {
             spoil(&mut log, &mut random);
         }
         tally.count(agreed(&log));
     }
-    tally.assert_met(&[Sort::Malformed], 5_000);
-    tally.assert_met(&[Sort::CLEAN], 100);
-    tally.assert_met(&FINDINGS, 5);
+    tally.assert_met(&[Sort::Malformed], 20_000);
+    tally.assert_met(&[Sort::CLEAN], 400);
+    tally.assert_met(&FINDINGS, 10);
 }
 
 #[test]
@@ -111,6 +112,18 @@ fn every_small_log_of_a_write_two_hand_overs_and_a_read() {
         tally.count(agreed(log));
     }
     tally.assert_met(&[Sort::CLEAN, Sort::Finding(3)], 1_000);
+}
+
+/// The same logs with a fast read for the read, of which none misses an own write.
+#[test]
+fn every_small_log_of_a_fast_read() {
+    let mut tally = Tally::default();
+    for log in every_small_log().into_iter().chain(every_small_log_with_hand_overs()) {
+        tally.count(agreed(&with_kinds(&log, b"21", b"23")));
+    }
+    tally.assert_met(&[Sort::Malformed, Sort::CLEAN], 1_000);
+    tally.assert_met(&[Sort::Finding(1), Sort::Finding(2)], 500);
+    assert_eq!(tally.met.get(&Sort::Finding(3)), None);
 }
 
 #[test]

@@ -27,6 +27,7 @@ fn small_blocks() {
     assert!(damaged.valid >= 30_000, "{damaged:?}");
     assert!(damaged.met.rarest_accepted() >= 500, "{damaged:?}");
     damaged.met.assert_refused(&[1, 2, 3, 4, 5, 6, 7, 10, 11, 12, 13, 14, 18], 20);
+    damaged.met.assert_refused_by_kind(10);
 }
 
 #[test]
@@ -58,4 +59,5 @@ fn blocks_unlike_any_that_calls_leave() {
     assert!(damaged.valid >= 10_000, "{damaged:?}");
     assert!(damaged.met.rarest_accepted() >= 150, "{damaged:?}");
     damaged.met.assert_refused(&[1, 2, 3, 4, 5, 6, 7, 8, 9, 10, 11, 12, 13, 14, 17, 18], 100);
+    damaged.met.assert_refused_by_kind(500);
 }

@@ -7,7 +7,7 @@ use koolvent_model::proved::store::Proved;
 use koolvent_model::random::Random;
 use koolvent_model::runs::Sort;
 use koolvent_model::trials::range::{every_field, lengths, random_words, Judged};
-use koolvent_model::trials::{brimming, Busy, Difference};
+use koolvent_model::trials::{brimming, Busy, Difference, BRIMMING_SORTS};
 use std::ops::Range;
 
 /// Whether the block is valid: 1 goes before 3, and no block has a client 0.
@@ -52,6 +52,8 @@ fn assert_both_met(judged: &Judged, times: usize) {
         Field::Value,
         Field::Stamp,
         Field::Set,
+        Field::FirstStamp,
+        Field::FirstSet,
     ];
     for field in fields {
         for met in [&judged.valid, &judged.invalid] {
@@ -119,7 +121,7 @@ fn every_length_of_a_block() {
 fn every_field_of_blocks_at_the_brim_of_a_capacity() {
     let mut random = Random::new(1);
     let mut judged = Judged::default();
-    for busy in brimming().iter().take(16) {
+    for busy in brimming().iter().take(2 * BRIMMING_SORTS) {
         assert!(valid(&busy.words));
         let held = every_field(&valid, busy, &mut random, &mut judged);
         assert_eq!(held, Ok(()));

@@ -6,9 +6,10 @@ use crate::program::{agreed, printed};
 /// A frame of each kind, the shortest and the longest write among them.
 fn frames() -> Vec<String> {
     let write = |values: usize| format!("0301000000000000000f{}", "0000002a".repeat(values));
-    let others = ["01020204", "0201000000000000000f", "040000", "0501", "40", "410102", "420201"];
+    let starts = ["01020204", "0201000000000000000f", "0601000000000000000f"];
+    let others = ["040000", "0501", "40", "410102", "420201"];
     let writes = [0, 1, 4, 64].map(write);
-    others.map(str::to_owned).into_iter().chain(writes).collect()
+    starts.into_iter().chain(others).map(str::to_owned).chain(writes).collect()
 }
 
 const FRESH: &str = "01020204\n";

@@ -17,6 +17,7 @@ fn line(call: &Call) -> Option<String> {
         }
         Call::Fresh { .. } => return None,
         Call::Read { client, set } => [&[2, byte(*client)?], &set.to_be_bytes()[..]].concat(),
+        Call::FastRead { client, set } => [&[6, byte(*client)?], &set.to_be_bytes()[..]].concat(),
         Call::Write { client, set, values } => {
             [&[3, byte(*client)?], &set.to_be_bytes()[..], values].concat()
         }

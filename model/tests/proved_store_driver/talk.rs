@@ -67,9 +67,9 @@ impl Drop for Talk {
     }
 }
 
-/// A write and a read of two items, showings, clearings, a hand-over, comparisons, and lines that
-/// are refused.
-const LINES: [&str; 26] = [
+/// A write and a read of two items, a fast read that fetches one again, showings, clearings, a
+/// hand-over, comparisons, and lines that are refused.
+const LINES: [&str; 36] = [
     "0501",
     "40",
     "410102",
@@ -94,6 +94,16 @@ const LINES: [&str; 26] = [
     "410101",
     "420201",
     "41010",
+    "040000",
+    "06020000000000000003",
+    "060200000000000003",
+    "040001",
+    "040001",
+    "040001",
+    "040001",
+    "040001",
+    "040001",
+    "0502",
     "0G",
     "400",
 ];

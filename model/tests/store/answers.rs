@@ -94,4 +94,8 @@ fn a_number_is_an_answer_only_to_a_call_that_can_give_it() {
     let read = Call::Read { client: 1, set: 1 };
     assert_eq!(Answer::of(&read, 0x8000), Some(Answer::Started { messages: 128 }));
     assert_eq!(Answer::of(&read, 1 << 24), None);
+    let fast = Call::FastRead { client: 1, set: 1 };
+    assert_eq!(Answer::of(&fast, 0x8000), Some(Answer::Started { messages: 128 }));
+    assert_eq!(Answer::of(&fast, 8), Some(Answer::Refused(8)));
+    assert_eq!(Answer::of(&fast, 17), None);
 }

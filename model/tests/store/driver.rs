@@ -16,7 +16,7 @@ fn a_last_line_without_its_end_is_15() {
 
 #[test]
 fn other_lines_are_15_and_the_next_line_goes_on() {
-    let others: [&[u8]; 26] = [
+    let others: [&[u8]; 29] = [
         b"",
         b"\r",
         b"01020202\r",
@@ -28,6 +28,9 @@ fn other_lines_are_15_and_the_next_line_goes_on() {
         b"0A",
         b"00",
         b"06",
+        b"060100000000000001",
+        b"0601000000000000000100",
+        b"07",
         b"20",
         b"01\x00\x00\x00\x00\x00\x00",
         b"0x020202",
@@ -59,6 +62,8 @@ fn malformed_is_15_even_before_a_fresh() {
 fn well_formed_frames_before_an_accepted_fresh_are_1() {
     let frames = [
         "02010000000000000001",
+        "06010000000000000001",
+        "06000000000000000000",
         "0301000000000000000100000001",
         "03010000000000000001",
         "040000",
@@ -239,6 +244,46 @@ fn two_that_each_know_of_a_write_are_neither() {
         ("0303000000000000000200000006\n040001\n040001\n", "000002\n0001000200\n0002000202\n"),
         ("420103\n420301\n420102\n420203\n", "0003\n0003\n0002\n0001\n"),
         ("410103\n420103\n420301\n", "00220103\n0001\n0002\n"),
+    ];
+    let (input, output): (Vec<&str>, Vec<&str>) = steps.into_iter().unzip();
+    assert_eq!(run(input.concat().as_bytes()), output.concat());
+}
+
+/// Of client 1's write of items 0 and 1 item 1's commit stays in flight. Client 2's fast read finds
+/// item 1 older than item 0 shows, fetches it again, and shows the write whole; so does client 1's
+/// of item 0 with its first reply.
+#[test]
+fn a_fast_read_fetches_again_what_a_sibling_shows_to_be_older() {
+    let steps = [
+        ("01020202\n", "00\n"),
+        ("030100000000000000030000000700000008\n", "000002\n"),
+        ("040000\n040000\n040000\n", "0001000200\n0001000200\n0002000100\n"),
+        ("040000\n040000\n", "0002000202\n0003000100\n"),
+        ("06020000000000000003\n0502\n", "000003\n04\n"),
+        ("040001\n040001\n", "0006000300\n0006000300\n"),
+        ("040001\n040001\n", "0007000200\n0007000200\n"),
+        ("040001\n040001\n", "0004000200\n0005000101\n"),
+        ("0502\n", "0023020000000000000003000000010100000007000000010100000008\n"),
+        ("06010000000000000001\n040001\n", "000002\n0006000200\n"),
+        ("040001\n0501\n", "0007000101\n0023010000000000000001000000010100000007\n"),
+    ];
+    let (input, output): (Vec<&str>, Vec<&str>) = steps.into_iter().unzip();
+    assert_eq!(run(input.concat().as_bytes()), output.concat());
+}
+
+/// Client 1 has ended its write and reads it, but a fast read asks for what is committed.
+#[test]
+fn a_fast_read_may_miss_its_client_s_own_uncommitted_write() {
+    let steps = [
+        ("01010101\n", "00\n"),
+        ("0301000000000000000100000005\n040000\n040000\n", "000001\n0001000100\n0002000102\n"),
+        ("06010000000000000001\n040001\n040001\n", "000002\n0006000200\n0007000101\n"),
+        ("0501\n", "0023010000000000000001000000000000000000\n"),
+        ("02010000000000000001\n040001\n040001\n", "000002\n0004000200\n0005000101\n"),
+        ("0501\n", "0021010000000000000001000000010100000005\n"),
+        ("040000\n", "0003000000\n"),
+        ("06010000000000000001\n040000\n040000\n", "000001\n0006000100\n0007000001\n"),
+        ("0501\n", "0023010000000000000001000000010100000005\n"),
     ];
     let (input, output): (Vec<&str>, Vec<&str>) = steps.into_iter().unzip();
     assert_eq!(run(input.concat().as_bytes()), output.concat());

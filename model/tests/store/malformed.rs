@@ -4,7 +4,7 @@ use koolvent_model::call::Call;
 use koolvent_model::frames::store::{parse, run};
 use koolvent_model::random::Random;
 
-const GOOD: [&str; 10] = [
+const GOOD: [&str; 11] = [
     "01020202",
     "02020000000000000003",
     "030100000000000000030000000700000008",
@@ -12,6 +12,7 @@ const GOOD: [&str; 10] = [
     "040001",
     "0502",
     "02ffffffffffffffffff",
+    "06020000000000000003",
     "40",
     "410102",
     "42ff00",
@@ -27,7 +28,7 @@ fn has_a_length_of_its_kind(bytes: &[u8]) -> bool {
     let length = bytes.len();
     match bytes.first() {
         Some(1) => length == 4,
-        Some(2) => length == 10,
+        Some(2 | 6) => length == 10,
         Some(3) => (10..=266).contains(&length) && length % 4 == 2,
         Some(4) => length == 3,
         Some(5) => length == 2,
@@ -45,6 +46,7 @@ fn every_good_frame_is_parsed() {
     let set = 3;
     let values = vec![0, 0, 0, 7, 0, 0, 0, 8];
     assert_eq!(parsed(GOOD[2].as_bytes()), Some(Call::Write { client: 1, set, values }));
+    assert_eq!(parsed(b"06020000000000000003"), Some(Call::FastRead { client: 2, set }));
     assert_eq!(parsed(b"410102"), Some(Call::HandOver { giver: 1, receiver: 2 }));
     assert_eq!(parsed(b"42ff00"), Some(Call::Compare { first: 255, second: 0 }));
 }

@@ -3,6 +3,7 @@
 
 mod model;
 mod wrong_calls;
+mod wrong_promises;
 mod wrong_range;
 mod wrong_store;
 
@@ -15,7 +16,7 @@ use koolvent_model::trials::edges::edges;
 use koolvent_model::trials::hand_overs::hand_overs;
 use koolvent_model::trials::range::{every_field, random_words, Judged, Valid};
 use koolvent_model::trials::runs::{random_runs, Runs};
-use koolvent_model::trials::{brimming, Busy, Difference, Met};
+use koolvent_model::trials::{brimming, Busy, Difference, Met, BRIMMING_SORTS};
 
 /// Runs of every sort.
 fn runs(served: &dyn Calls) -> Result<Runs, Difference> {
@@ -49,10 +50,10 @@ fn edge_calls(served: &dyn Calls) -> Result<Met, Difference> {
     for seed in 0..4 {
         edges(served, &Busy::new(Sort::Small, seed), &mut met)?;
     }
-    for busy in brimming().iter().take(8) {
+    for busy in brimming().iter().take(BRIMMING_SORTS) {
         edges(served, busy, &mut met)?;
     }
-    for seed in 95..155 {
+    for seed in 95..165 {
         edges(served, &Busy::unlike_any(seed), &mut met)?;
     }
     Ok(met)
@@ -72,15 +73,16 @@ fn handed_over(served: &dyn Calls) -> Result<Met, Difference> {
     Ok(met)
 }
 
-/// Damaged blocks of every sort, valid or not.
+/// Damaged blocks of every sort, small, unlike any that calls leave or at the brim of a capacity,
+/// valid or not.
 fn range(valid: &Valid) -> Result<Judged, Difference> {
     let mut random = Random::new(1);
     let mut judged = Judged::default();
-    for seed in 0..10 {
-        let small = Busy::new(Sort::Small, seed);
-        every_field(valid, &small, &mut random, &mut judged)?;
+    let small = (0..10).map(|seed| Busy::new(Sort::Small, seed));
+    for busy in small.chain((16..22).map(Busy::unlike_any)) {
+        every_field(valid, &busy, &mut random, &mut judged)?;
     }
-    for busy in brimming().iter().take(8) {
+    for busy in brimming().iter().take(BRIMMING_SORTS) {
         every_field(valid, busy, &mut random, &mut judged)?;
         random_words(valid, busy, 500, &mut random, &mut judged)?;
     }

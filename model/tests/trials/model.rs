@@ -14,6 +14,12 @@ fn runs_meet_every_call_and_most_refusals() {
     assert!(runs.corrections >= 50, "{runs:?}");
     assert!(runs.shown_again >= 200, "{runs:?}");
     assert!(runs.met.gone >= 500 && runs.served >= 20, "{runs:?}");
+    assert!(runs.fast_reads_shown >= 400 && runs.fetched_again >= 50, "{runs:?}");
+    assert!(runs.own_missed >= 100 && runs.fallen >= 5, "{runs:?}");
+    assert!(runs.fast_shown_again >= 200, "{runs:?}");
+    assert!(runs.fast_gots >= 50 && runs.stored_meanwhile >= 10, "{runs:?}");
+    assert!(runs.committed_before >= 700 && runs.own_committed >= 350, "{runs:?}");
+    assert!(runs.committed_meanwhile >= 150, "{runs:?}");
 }
 
 #[test]
@@ -21,15 +27,20 @@ fn damages_meet_every_call_and_refusal() {
     let damaged = crate::damages(&Modelled::default()).expect("the model's own answers");
     assert!(damaged.met.rarest_accepted() >= 30, "{damaged:?}");
     damaged.met.assert_refused(&[1, 2, 3, 4, 5, 6, 7, 8, 10, 11, 12, 13, 14, 17, 18], 1);
+    damaged.met.assert_refused_by_kind(20);
     assert!(damaged.valid >= 1_000, "{damaged:?}");
 }
 
 #[test]
 fn edges_meet_starts_deliveries_and_their_refusals() {
     let met = crate::edge_calls(&Modelled::default()).expect("the model's own answers");
-    assert!(met.reads.min(met.writes).min(met.shown).min(met.cleared) >= 10, "{met:?}");
+    assert!(
+        met.reads.min(met.fast_reads).min(met.writes).min(met.shown).min(met.cleared) >= 10,
+        "{met:?}"
+    );
     assert!(met.handed_over.min(met.compared.iter().sum()) >= 10, "{met:?}");
     met.assert_refused(&[1, 2, 3, 4, 5, 6, 7, 8, 9, 10, 13, 14, 17, 18], 1);
+    met.assert_refused_by_kind(20);
 }
 
 #[test]

@@ -171,7 +171,14 @@ fn clearings_catch_a_write_under_way_forgotten_once_its_prepares_are_delivered()
 
 #[test]
 fn clearings_catch_wrong_words() {
-    for wrong in [Wrong::ClearsFreedPlaces, Wrong::AbsentEntriesSpare, Wrong::MarksARefusal] {
+    for wrong in [
+        Wrong::ClearsFreedPlaces,
+        Wrong::AbsentEntriesSpare,
+        Wrong::FirstsToComeSpare,
+        Wrong::FirstsOfAReadSpare,
+        Wrong::FirstsOfAnEndedReadSpare,
+        Wrong::MarksARefusal,
+    ] {
         assert!(cleared(&wrong).is_err(), "{wrong:?}");
     }
 }
@@ -225,6 +232,104 @@ fn hand_overs_catch_wrong_words() {
     for wrong in [Wrong::HandsOverAbsentItems, Wrong::ComparesAbsentItems, Wrong::MarksARefusal] {
         assert!(handed_over(&wrong).is_err(), "{wrong:?}");
     }
+}
+
+/// Those that read fast otherwise than document 02, P7.
+#[test]
+fn runs_and_edges_catch_every_wrong_fast_read() {
+    for fault in [
+        Fault::FastIsOrdinary,
+        Fault::FastReaderStarts,
+        Fault::FastReaderReads,
+        Fault::NewestFirst,
+        Fault::InitialFirst,
+        Fault::OlderFirst,
+        Fault::FirstFromTheView,
+        Fault::FirstRepliesUnseen,
+        Fault::OwnLatestAgain,
+        Fault::SiblingsOfTheView,
+        Fault::SecondStampsOfTheView,
+        Fault::EveryItemAgain,
+        Fault::EndsWithTheFirstPart,
+        Fault::OutsideTheSetAgain,
+        Fault::SecondGetsDescending,
+        Fault::SecondGetsInTurn,
+        Fault::SecondGotsUnseen,
+        Fault::SecondGotsKept,
+        Fault::LatestFetchedToo,
+        Fault::FirstReplyShown,
+        Fault::OlderReplyShown,
+        Fault::ShownAsOrdinary,
+        Fault::FirstReplyByStamp,
+    ] {
+        let wrong = Modelled { fault: Some(fault) };
+        assert!(runs(&wrong).is_err(), "{fault:?}");
+        assert!(edge_calls(&wrong).is_err(), "{fault:?}");
+    }
+}
+
+/// In runs an item that replies last is fetched again, and a greater one with it.
+#[test]
+fn runs_catch_second_gets_in_the_order_of_replies() {
+    assert!(runs(&Modelled { fault: Some(Fault::SecondGetsByReply) }).is_err());
+}
+
+/// In runs a first reply brings its item's latest, all copies of a stamp's set agree, every latest
+/// is stored, and no reply comes to a client that doesn't await it; not so on other blocks.
+#[test]
+fn damages_and_edges_catch_replies_that_no_run_has() {
+    for fault in [
+        Fault::LatestsSetKept,
+        Fault::ThirdPart,
+        Fault::GotInTheFirstPart,
+        Fault::FirstReplyInTheSecondPart,
+        Fault::FirstReplyToAnyRead,
+        Fault::FirstReplyToAWrite,
+        Fault::FirstReplyNotAwaited,
+        Fault::UnstoredLatestAnswered,
+    ] {
+        let wrong = Modelled { fault: Some(fault) };
+        assert!(runs(&wrong).is_ok(), "{fault:?}");
+        assert!(damages(&wrong).is_err(), "{fault:?}");
+        assert!(edge_calls(&wrong).is_err(), "{fault:?}");
+    }
+}
+
+#[test]
+fn runs_and_edges_catch_a_load_with_other_first_replies() {
+    for fault in [Fault::FirstsInTheSecondLoad, Fault::FirstsOutOfTheLoad] {
+        let wrong = Modelled { fault: Some(fault) };
+        assert!(runs(&wrong).is_err(), "{fault:?}");
+        assert!(edge_calls(&wrong).is_err(), "{fault:?}");
+    }
+}
+
+/// In runs a first reply's stamp is in its client's view too, unless that has a later one, and
+/// hardly ever is it named nowhere else; other blocks have it there alone.
+#[test]
+fn clearings_catch_first_replies_that_are_not_spared() {
+    for fault in [
+        Fault::FirstsForgotten,
+        Fault::FirstsSparedInTheFirstPart,
+        Fault::FirstsSparedIfAwaited,
+        Fault::FirstsSparedUnlessAwaited,
+    ] {
+        let wrong = Modelled { fault: Some(fault) };
+        assert!(cleared(&wrong).is_err(), "{fault:?}");
+    }
+}
+
+#[test]
+fn damages_catch_wrong_words_of_fast_reads() {
+    for wrong in [
+        Wrong::ClearsFirstsAtAStart,
+        Wrong::ClearsFirstsAtAnEnd,
+        Wrong::AsksAgainAlone,
+        Wrong::LastFirstReplyUnkept,
+    ] {
+        assert!(damages(&wrong).is_err(), "{wrong:?}");
+    }
+    assert!(runs(&Wrong::AsksAgainAlone).is_err());
 }
 
 /// No run comes near the greatest number; damages and edges have it in views.

@@ -3,7 +3,10 @@
 use koolvent_model::block::{Calls, Modelled};
 use koolvent_model::layout::places::{self, Scalar, NEEDED};
 use koolvent_model::layout::{decode, fields};
-use koolvent_model::store::tables::{IDLE, LOAD_CAPACITY};
+use koolvent_model::set::items;
+use koolvent_model::store::tables::{
+    Client, FIRST_PART, IDLE, LOAD_CAPACITY, READING, SECOND_PART, WRITING,
+};
 use std::ops::Range;
 
 const MODEL: Modelled = Modelled { fault: None };
@@ -48,10 +51,24 @@ pub enum Wrong {
     /// A clearing spares what is named in the view or latest of a client or item that doesn't
     /// exist.
     AbsentEntriesSpare,
+    /// A clearing spares what the words of first replies name that a fast read still awaits.
+    FirstsToComeSpare,
+    /// A clearing spares what the words of first replies name for the items of an ordinary read.
+    FirstsOfAReadSpare,
+    /// A clearing spares what the words of first replies name for the items of an ended read.
+    FirstsOfAnEndedReadSpare,
     /// A hand-over gives the receiver the giver's words of items that don't exist too.
     HandsOverAbsentItems,
     /// A comparison looks at items that don't exist too.
     ComparesAbsentItems,
+    /// The start of a fast read clears the words of the first replies to come.
+    ClearsFirstsAtAStart,
+    /// The end of a fast read clears its first replies.
+    ClearsFirstsAtAnEnd,
+    /// The second part of a fast read asks for nothing of items that it doesn't fetch again.
+    AsksAgainAlone,
+    /// The first reply that ends a read isn't kept.
+    LastFirstReplyUnkept,
 }
 
 impl Wrong {
@@ -104,11 +121,16 @@ impl Wrong {
             }
             let set = places::scalar(client, Scalar::Set);
             let values = places::value(client, 0)..places::value(client, 0) + 64;
+            let firsts = places::first(client, 0)..places::first(client, 64);
             match self {
                 Wrong::ClearsAskedAtAnEnd => after[places::asked(client, 0)..][..64].fill(0),
                 Wrong::KeepsTheSetAtAnEnd => after[set] = before[set],
                 Wrong::LeavesValuesAtAnEnd => {
                     after[values.clone()].copy_from_slice(&before[values]);
+                }
+                Wrong::ClearsFirstsAtAnEnd if before[mode] > WRITING => after[firsts].fill(0),
+                Wrong::LastFirstReplyUnkept => {
+                    after[firsts.clone()].copy_from_slice(&before[firsts]);
                 }
                 _ => (),
             }
@@ -116,28 +138,29 @@ impl Wrong {
     }
 
     /// A clearing that sets the words of the places freed to 0, or that also leaves the versions
-    /// whose stamp an entry of an absent client or item has.
+    /// whose stamp lies in a word that is no field.
     fn spoil_clearing(self, before: &[u64], after: &mut [u64]) {
         let [was, is] = [before, &*after].map(|words| words[places::VERSIONS] as usize);
-        match self {
+        let sparing = match self {
             Wrong::ClearsFreedPlaces => {
-                after[places::version(is)..places::version(was)].fill(0);
+                return after[places::version(is)..places::version(was)].fill(0);
             }
-            Wrong::AbsentEntriesSpare => {
-                let stamp = |words: &[u64], place| words[places::version(place) + 2];
-                let absent = absent_entries(before);
-                let mut stamps: Vec<u64> = (0..is).map(|place| stamp(after, place)).collect();
-                stamps.extend(absent.iter().map(|place| before[*place]));
-                let mut kept = 0;
-                for place in (0..was).filter(|place| stamps.contains(&stamp(before, *place))) {
-                    let version = &before[places::version(place)..][..4];
-                    after[places::version(kept)..][..4].copy_from_slice(version);
-                    kept += 1;
-                }
-                after[places::VERSIONS] = kept as u64;
-            }
-            _ => (),
+            Wrong::AbsentEntriesSpare => absent_entries(before),
+            Wrong::FirstsToComeSpare => firsts(before, FIRST_PART, |client| client.awaited),
+            Wrong::FirstsOfAReadSpare => firsts(before, READING, |client| client.set),
+            Wrong::FirstsOfAnEndedReadSpare => firsts(before, IDLE, |client| client.last.set),
+            _ => return,
+        };
+        let stamp = |words: &[u64], place| words[places::version(place) + 2];
+        let mut stamps: Vec<u64> = (0..is).map(|place| stamp(after, place)).collect();
+        stamps.extend(sparing.iter().map(|place| before[*place]));
+        let mut kept = 0;
+        for place in (0..was).filter(|place| stamps.contains(&stamp(before, *place))) {
+            let version = &before[places::version(place)..][..4];
+            after[places::version(kept)..][..4].copy_from_slice(version);
+            kept += 1;
         }
+        after[places::VERSIONS] = kept as u64;
     }
 
     fn client(self, client: u64) -> u64 {
@@ -158,6 +181,21 @@ fn unused(block: &[u64], words: Range<usize>) -> Vec<usize> {
     words.filter(|place| !is_field[*place]).collect()
 }
 
+/// Where a second part has begun, the items that it doesn't fetch again are asked for as before.
+fn ask_again_alone(before: &[u64], after: &mut [u64]) {
+    for client in 1..=after[places::CLIENTS] as usize {
+        let [mode, awaited] =
+            [Scalar::Mode, Scalar::Awaited].map(|scalar| places::scalar(client, scalar));
+        if before[mode] == FIRST_PART && after[mode] == SECOND_PART {
+            let again = after[awaited];
+            for item in (0..64).filter(|item| again >> item & 1 == 0) {
+                let asked = places::asked(client, item);
+                after[asked] = before[asked];
+            }
+        }
+    }
+}
+
 /// Where views and latest of clients and items lie that the block doesn't have.
 fn absent_entries(block: &[u64]) -> Vec<usize> {
     let [clients, items] = [places::CLIENTS, places::ITEMS].map(|place| block[place] as usize);
@@ -165,6 +203,15 @@ fn absent_entries(block: &[u64]) -> Vec<usize> {
     let views = (1..=8).flat_map(|client| (0..64).map(move |item| (client, item)));
     let views = views.filter(|(client, item)| *client > clients || *item >= items);
     latest.chain(views.map(|(client, item)| places::view(client, item))).collect()
+}
+
+/// Where the words of first replies lie of these items of clients in this mode.
+fn firsts(block: &[u64], mode: u64, of: fn(&Client) -> u64) -> Vec<usize> {
+    let tables = decode(block).expect("an accepted call was made on tables");
+    let clients = (1..=tables.sizes.clients).filter(|client| tables.client(*client).mode == mode);
+    let place = |client: u64, item: u64| places::first(client as usize, item as usize);
+    let of_client = |client| items(of(tables.client(client))).map(move |item| place(client, item));
+    clients.flat_map(of_client).collect()
 }
 
 /// Where the view of a client lies for items that the block doesn't have.
@@ -196,6 +243,15 @@ impl Calls for Wrong {
         self.made(block, |block| MODEL.start_read(block, client, set))
     }
 
+    fn start_fast_read(&self, block: &mut [u64], client: u64, set: u64) -> u64 {
+        let client = self.client(client);
+        let answer = self.made(block, |block| MODEL.start_fast_read(block, client, set));
+        if *self == Wrong::ClearsFirstsAtAStart && answer & 0xff == 0 {
+            block[places::first(client as usize, 0)..][..128].fill(0);
+        }
+        answer
+    }
+
     fn start_write(&self, block: &mut [u64], client: u64, set: u64, values: &[u8]) -> u64 {
         let client = self.client(client);
         let right = 4 * set.count_ones() as usize;
@@ -211,7 +267,12 @@ impl Calls for Wrong {
             Wrong::NarrowPlaces => place % 65_536,
             _ => place,
         };
-        self.made(block, |block| MODEL.deliver(block, place))
+        let before = block.to_vec();
+        let answer = self.made(block, |block| MODEL.deliver(block, place));
+        if *self == Wrong::AsksAgainAlone && answer & 0xff == 0 {
+            ask_again_alone(&before, block);
+        }
+        answer
     }
 
     fn show(&self, block: &[u64], client: u64, output: &mut [u8]) -> u64 {

@@ -1,86 +1,63 @@
--- `clear::clear` meets its contract: the stamps gathered are those in use, and of a valid block the
--- versions with one of them are those that the protocol's clearing keeps.
+-- `clear::clear` meets its contract: there is room for as many stamps as are in use.
 use native.Mathlib.Omega.{arith}
 use borrow.Author.Needs.{needs}
-use Rattle.clear.proofs.Slots.{marks-none}
-use Rattle.clear.proofs.Staying.{staying-below}
-use Rattle.clear.proofs.Cleared.{long, few, none-initial, cleared-given}
+use Rattle.clear.proofs.Gathered.{count-few, count-all}
 use Rattle.clear.proofs.clear.Statement.{statement}
 use Rattle.clear.proofs.clear.Tie as tie
 
-slice-aggregate-gather : tie.Need-slice-aggregate-gather
-slice-aggregate-gather c = search needs
+none-fast-requires : tie.Need-none-fast-requires
+none-fast-requires c κs = search needs
 
-gather-requires : tie.Need-gather-requires
-gather-requires c κs =
-    let start = c .before .before .before in
-    (search needs, long (start .args .b .now) (start .pre))
+slice-aggregate-clear-by : tie.Need-slice-aggregate-clear-by
+slice-aggregate-clear-by c = search needs
 
-slice-aggregate-mark-all : tie.Need-slice-aggregate-mark-all
-slice-aggregate-mark-all c = search needs
-
-slice-aggregate-mark-all-2 : tie.Need-slice-aggregate-mark-all-2
-slice-aggregate-mark-all-2 c = search needs
-
-mark-all-requires : tie.Need-mark-all-requires
-mark-all-requires c κs = marks-none
-
-version-count-requires : tie.Need-version-count-requires
-version-count-requires c κs = search needs
-
-slice-aggregate-keep-all : tie.Need-slice-aggregate-keep-all
-slice-aggregate-keep-all c = search needs
-
-slice-aggregate-keep-all-2 : tie.Need-slice-aggregate-keep-all-2
-slice-aggregate-keep-all-2 c = search needs
-
-keep-all-requires : tie.Need-keep-all-requires
-keep-all-requires c κs =
-    let counted = c .before .before .before in
-    let marked = counted .before .before .before in
-    let start = marked .before .before .before .before .before .before .before .before in
-    let b = start .args .b .now in (
-      omega (arith, counted .version-count .ensures, few b (start .pre)),
-      long b (start .pre),
-      marked .mark-all .ensures,
-      none-initial b (start .pre) (counted .version-count .ensures),
+clear-by-requires : tie.Need-clear-by-requires
+clear-by-requires c κs =
+    let few = c .before .before in
+    let start = few .before .before .before .before in (
+      start .pre,
+      omega (
+        arith,
+        count-few (start .args .b .now) (few .before .none-fast .ensures) (few .if1 .taken),
+      ),
     )
 
-put-version-count-requires : tie.Need-put-version-count-requires
-put-version-count-requires c κs = search needs
+slice-aggregate-clear-by-2 : tie.Need-slice-aggregate-clear-by-2
+slice-aggregate-clear-by-2 c = search needs
 
-sub-result : tie.Need-sub-result
-sub-result c =
-    let kept = c .before .before .before .before .before .before in
-    staying-below _ _ _ _ (kept .keep-all .ensures .0)
+clear-by-requires-2 : tie.Need-clear-by-requires-2
+clear-by-requires-2 c κs =
+    let all = c .before .before in
+    let start = all .before .before .before .before in (
+      start .pre,
+      omega (
+        arith,
+        count-all (start .args .b .now) (all .before .none-fast .ensures) (all .if1 .left),
+      ),
+    )
 
 same-length : tie.Need-same-length
 same-length c = search needs
 
 returns : tie.Need-returns
-returns c =
-    let kept = c .before .before .before .before .before .before in
-    let counted = kept .before .before .before .before in
-    let gathered = counted .before .before .before .before .before .before .before in
-    let start = gathered .before .before .before .before in
-    cleared-given (start .args .b .now) (start .pre) (gathered .gather .ensures)
-    (counted .version-count .ensures) (kept .keep-all .ensures .0) (kept .keep-all .ensures .1)
-    (c .before .before .put-version-count .ensures)
+returns c = search needs
+
+same-length-2 : tie.Need-same-length-2
+same-length-2 c = search needs
+
+returns-2 : tie.Need-returns-2
+returns-2 c = search needs
 
 pub clear-spec : {M : Type 1} → statement M
 clear-spec =
     tie.close
     (tie.spec
-    slice-aggregate-gather
-    gather-requires
-    slice-aggregate-mark-all
-    slice-aggregate-mark-all-2
-    mark-all-requires
-    version-count-requires
-    slice-aggregate-keep-all
-    slice-aggregate-keep-all-2
-    keep-all-requires
-    put-version-count-requires
-    sub-result
+    none-fast-requires
+    slice-aggregate-clear-by
+    clear-by-requires
+    slice-aggregate-clear-by-2
+    clear-by-requires-2
     same-length
-    returns)
+    returns
+    same-length-2
+    returns-2)

@@ -13,19 +13,20 @@ use Rattle.itemset.specs.Set.{has, upto, remove}
 use Rattle.protocol.specs.Tables.{isKind}
 use Rattle.protocol.specs.Range.{capacities, valid, inRange, stampInRange, sizesInRange}
 use Rattle.protocol.specs.Range.{entryInRange, versionInRange, messageInRange, endedInRange}
-use Rattle.protocol.specs.Range.{clientInRange, readPartInRange, writePartInRange, arrived}
-use Rattle.protocol.specs.Range.{total, load, occupied}
+use Rattle.protocol.specs.Range.{clientInRange, hasFirst, readPartInRange, writePartInRange}
+use Rattle.protocol.specs.Range.{arrived, total, load, occupied}
 use Rattle.protocol.specs.Steps.{greatestIn, choice, stored, found, delivered, joined, touches}
 use Rattle.protocol.specs.HandOver.{standing}
 use Rattle.protocol.specs.LogFrame.{listed, readBytes, writeBytes, frame}
 use Rattle.protocol.specs.Calls.{Call, startRead, startWrite, deliver, handOver, compare, first}
-use Rattle.protocol.specs.Calls.{refusal, unexpected, missing, isNothing, outcomeOf, effect}
-use Rattle.protocol.specs.Calls.{reply, written, lent, step}
+use Rattle.protocol.specs.Calls.{refusal, unexpected, missing, isNothing, outcomeOf, effect, reply}
+use Rattle.protocol.specs.Calls.{written, lent, step}
 use Rattle.condition3.specs.World.{World, begin, next, after, joining, leaving, staying}
 use Rattle.condition3.specs.World.{begun, withoutAll, storing, outcomeIn, delivers, stays}
 use Rattle.condition3.specs.Condition3.{EndedBy, Own, outputOfRead, shownNumber, shownWriter}
 use Rattle.condition3.specs.Condition3.{shownValue}
 use Rattle.condition3.specs.Condition3.Own.{own, inherited}
+use Rattle.condition3.specs.Condition3.Manner.{ordinary}
 use Rattle.protocol.proofs.Examples.Table.{same}
 use Rattle.condition3.proofs.Link.{Inv}
 use Rattle.condition3.proofs.Link.Step.{begin-inv}
@@ -61,7 +62,8 @@ CountsFor earlier = Own capacities w 1 1 bytes earlier
 
 -- client 3 then reads it; before its hand-over it read the initial entry
 abbrev shown : List Call → List ℕ
-shown calls = outputOfRead capacities w 3 1 calls (deliver 1 ∷ []) (deliver 1) [] (replicate 19 0)
+shown calls =
+    outputOfRead capacities w ordinary 3 1 calls (deliver 1 ∷ []) (deliver 1) [] (replicate 19 0)
 
 abbrev shows : List ℕ → List ℕ → Bool
 shows output entry =
@@ -83,9 +85,9 @@ pub handedOn : CountsFor [] 1 ended × CountsFor [] 2 handed × CountsFor [] 3 c
 unfolding next after joining leaving staying begun withoutAll storing outcomeIn delivers stays step
     refusal first unexpected missing isNothing effect reply written lent outcomeOf valid inRange
     sizesInRange stampInRange entryInRange versionInRange messageInRange isKind endedInRange
-    clientInRange readPartInRange writePartInRange load arrived total occupied greatestIn choice
-    stored found delivered joined touches standing listed readBytes writeBytes frame every all
-    counted without dropped has upto remove ones onesIn bigEndian numberAt
+    clientInRange hasFirst readPartInRange writePartInRange load arrived total occupied greatestIn
+    choice stored found delivered joined touches standing listed readBytes writeBytes frame every
+    all counted without dropped has upto remove ones onesIn bigEndian numberAt
 handedOn =
     let is : EndedBy capacities w 1 (startWrite 1 1 bytes) [] (deliver 0 ∷ []) (deliver 0) =
     record { underWay = record { accepted = refl; unended = refl }; ended = refl } in

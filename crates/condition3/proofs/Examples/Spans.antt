@@ -16,19 +16,18 @@ use Rattle.hex.specs.Number.{bigEndian, numberAt}
 use Rattle.itemset.specs.Set.{has, upto, remove}
 use Rattle.protocol.specs.Tables.{isKind, stampOf}
 use Rattle.protocol.specs.Message.{isPrepare}
-use Rattle.protocol.specs.Range.{Capacities, capacities, valid, inRange, stampInRange}
-use Rattle.protocol.specs.Range.{sizesInRange}
+use Rattle.protocol.specs.Range.{Capacities, capacities, valid, inRange, stampInRange, sizesInRange}
 use Rattle.protocol.specs.Range.{entryInRange, versionInRange, messageInRange, endedInRange}
-use Rattle.protocol.specs.Range.{clientInRange, readPartInRange, writePartInRange, arrived}
-use Rattle.protocol.specs.Range.{total, load, occupied}
+use Rattle.protocol.specs.Range.{clientInRange, hasFirst, readPartInRange, writePartInRange}
+use Rattle.protocol.specs.Range.{arrived, total, load, occupied}
 use Rattle.protocol.specs.Steps.{nextStamp, greatestIn, choice, stored, found, delivered}
 use Rattle.protocol.specs.Steps.{joined, touches}
 use Rattle.protocol.specs.Clear.{mentions, unused}
 use Rattle.protocol.specs.HandOver.{standing}
 use Rattle.protocol.specs.LogFrame.{listed, readBytes, writeBytes, frame}
 use Rattle.protocol.specs.Calls.{Call, startRead, startWrite, deliver, show, clear, handOver}
-use Rattle.protocol.specs.Calls.{compare, first, refusal, unexpected, missing, isNothing}
-use Rattle.protocol.specs.Calls.{outcomeOf, effect, reply, written, lent, step, numberOfAnswer}
+use Rattle.protocol.specs.Calls.{compare, first, refusal, unexpected, missing, isNothing, outcomeOf}
+use Rattle.protocol.specs.Calls.{effect, reply, written, lent, step, numberOfAnswer}
 use Rattle.condition3.specs.World.{World, Labelled, begin, accepts, next, after, joining}
 use Rattle.condition3.specs.World.{leaving, staying, begun, withoutAll, storing, joiningOver}
 use Rattle.condition3.specs.World.{leavingOver, isRequest, isReply, isReplyFor, isReadMessage}
@@ -37,6 +36,7 @@ use Rattle.protocol.proofs.Examples.Table.{same}
 use Rattle.condition3.specs.Condition3.{now, sent, came, shownAt, output, later, outputOfRead}
 use Rattle.condition3.specs.Condition3.{answeredAt, shownNumber, shownWriter, shownValue}
 use Rattle.condition3.specs.Condition3.{shownOwnNumber, ShownOlder, Falls}
+use Rattle.condition3.specs.Condition3.Manner.{ordinary}
 
 abbrev w : World
 w = begin (record { clients = 2; partitions = 2; items = 2 })
@@ -73,10 +73,10 @@ comparedAmong = deliver 1 ∷ compare 2 1 ∷ deliver 1 ∷ handOver 1 2 ∷ del
 module _ (before meanwhile : List Call) where
   -- what joins, what is delivered, and the world after the read's end
   abbrev joins : List Labelled
-  joins = sent capacities w 2 3 before (meanwhile ++ deliver 1 ∷ [])
+  joins = sent capacities w (startRead 2 3) before (meanwhile ++ deliver 1 ∷ [])
 
   abbrev leaves : List Labelled
-  leaves = came capacities w 2 3 before (meanwhile ++ deliver 1 ∷ [])
+  leaves = came capacities w (startRead 2 3) before (meanwhile ++ deliver 1 ∷ [])
 
   abbrev ended : World
   ended = shownAt capacities w (startRead 2 3) before meanwhile (deliver 1) []
@@ -86,11 +86,11 @@ module _ (before meanwhile : List Call) where
   abbrev whole : Bool
   whole =
       accepts capacities (after capacities w before) (startRead 2 3)
-      && stays capacities (now capacities w 2 3 before []) 2 meanwhile
-      && endsFor capacities (now capacities w 2 3 before meanwhile) 2 (deliver 1)
-      && not (endsFor capacities (now capacities w 2 3 before meanwhile) 2 (deliver 0))
+      && stays capacities (now capacities w (startRead 2 3) before []) 2 meanwhile
+      && endsFor capacities (now capacities w (startRead 2 3) before meanwhile) 2 (deliver 1)
+      && not (endsFor capacities (now capacities w (startRead 2 3) before meanwhile) 2 (deliver 0))
       && eqb (counted (isRequest 2) joins) 2
-      && eqb (counted (isReply 2) (came capacities w 2 3 before meanwhile)) 1
+      && eqb (counted (isReply 2) (came capacities w (startRead 2 3) before meanwhile)) 1
       && eqb (counted (isReply 2) leaves) 2
       && every 2 (λ k. eqb (counted (isReplyFor 2 k) leaves) 1)
 
@@ -107,11 +107,11 @@ module _ (before meanwhile : List Call) where
 -- After its first two deliveries each item has one message.
 abbrev oneEach : Bool
 oneEach = every 2 (λ k. eqb (counted (isReadMessage 2 k)
-    (now capacities w 2 3 between (deliver 1 ∷ deliver 1 ∷ []) .inFlight)) 1)
+    (now capacities w (startRead 2 3) between (deliver 1 ∷ deliver 1 ∷ []) .inFlight)) 1)
 
 -- The second read's showing, after another client's start: item 0 and item 1 as they were written.
 abbrev shown : List ℕ
-shown = outputOfRead capacities w 2 3 between during (deliver 1) (startRead 1 1 ∷ []) room
+shown = outputOfRead capacities w ordinary 2 3 between during (deliver 1) (startRead 1 1 ∷ []) room
 
 abbrev showing : Bool
 showing =
@@ -174,9 +174,11 @@ abbrev ownCommits : Bool
 ownCommits =
     let v = shownAt capacities w (startRead 1 1) committing (deliver 0 ∷ deliver 1 ∷ []) (deliver 1)
     [] in
-    delivers (now capacities w 1 1 committing []) 1 (deliver 0)
-    && stays capacities (now capacities w 1 1 committing []) 1 (deliver 0 ∷ deliver 1 ∷ [])
-    && endsFor capacities (now capacities w 1 1 committing (deliver 0 ∷ deliver 1 ∷ [])) 1
+    delivers (now capacities w (startRead 1 1) committing []) 1 (deliver 0)
+    && stays capacities (now capacities w (startRead 1 1) committing []) 1
+    (deliver 0 ∷ deliver 1 ∷ [])
+    && endsFor capacities (now capacities w (startRead 1 1) committing
+    (deliver 0 ∷ deliver 1 ∷ [])) 1
     (deliver 1)
     && delivers v 1 (deliver 0) && accepts capacities v (deliver 0)
     && not (endsFor capacities v 1 (deliver 0)) && rests capacities v 1 (deliver 0 ∷ [])
@@ -200,10 +202,11 @@ untilSecond =
 -- each is accepted, under way and ended, and shows item 1 as it was written
 abbrev readsBoth : List Call → Bool
 readsBoth before =
-    let shown = outputOfRead capacities w 2 2 before (deliver 1 ∷ []) (deliver 1) [] room in
+    let shown = outputOfRead capacities w ordinary 2 2 before (deliver 1 ∷ []) (deliver 1) []
+    room in
     accepts capacities (after capacities w before) (startRead 2 2)
-    && stays capacities (now capacities w 2 2 before []) 2 (deliver 1 ∷ [])
-    && endsFor capacities (now capacities w 2 2 before (deliver 1 ∷ [])) 2 (deliver 1)
+    && stays capacities (now capacities w (startRead 2 2) before []) 2 (deliver 1 ∷ [])
+    && endsFor capacities (now capacities w (startRead 2 2) before (deliver 1 ∷ [])) 2 (deliver 1)
     && same (shownNumber 2 shown 1 ∷ shownWriter 2 shown 1 ∷ shownValue 2 shown 1 ∷ [])
     (1 ∷ 1 ∷ 8 ∷ [])
 
@@ -281,20 +284,21 @@ pub spans : all (λ b. b) rows ≡ true
 unfolding next after joining leaving staying begun withoutAll storing joiningOver leavingOver
     outcomeIn delivers stays startsFor rests step refusal first unexpected missing isNothing effect
     reply written lent outcomeOf valid inRange sizesInRange stampInRange entryInRange versionInRange
-    messageInRange isKind endedInRange clientInRange readPartInRange writePartInRange load arrived
-    total occupied greatestIn choice stored found delivered joined touches mentions unused standing
-    listed readBytes writeBytes frame numberOfAnswer every all counted without dropped has upto
-    remove ones onesIn bigEndian numberAt
+    messageInRange isKind endedInRange clientInRange hasFirst readPartInRange writePartInRange load
+    arrived total occupied greatestIn choice stored found delivered joined touches mentions unused
+    standing listed readBytes writeBytes frame numberOfAnswer every all counted without dropped has
+    upto remove ones onesIn bigEndian numberAt
 spans = refl
 
 -- ---- A tie: both writes have number 1
 
 -- client 1's first read shows its own write, its second one client 2's
 abbrev own : List ℕ
-own = outputOfRead capacities u 1 1 bothWritten (deliver 0 ∷ []) (deliver 0) [] room
+own = outputOfRead capacities u ordinary 1 1 bothWritten (deliver 0 ∷ []) (deliver 0) [] room
 
 abbrev other : List ℕ
-other = outputOfRead capacities u 1 1 (bothWritten ++ startRead 1 1 ∷ deliver 0 ∷ deliver 0 ∷ [])
+other = outputOfRead capacities u ordinary 1 1
+    (bothWritten ++ startRead 1 1 ∷ deliver 0 ∷ deliver 0 ∷ [])
     (deliver 0 ∷ []) (deliver 0) [] room
 
 below : 1 < 2
@@ -315,10 +319,10 @@ pub ties : ShownOlder 1 own 0 (stampOf 1 2) × (ShownOlder 1 own 0 (stampOf 1 1)
 unfolding next after joining leaving staying begun withoutAll storing joiningOver leavingOver
     outcomeIn delivers stays startsFor rests step refusal first unexpected missing isNothing effect
     reply written lent outcomeOf valid inRange sizesInRange stampInRange entryInRange versionInRange
-    messageInRange isKind endedInRange clientInRange readPartInRange writePartInRange load arrived
-    total occupied greatestIn choice stored found delivered joined touches mentions unused listed
-    readBytes writeBytes frame numberOfAnswer every all counted without dropped has upto remove ones
-    onesIn bigEndian numberAt
+    messageInRange isKind endedInRange clientInRange hasFirst readPartInRange writePartInRange load
+    arrived total occupied greatestIn choice stored found delivered joined touches mentions unused
+    listed readBytes writeBytes frame numberOfAnswer every all counted without dropped has upto
+    remove ones onesIn bigEndian numberAt
 ties = (
   inr (refl, below),
   ⊎-elim (never 1) (λ p. never 1 (p .1)),

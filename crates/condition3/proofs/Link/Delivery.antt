@@ -4,7 +4,7 @@ use mathlib.Core.Bool.{cond}
 use mathlib.Core.List.{List, [], _∷_, _++_, map}
 use mathlib.Core.Logic.{_⊎_, inl, inr, ⊎-elim, _≢_}
 use mathlib.Core.Path.{_≡_, refl, sym, ap, _∙_, subst}
-use Prim.Native.Nat.{ℕ, suc, _+_, _<_}
+use Prim.Native.Nat.{ℕ, suc, _<_}
 use native.Mathlib.Omega.{arith}
 use Rattle.basics.proofs.Cases.{not-both}
 use Rattle.basics.specs.Lists.{In, without}
@@ -15,7 +15,7 @@ use Rattle.protocol.specs.Tables.{writerOf}
 use Rattle.protocol.specs.Message.{partsOf, isPrepare, itemOf, ownerOf}
 use Rattle.protocol.specs.Range.{Capacities}
 use Rattle.protocol.specs.Steps.{delivered, joined, messageAt}
-use Rattle.protocol.specs.Calls.{deliver, effect}
+use Rattle.protocol.specs.Calls.{soughtBy, deliver, effect}
 use Rattle.condition3.specs.World.{World, Label, Labelled, Store, placed, labelled}
 use Rattle.condition3.specs.World.{withoutAll, joining, staying, begun, storing}
 use Rattle.protocol.proofs.Ranges.Values.{IsClient}
@@ -66,7 +66,7 @@ module _ (caps : Capacities) (w : World) (inv : Inv caps w) where
       })))
       (delivered-work (w .tables) m .stores v i)
 
-  -- a got joins where a get is delivered, and its write has landed
+  -- a got joins where a get is delivered, of either kind, and its write has landed
   joins-come : (l : Label) (m : Message) → In m (w .tables .messages) → (σs : List Store)
       → (j : Message) → In j (joined (w .tables) m)
       → Comes (w .writes ++ []) (w .stores ++ σs)
@@ -77,7 +77,7 @@ module _ (caps : Capacities) (w : World) (inv : Inv caps w) where
       (λ j r. record {
         prepare = λ e. not-both e (answer-kind j (r .answer));
         got = λ e.
-            let s = partsOf m .stamp in
+            let s = soughtBy (w .tables) m in
             let x : WriteOf caps w inv (itemOf m) s = write-of caps w inv (itemOf m) s
             (stamps caps L (w .tables) (inv .sound) m here .asked (sym (r .got) ∙ e)) in
             record {
@@ -89,6 +89,7 @@ module _ (caps : Capacities) (w : World) (inv : Inv caps w) where
             };
       })
       (λ p s some o. record { prepare = λ e. not-both e refl; got = λ e. not-both e refl })
+      (λ f k s. record { prepare = λ e. not-both e refl; got = λ e. not-both e refl })
 
   -- a write part under way is stamped by its client
   own-stamp : (m : Message) → In m (w .tables .messages) → (d : ℕ) → ownerOf m ≡ d

@@ -1,7 +1,7 @@
 -- What the invariant says of a labelled message, and the write of a good stamp: it has landed.
 use mathlib.Core.Bool.{true, _||_}
 use mathlib.Core.List.{List}
-use mathlib.Core.Logic.{_⊎_, inl, inr, ⊎-elim}
+use mathlib.Core.Logic.{inl, inr, ⊎-elim}
 use mathlib.Core.Path.{_≡_, refl, sym, ap, _∙_, subst}
 use Prim.Native.Nat.{ℕ, _<_}
 use lib.Dec.{eqb}
@@ -63,7 +63,7 @@ module _ (caps : Capacities) (w : World) (inv : Inv caps w) where
     pub mine : (eqb s 0 || has (write .set) k) ≡ true
     pub landed : (j : ℕ) → has (write .set) j ≡ true → LandedBefore (w .stores) write j (w .time)
 
-  stored-landed : (k s : ℕ) → stored (w .tables .versions) k s ≡ true
+  pub stored-landed : (k s : ℕ) → stored (w .tables .versions) k s ≡ true
       → Landed (w .writes) (w .stores) (w .time) s k
   stored-landed k s e =
       let held = found-held (w .tables .versions) k s e in

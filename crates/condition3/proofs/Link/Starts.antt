@@ -1,10 +1,10 @@
 -- What a start owes the link, and that a call apart owes nothing: a new write has a stamp that no
 -- other write has.
-use mathlib.Core.Bool.{true}
+use mathlib.Core.Bool.{true, false}
 use mathlib.Core.List.{List, [], _∷_, _++_, map, append-nil}
 use mathlib.Core.Logic.{_⊎_, inl, inr, ⊎-elim}
 use mathlib.Core.Path.{_≡_, refl, sym, ap, _∙_, subst}
-use Prim.Native.Nat.{ℕ, _+_, _<_}
+use Prim.Native.Nat.{ℕ, _<_}
 use native.Mathlib.Nat.{le-refl, le-trans}
 use native.Mathlib.Omega.{arith}
 use lib.Dec.{eqb}
@@ -13,16 +13,17 @@ use Rattle.basics.specs.Lists.{In}
 use Rattle.basics.proofs.Lists.{in-right, in-append, in-map, sublist-in}
 use Rattle.itemset.specs.Set.{has}
 use Rattle.protocol.specs.declared.Message.{Message}
-use Rattle.protocol.specs.declared.Message.the-variants.{Prepare, Get}
+use Rattle.protocol.specs.declared.Message.the-variants.{Prepare, Get, FirstGet}
 use Rattle.protocol.specs.Tables.{Client, writerOf, put}
-use Rattle.protocol.specs.Message.{ownerOf}
+use Rattle.protocol.specs.Message.{isPrepare, isAnyGot, ownerOf}
 use Rattle.protocol.specs.Range.{Capacities}
-use Rattle.protocol.specs.Steps.{stored, gets, prepares, nextStamp, valueOf, writer, reader}
-use Rattle.protocol.specs.Steps.{asks, version}
-use Rattle.protocol.specs.Calls.{Call, startRead, startWrite, effect}
+use Rattle.protocol.specs.FastRead.{fastReader, firstGets}
+use Rattle.protocol.specs.Steps.{stored, gets, prepares, nextStamp, valueOf, writer, reader, asks}
+use Rattle.protocol.specs.Steps.{version}
+use Rattle.protocol.specs.Calls.{Call, startRead, startFastRead, startWrite, effect}
 use Rattle.condition3.specs.World.{World, Labelled, Write, labelled, withoutAll, joining}
 use Rattle.condition3.specs.World.{staying, begun, storing}
-use Rattle.protocol.proofs.Each.{each-upto}
+use Rattle.protocol.proofs.Each.{Each, each-upto}
 use Rattle.protocol.proofs.Put.{put-same}
 use Rattle.protocol.proofs.Ranges.Values.{IsClient}
 use Rattle.protocol.proofs.Sorts.{Apart}
@@ -40,30 +41,61 @@ module _ (caps : Capacities) (w : World) (inv : Inv caps w) where
   abbrev L : Ledger
   L = inv .ledger
 
+  -- the messages of a read's start, of client d: each is a request
+  module _ (d : ℕ) (ms : List Message)
+      (requests : Each (λ m. (ownerOf m ≡ d) × (isPrepare m ≡ false) × (isAnyGot m ≡ false)) ms)
+    where
+      request-owners : (l : Labelled) → In l (map (labelled d (w .time) (w .time)) ms)
+          → l .label .client ≡ ownerOf (l .message)
+      request-owners = joining-owners d (w .time) ms (λ m i. requests m i .0)
+
+      requests-come : (l : Labelled) → In l (map (labelled d (w .time) (w .time)) ms)
+          → Comes (w .writes ++ []) (w .stores ++ []) (l .label) (l .message)
+      requests-come l i =
+          let y = in-map (labelled d (w .time) (w .time)) l ms i in
+          let x = requests (y .0) (y .1) in
+          subst (λ (x : Labelled). Comes (w .writes ++ []) (w .stores ++ []) (x .label)
+          (x .message)) (sym (y .2))
+          (record { prepare = λ p. not-both p (x .1); got = λ p. not-both p (x .2) })
+
   pub read-owes : (d s : ℕ) → Owes caps w inv (startRead d s)
   unfolding effect joining staying withoutAll begun storing
   read-owes d s =
+      let ms = gets (w .tables) d s in
+      let requests = each-upto (λ m. (ownerOf m ≡ d) × (isPrepare m ≡ false)
+      × (isAnyGot m ≡ false)) (λ k. Get d k (asks (w .tables) d k)) (w .tables .sizes .items)
+      (has s) (λ k l e. (refl, refl, refl)) in
       record {
-        inFlight = joining-messages d (w .time) (w .time) (w .inFlight) (gets (w .tables) d s)
-            (w .tables .messages) (inv .inFlight);
+        inFlight = joining-messages d (w .time) (w .time) (w .inFlight) ms (w .tables .messages)
+            (inv .inFlight);
         stays = λ l i. i;
-        owners = joining-owners d (w .time) (gets (w .tables) d s)
-            (each-upto (λ m. ownerOf m ≡ d) (λ k. Get d k (asks (w .tables) d k))
-            (w .tables .sizes .items) (has s) (λ k l e. refl));
+        owners = request-owners d ms requests;
         unique = same-unique caps w inv;
         entered = same-entered caps w inv (effect (w .tables) (startRead d s) .client)
             (put-rises (w .tables .client) d (reader (w .tables) d s)
             (le-refl (w .tables .client d .count)));
         stored = λ v i. inl i;
-        comes = λ l i.
-            let y = in-map (labelled d (w .time) (w .time)) l (gets (w .tables) d s) i in
-            subst (λ (x : Labelled). Comes (w .writes ++ []) (w .stores ++ []) (x .label)
-            (x .message)) (sym (y .2))
-            (each-upto (λ m. Comes (w .writes ++ []) (w .stores ++ [])
-            (record { client = d; start = w .time; since = w .time }) m)
-            (λ k. Get d k (asks (w .tables) d k)) (w .tables .sizes .items) (has s)
-            (λ k l e. record { prepare = λ p. not-both p refl; got = λ p. not-both p refl })
-            (y .0) (y .1));
+        comes = requests-come d ms requests;
+      }
+
+  pub fast-read-owes : (d s : ℕ) → Owes caps w inv (startFastRead d s)
+  unfolding effect joining staying withoutAll begun storing
+  fast-read-owes d s =
+      let ms = firstGets (w .tables) d s in
+      let requests = each-upto (λ m. (ownerOf m ≡ d) × (isPrepare m ≡ false)
+      × (isAnyGot m ≡ false)) (FirstGet d) (w .tables .sizes .items) (has s)
+      (λ k l e. (refl, refl, refl)) in
+      record {
+        inFlight = joining-messages d (w .time) (w .time) (w .inFlight) ms (w .tables .messages)
+            (inv .inFlight);
+        stays = λ l i. i;
+        owners = request-owners d ms requests;
+        unique = same-unique caps w inv;
+        entered = same-entered caps w inv (effect (w .tables) (startFastRead d s) .client)
+            (put-rises (w .tables .client) d (fastReader (w .tables) d s)
+            (le-refl (w .tables .client d .count)));
+        stored = λ v i. inl i;
+        comes = requests-come d ms requests;
       }
 
   -- a call apart owes nothing

@@ -1,39 +1,33 @@
 -- While a read is under way each item it awaits has exactly one message in flight, its get or its
 -- got.
 use mathlib.Core.Bool.{true, _||_, and-false}
-use mathlib.Core.Logic.{⊎-elim}
 use mathlib.Core.Path.{_≡_, refl, sym, ap, _∙_}
 use Prim.Native.Nat.{ℕ}
-use native.Mathlib.Omega.{arith}
 use lib.Dec.{eqb}
-use borrow.Author.Tests.{eqb-true, eqb-false, eq-eqb, leb-true}
-use Rattle.basics.proofs.Cases.{by-test, test-ext, or-cases}
+use Rattle.basics.proofs.Cases.{by-test}
 use Rattle.basics.specs.Lists.{In, counted}
 use Rattle.basics.proofs.Lists.{counted-map, counted-ext}
 use Rattle.itemset.specs.Set.{has}
 use Rattle.protocol.specs.declared.Message.{Message}
 use Rattle.protocol.specs.Tables.{ofRead}
-use Rattle.protocol.specs.Message.{kindOf, isGet, isGot, namesClient, ownerOf}
-use Rattle.protocol.proofs.MessageKinds.{kind-within}
+use Rattle.protocol.specs.declared.Message.the-variants.{Prepare, Prepared, Commit, Get, Got}
+use Rattle.protocol.specs.declared.Message.the-variants.{FirstGet, FirstReply}
+use Rattle.protocol.specs.Message.{isAnyGet, isAnyGot, namesClient, ownerOf}
 use Rattle.protocol.specs.Range.{Capacities}
 use Rattle.condition3.specs.World.{World, Label, Labelled, isReadMessage}
 use Rattle.protocol.proofs.Ranges.Values.{IsClient}
 use Rattle.condition3.proofs.Link.{Inv}
 use Rattle.condition3.proofs.Common.{isFor}
 
--- a message that names its client is a get or a got
-asks-or-answers : (m : Message) → namesClient m ≡ (isGet m || isGot m)
-asks-or-answers m =
-    test-ext (namesClient m) (isGet m || isGot m)
-    (λ e. by-test (isGet m) (λ g. rw g refl)
-    (λ g. rw g (eq-eqb (kindOf m) 5 (omega (
-      arith,
-      leb-true 4 (kindOf m) e,
-      eqb-false (kindOf m) 4 g,
-      kind-within m,
-    )))))
-    (λ e. ⊎-elim (λ g. rw (eqb-true (kindOf m) 4 g) refl) (λ g. rw (eqb-true (kindOf m) 5 g) refl)
-    (or-cases (isGet m) (isGot m) e))
+-- a message that names its client is a get or a got, of either kind
+asks-or-answers : (m : Message) → namesClient m ≡ (isAnyGet m || isAnyGot m)
+asks-or-answers (Prepare v) = refl
+asks-or-answers (Prepared k stamp) = refl
+asks-or-answers (Commit p stamp) = refl
+asks-or-answers (Get d k stamp) = refl
+asks-or-answers (Got d v e) = refl
+asks-or-answers (FirstGet d k) = refl
+asks-or-answers (FirstReply d v e) = refl
 
 module _ (caps : Capacities) (v : World) (inv : Inv caps v) (d : ℕ)
     (is-client : IsClient (v .tables .sizes) d) where

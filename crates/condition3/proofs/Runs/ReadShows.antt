@@ -1,6 +1,6 @@
--- What a read shows once it has ended: the stamps it asked for and the values of their writes, read
--- off the output bytes.
-use mathlib.Core.Bool.{true}
+-- What a read, ordinary or fast, shows once it has ended: the stamps it chose and the values of
+-- their writes, read off the output bytes.
+use mathlib.Core.Bool.{true, false}
 use mathlib.Core.List.{List, [], _∷_, _++_}
 use mathlib.Core.Logic.{_⊎_, inl, inr, ⊎-elim}
 use mathlib.Core.Path.{_≡_, refl, sym, ap, _∙_, subst}
@@ -12,34 +12,38 @@ use lib.ListN.{length}
 use borrow.Author.Tests.{eqb-true}
 use Rattle.basics.proofs.Cases.{not-both, or-cases}
 use Rattle.basics.specs.Lists.{In}
-use Rattle.basics.proofs.Lists.{in-left}
+use Rattle.hex.specs.Number.{bigEndian}
 use Rattle.itemset.specs.Set.{has, count}
 use Rattle.itemset.proofs.Laws.{has-empty, has-below}
-use Rattle.protocol.specs.Tables.{Sizes, Ended, rested, numberOf, writerOf}
+use Rattle.protocol.specs.Tables.{Sizes, Ended, showsRead, showsWrite, rested, numberOf, writerOf}
+use Rattle.protocol.specs.Message.{partsOf}
 use Rattle.protocol.specs.Range.{Capacities}
-use Rattle.protocol.specs.Steps.{greatestIn, choice, nextStamp}
-use Rattle.protocol.specs.Calls.{Call, startRead, show, step, written}
-use Rattle.condition3.specs.World.{World, Labelled, Write, Store, leaving, begun, moved}
-use Rattle.condition3.specs.World.{after, isReplyFor, stays, rests}
-use Rattle.condition3.specs.Condition3.{UnderWay, EndedBy, StoredBefore, answeredAt, came}
-use Rattle.condition3.specs.Condition3.{shownNumber, shownWriter, shownValue, Initial}
+use Rattle.protocol.specs.LogFrame.{frameByte}
+use Rattle.protocol.specs.Steps.{nextStamp}
+use Rattle.protocol.specs.Calls.{Call, show, step, written}
+use Rattle.condition3.specs.World.{World, Labelled, Write, Store, leaving, moved, after}
+use Rattle.condition3.specs.World.{stays, rests}
+use Rattle.condition3.specs.Condition3.{Manner, startOf, byteOf, StoredBefore, LastReply}
+use Rattle.condition3.specs.Condition3.{answeredAt}
+use Rattle.condition3.specs.Condition3.{came, shownNumber, shownWriter, shownValue, Initial}
 use Rattle.condition3.specs.Condition3.{ShownWith, ShownOlder, Own, Shows}
-use Rattle.protocol.proofs.Stored.{choice-own}
-use Rattle.protocol.proofs.Known.{greatest-le, choice-number}
+use Rattle.condition3.specs.Condition3.Manner.{ordinary}
+use Rattle.protocol.proofs.Known.{greatest-ge}
 use Rattle.protocol.proofs.Ranges.Values.{IsClient}
-use Rattle.protocol.proofs.Refusals.{AcceptedStart, accepted-read, idle-rested}
+use Rattle.protocol.proofs.Refusals.{AcceptedStart, idle-rested}
 use Rattle.condition3.proofs.Link.{Inv}
-use Rattle.condition3.proofs.Link.Messages.{WriteOf}
-use Rattle.condition3.proofs.Link.Asks.{asked as write-asked, not-older}
+use Rattle.condition3.proofs.Link.Asks.{Picked}
 use Rattle.condition3.proofs.Runs.Run.{after-append, after-inv, after-sizes, after-view}
 use Rattle.condition3.proofs.Runs.Run.{longer-view, after-known, after-stores}
-use Rattle.condition3.proofs.Runs.ReadSpan.{Answer}
+use Rattle.condition3.proofs.Runs.Replies.{Answer}
 use Rattle.condition3.proofs.Runs.ReadStep.{Finished, wasRead}
 use Rattle.condition3.proofs.Runs.Spans.{at-rest, rest-stays}
+use Rattle.condition3.proofs.Runs.Ended.{by-manner, kindOf, EndedRead}
+use Rattle.condition3.proofs.Runs.Fresh.{first, answered, then, asked-then, then-time}
+use Rattle.condition3.proofs.Runs.Fresh.{then-stamp}
 use Rattle.condition3.proofs.Runs.Own.{own-seen}
 use Rattle.condition3.proofs.Runs.Shows.{answer-is, head-is, number-is, writer-is, value-is}
-use Rattle.condition3.proofs.Runs.ReadCounts.{after-start, after-span, asked, left, finished}
-use Rattle.condition3.proofs.Runs.ReadCounts.{left-all}
+use Rattle.condition3.proofs.Runs.ReadCounts.{after-start, after-span}
 use Rattle.condition3.proofs.Common.{known, origin}
 
 -- ---- stamps by their parts
@@ -54,50 +58,47 @@ parts-less a b (inr p) = omega (arith, p .0, p .1)
 
 -- ---- a read of s by client d, ended and then shown
 
-module _ (caps : Capacities) (w : World) (inv : Inv caps w) (d s : ℕ) (before during : List Call)
-    (end : Call) (until rest : List Call) (room : List ℕ)
-    (e : EndedBy caps w d (startRead d s) before during end)
-    (quietly : rests caps (after caps w (before ++ startRead d s ∷ during ++ end ∷ [])) d until
+module _ (caps : Capacities) (w : World) (inv : Inv caps w) (μ : Manner) (d s : ℕ)
+    (before during : List Call) (end : Call) (r : EndedRead caps w μ d s before during end)
+    (until rest : List Call) (room : List ℕ)
+    (quietly : rests caps (after caps w (before ++ startOf μ d s ∷ during ++ end ∷ [])) d until
     ≡ true)
     (enough : 10 + 9 * count s ≤ length room) where
-  abbrev u : UnderWay caps w d (startRead d s) before during
-  u = e .underWay
-
   abbrev w₁ : World
   w₁ = after caps w before
 
   abbrev v : World
-  v = after caps w (before ++ startRead d s ∷ during)
+  v = after caps w (before ++ startOf μ d s ∷ during)
 
   abbrev x : World
-  x = after caps w (before ++ startRead d s ∷ during ++ end ∷ until)
+  x = after caps w (before ++ startOf μ d s ∷ during ++ end ∷ until)
 
   abbrev stamps : ℕ → ℕ
-  stamps = asked caps w inv d s before during u
+  stamps = r .stamps
 
-  done : Finished caps d s stamps v end (left caps w inv d s before during u)
-  done = finished caps w inv d s before during u end (e .ended)
+  done : Finished caps d s (kindOf μ) (r .again) stamps v end (r .left)
+  done = r .done
 
   start : AcceptedStart caps (w₁ .tables) d s
-  start = accepted-read caps (w₁ .tables) d s .0 (u .accepted)
+  start = r .start
 
   -- the world right after the end, and the one in which it is shown
-  ended-is : after caps w (before ++ startRead d s ∷ during ++ end ∷ []) ≡ moved v end
-  ended-is = after-start caps w (before ++ startRead d s ∷ during) end (done .accepted)
+  ended-is : after caps w (before ++ startOf μ d s ∷ during ++ end ∷ []) ≡ moved v end
+  ended-is = after-start caps w (before ++ startOf μ d s ∷ during) end (done .accepted)
 
   shown-is : x ≡ after caps (moved v end) until
-  shown-is = after-span caps w (before ++ startRead d s ∷ during) until end (done .accepted)
+  shown-is = after-span caps w (before ++ startOf μ d s ∷ during) until end (done .accepted)
 
   inv-ended : Inv caps (moved v end)
   inv-ended = subst (λ (y : World). Inv caps y) ended-is
-      (after-inv caps w inv (before ++ startRead d s ∷ during ++ end ∷ []))
+      (after-inv caps w inv (before ++ startOf μ d s ∷ during ++ end ∷ []))
 
   inv-shown : Inv caps x
-  inv-shown = after-inv caps w inv (before ++ startRead d s ∷ during ++ end ∷ until)
+  inv-shown = after-inv caps w inv (before ++ startOf μ d s ∷ during ++ end ∷ until)
 
   -- the client keeps what it read
   abbrev last : Ended
-  last = wasRead s stamps (done .values)
+  last = wasRead (kindOf μ) s stamps (done .values)
 
   kept : x .tables .client d ≡ rested (v .tables .client d) last
   kept =
@@ -108,22 +109,29 @@ module _ (caps : Capacities) (w : World) (inv : Inv caps w) (d s : ℕ) (before 
       ∙ done .client
 
   sizes-same : x .tables .sizes ≡ w₁ .tables .sizes
-  sizes-same = after-sizes caps w (before ++ startRead d s ∷ during ++ end ∷ until)
+  sizes-same = after-sizes caps w (before ++ startOf μ d s ∷ during ++ end ∷ until)
       ∙ sym (after-sizes caps w before)
 
   isClient : IsClient (x .tables .sizes) d
   isClient = subst (λ z. IsClient z d) (sym sizes-same) (start .client)
+
+  -- its kind shows a read part alone
+  shows-part : showsRead (kindOf μ) ≡ true
+  shows-part = by-manner (λ ν. showsRead (kindOf ν) ≡ true) refl refl μ
+
+  shows-none : showsWrite (kindOf μ) ≡ false
+  shows-none = by-manner (λ ν. showsWrite (kindOf ν) ≡ false) refl refl μ
 
   abbrev output : List ℕ
   output = step caps (x .tables) (show d room) .output
 
   pub number-shown : (k : ℕ) → has s k ≡ true → shownNumber s output k ≡ numberOf (stamps k)
   number-shown k m = number-is caps x inv-shown d (v .tables .client d) last
-      room isClient refl kept enough k m
+      room isClient shows-part shows-none kept enough k m
 
   pub writer-shown : (k : ℕ) → has s k ≡ true → shownWriter s output k ≡ writerOf (stamps k)
   writer-shown k m = writer-is caps x inv-shown d (v .tables .client d) last
-      room isClient refl kept enough k m
+      room isClient shows-part shows-none kept enough k m
 
   shown-with : (k : ℕ) → has s k ≡ true → (a : ℕ) → ShownWith s output k a → stamps k ≡ a
   shown-with k m a p = parts-same (stamps k) a (sym (number-shown k m) ∙ p .0)
@@ -136,7 +144,7 @@ module _ (caps : Capacities) (w : World) (inv : Inv caps w) (d s : ℕ) (before 
 
   -- ---- against the history of the whole list
   abbrev calls : List Call
-  calls = before ++ startRead d s ∷ during ++ end ∷ until ++ show d room ∷ rest
+  calls = before ++ startOf μ d s ∷ during ++ end ∷ until ++ show d room ∷ rest
 
   abbrev final : World
   final = after caps w calls
@@ -144,10 +152,10 @@ module _ (caps : Capacities) (w : World) (inv : Inv caps w) (d s : ℕ) (before 
   inv-final : Inv caps final
   inv-final = after-inv caps w inv calls
 
-  -- what was known at some earlier point of the list still is
+  -- what was known at the end still is
   final-is : final ≡ after caps (moved v end) (until ++ show d room ∷ rest)
   final-is =
-      after-append caps w (before ++ startRead d s ∷ during ++ end ∷ until) (show d room ∷ rest)
+      after-append caps w (before ++ startOf μ d s ∷ during ++ end ∷ until) (show d room ∷ rest)
       ∙ ap (λ (y : World). after caps y (show d room ∷ rest)) shown-is
       ∙ sym (after-append caps (moved v end) until (show d room ∷ rest))
 
@@ -159,74 +167,46 @@ module _ (caps : Capacities) (w : World) (inv : Inv caps w) (d s : ℕ) (before 
   stores-ended σ i = subst (λ (y : World). In σ (y .stores)) (sym final-is)
       (after-stores caps (moved v end) (until ++ show d room ∷ rest) σ i)
 
-  known-started : (a : Write) → In a (known (moved w₁ (startRead d s) .writes))
-      → In a (known (final .writes))
-  known-started a i =
-      known-ended a
-      (in-left a (known (v .writes)) (begun v end)
-      (subst (λ (y : World). In a (known (y .writes)))
-      (sym (after-span caps w before during (startRead d s) (u .accepted)))
-      (after-known caps (moved w₁ (startRead d s)) during a i)))
-
-  -- what it asked for at its start
-  inv-before : Inv caps w₁
-  inv-before = after-inv caps w inv before
-
-  item-below : (k : ℕ) → has s k ≡ true → k < w₁ .tables .sizes .items
-  item-below k m = has-below s k (w₁ .tables .sizes .items) (start .set) m
-
-  asks : (k : ℕ) → has s k ≡ true → WriteOf caps w₁ inv-before k
-      (choice (w₁ .tables .view d) k (w₁ .tables .sizes .items))
-  asks k m = write-asked caps w₁ inv-before d (start .client) k (item-below k m)
-
-  stamps-are : (k : ℕ) → has s k ≡ true
-      → stamps k ≡ choice (w₁ .tables .view d) k (w₁ .tables .sizes .items)
-  stamps-are k m = rw m refl
-
-  known-asked : (k : ℕ) (m : has s k ≡ true) → In (asks k m .write) (known (final .writes))
-  unfolding begun
-  known-asked k m = known-started (asks k m .write)
-      (in-left (asks k m .write) (known (w₁ .writes)) [] (asks k m .isKnown))
+  -- what it chose
+  abbrev chose : Picked (moved v end .writes) s stamps
+  chose = done .picked
 
   unfractured : (a : Write) → In a (final .writes) → (j k : ℕ) → has s j ≡ true → has s k ≡ true
       → ShownWith s output j (a .stamp) → has (a .set) j ≡ true → has (a .set) k ≡ true
       → ShownOlder s output k (a .stamp) → ⊥
-  unfolding asks
   unfractured a i j k mj mk with-a hj hk older =
       let same : stamps j ≡ a .stamp = shown-with j mj (a .stamp) with-a in
       let less : stamps k < a .stamp = shown-older k mk (a .stamp) older in
-      let b : Write = asks j mj .write in
-      let is : b ≡ a = inv-final .unique b a (known-asked j mj) (inr i)
-      (asks j mj .same ∙ sym (stamps-are j mj) ∙ same) in
-      let late : choice (w₁ .tables .view d) j (w₁ .tables .sizes .items) ≤ choice
-      (w₁ .tables .view d) k (w₁ .tables .sizes .items) =
-      not-older caps w₁ inv-before d (start .client) j (item-below j mj) k
-      (subst (λ (z : Write). has (z .set) k ≡ true) (sym is) hk) in
-      omega (arith, stamps-are j mj, stamps-are k mk)
+      let b : Write = chose .write j mj in
+      let is : b ≡ a = inv-final .unique b a (known-ended b (chose .isKnown j mj)) (inr i)
+      (chose .same j mj ∙ same) in
+      omega (
+        arith,
+        chose .notOlder j k mj mk (subst (λ (z : Write). has (z .set) k ≡ true) (sym is) hk),
+      )
 
   -- ---- every entry is initial, or what a write put there, stored before the partition answered
   answer : (k : ℕ) → has s k ≡ true
-      → Answer (moved v end) d k (stamps k) (done .values k)
-      (left caps w inv d s before during u ++ leaving v end)
+      → Answer (moved v end) d k (stamps k) (done .values k) (r .left ++ leaving v end)
   answer k m = done .answered k m
 
-  abbrev Written : ℕ → Type 0
-  Written k =
+  abbrev Written : (k : ℕ) → has s k ≡ true → Type 0
+  Written k m =
       (a : Write) × In a (final .writes) × ShownWith s output k (a .stamp) × (has (a .set) k ≡ true)
       × (a .values k ≡ shownValue s output k)
-      × ((l : Labelled) × In l (came caps w d s before (during ++ end ∷ []))
-      × (isReplyFor d k l ≡ true) × StoredBefore (final .stores) a (answeredAt l))
+      × StoredBefore (final .stores) a (answeredAt (answer k m .reply))
 
   value-shown : (k : ℕ) → has s k ≡ true → shownValue s output k ≡ done .values k
   value-shown k m = value-is caps x inv-shown d (v .tables .client d) last
-      room isClient refl kept enough k m
+      room isClient shows-part shows-none kept enough k m
 
-  -- the write that answered item k, as the whole list knows it, is the one chosen at the start
-  chosen : (k : ℕ) (m : has s k ≡ true) → asks k m .write ≡ answer k m .write
+  -- the write that answered item k, as the whole list knows it, is the one chosen
+  chosen : (k : ℕ) (m : has s k ≡ true) → chose .write k m ≡ answer k m .write
   chosen k m =
-      inv-final .unique (asks k m .write) (answer k m .write) (known-asked k m)
+      inv-final .unique (chose .write k m) (answer k m .write)
+      (known-ended (chose .write k m) (chose .isKnown k m))
       (known-ended (answer k m .write) (answer k m .isKnown))
-      (asks k m .same ∙ sym (stamps-are k m) ∙ sym (answer k m .same))
+      (chose .same k m ∙ sym (answer k m .same))
 
   is-initial : (k : ℕ) (m : has s k ≡ true) → stamps k ≡ 0 → Initial s output k
   is-initial k m z =
@@ -245,7 +225,8 @@ module _ (caps : Capacities) (w : World) (inv : Inv caps w) (d s : ℕ) (before 
   listed a k h (inl e) = not-both (subst (λ (z : Write). has (z .set) k ≡ true) e h) (has-empty k)
   listed a k h (inr i) = i
 
-  is-written : (k : ℕ) (m : has s k ≡ true) → has (answer k m .write .set) k ≡ true → Written k
+  is-written : (k : ℕ) (m : has s k ≡ true) → has (answer k m .write .set) k ≡ true
+      → Written k m
   is-written k m h =
       let y = answer k m in (
         y .write,
@@ -257,93 +238,124 @@ module _ (caps : Capacities) (w : World) (inv : Inv caps w) (d s : ℕ) (before 
         ),
         h,
         y .brings ∙ sym (value-shown k m),
-        (
-          y .reply,
-          subst (λ (ls : List Labelled). In (y .reply) ls)
-              (sym (left-all caps w inv d s before during u end done)) (y .isLeft),
-          y .isFor,
-          λ j q. let σ = y .landed j q in (σ .0, stores-ended (σ .0) (σ .1), σ .2, σ .3, σ .4),
-        ),
+        λ j q. let σ = y .landed j q in (σ .0, stores-ended (σ .0) (σ .1), σ .2, σ .3, σ .4),
       )
 
-  written-or-initial : (k : ℕ) → has s k ≡ true → Initial s output k ⊎ Written k
+  written-or-initial : (k : ℕ) (m : has s k ≡ true) → Initial s output k ⊎ Written k m
   written-or-initial k m =
-      ⊎-elim
-      (λ z. inl (is-initial k m (stamps-are k m ∙ eqb-true
-      (choice (w₁ .tables .view d) k (w₁ .tables .sizes .items)) 0 z)))
+      ⊎-elim (λ z. inl (is-initial k m (eqb-true (stamps k) 0 z)))
       (λ h. inr (is-written k m (subst (λ (a : Write). has (a .set) k ≡ true) (chosen k m) h)))
-      (or-cases (eqb (choice (w₁ .tables .view d) k (w₁ .tables .sizes .items)) 0)
-      (has (asks k m .write .set) k) (asks k m .mine))
+      (or-cases (eqb (stamps k) 0) (has (chose .write k m .set) k) (chose .mine k m))
 
-  -- ---- nothing is shown earlier than the view had it at the start, and the view then has it
+  -- the last reply for the item brought it
+  last-reply : (k : ℕ) (m : has s k ≡ true) → LastReply d k (came caps w (startOf μ d s) before
+      (during ++ end ∷ [])) (answer k m .reply)
+  last-reply k m = subst (λ (ls : List Labelled). LastReply d k ls (answer k m .reply))
+      (sym (r .leftAll)) (answer k m .last)
 
-  pub shown-ge : (k : ℕ) → has s k ≡ true → w₁ .tables .view d k .stamp ≤ stamps k
-  shown-ge k m = rw m (choice-own (w₁ .tables .view d) k (w₁ .tables .sizes .items))
+  reply-shown : (k : ℕ) (m : has s k ≡ true)
+      → ShownWith s output k (partsOf (answer k m .reply .message) .stamp)
+  reply-shown k m = (
+    number-shown k m ∙ ap numberOf (sym (answer k m .holds)),
+    writer-shown k m ∙ ap writerOf (sym (answer k m .holds)),
+  )
+
+  -- ---- the view has what is shown
 
   pub shown-seen : (k : ℕ) → has s k ≡ true → stamps k ≤ x .tables .view d k .stamp
   shown-seen k m =
       subst (λ (y : World). stamps k ≤ y .tables .view d k .stamp) (sym shown-is)
       (le-trans (answer k m .seen) (after-view caps (moved v end) until d k))
 
-  -- ---- no entry is older than a write that counted as its client's own before
+  -- ---- no entry of an ordinary read is older than a write that counted as its client's own before
 
-  own : (o z : ℕ) (bytes : List ℕ) (earlier : List Call) → Own caps w o z bytes earlier d before
-      → (k : ℕ) → has s k ≡ true → has z k ≡ true
+  own : μ ≡ ordinary → (o z : ℕ) (bytes : List ℕ) (earlier : List Call)
+      → Own caps w o z bytes earlier d before → (k : ℕ) → has s k ≡ true → has z k ≡ true
       → ShownOlder s output k (nextStamp (after caps w earlier .tables) o) → ⊥
-  own o z bytes earlier counts k m h older =
+  own is o z bytes earlier counts k m h older =
       let stamp = nextStamp (after caps w earlier .tables) o in
       let less : stamps k < stamp = shown-older k m stamp older in
-      omega (arith, own-seen caps w inv o z bytes earlier counts k h, shown-ge k m)
+      omega (arith, own-seen caps w inv o z bytes earlier counts k h, r .late is k m)
 
   -- ---- its client's later writes are later than all it shows
 
-  -- what is chosen is a number of the view, and a write's is above them
-  small : d < 16
-  small = omega (arith, start .client .1, start .valid .inRange .sizes .clients)
-
+  -- the view has it, and a write's number is above all of the view
   pub wins : (between : List Call) (k : ℕ) → has s k ≡ true → ShownOlder s output k
-      (nextStamp (after caps w (before ++ startRead d s ∷ during ++ end ∷ until ++ show d room
+      (nextStamp (after caps w (before ++ startOf μ d s ∷ during ++ end ∷ until ++ show d room
       ∷ between) .tables) d)
   wins between k m =
-      let y : World = after caps w (before ++ startRead d s ∷ during ++ end ∷ until ++ show d room
+      let y : World = after caps w (before ++ startOf μ d s ∷ during ++ end ∷ until ++ show d room
       ∷ between) in
-      let items = w₁ .tables .sizes .items in
-      let grows : (j : ℕ) → w₁ .tables .view d j .stamp ≤ y .tables .view d j .stamp =
-      λ j. le-trans (longer-view caps w before (startRead d s ∷ during) d j)
-      (le-trans (longer-view caps w (before ++ startRead d s ∷ during) (end ∷ until) d j)
-      (longer-view caps w (before ++ startRead d s ∷ during ++ end ∷ until) (show d room ∷ between)
-      d j)) in
+      let items = y .tables .sizes .items in
+      let small : d < 16 = omega (arith, start .client .1, start .valid .inRange .sizes .clients) in
       let same : y .tables .sizes ≡ w₁ .tables .sizes =
-      after-sizes caps w (before ++ startRead d s ∷ during ++ end ∷ until ++ show d room ∷ between)
+      after-sizes caps w (before ++ startOf μ d s ∷ during ++ end ∷ until ++ show d room ∷ between)
       ∙ sym (after-sizes caps w before) in
-      let most : greatestIn (w₁ .tables .view d) items ≤ greatestIn (y .tables .view d) items =
-      greatest-le (w₁ .tables .view d) (y .tables .view d) grows items in
-      let some : numberOf (stamps k) ≤ greatestIn (w₁ .tables .view d) items =
-      subst (λ (z : ℕ). numberOf z ≤ greatestIn (w₁ .tables .view d) items) (sym (stamps-are k m))
-      (choice-number (w₁ .tables .view d) items k (item-below k m)) in
-      let all : greatestIn (y .tables .view d) (y .tables .sizes .items) ≡ greatestIn
-      (y .tables .view d) items =
-      ap (λ (z : Sizes). greatestIn (y .tables .view d) (z .items)) same in
-      inl (omega (arith, number-shown k m, small))
+      let below : k < items = subst (λ (z : Sizes). k < z .items) (sym same)
+      (has-below s k (w₁ .tables .sizes .items) (start .set) m) in
+      let seen : stamps k ≤ y .tables .view d k .stamp = le-trans (shown-seen k m)
+      (longer-view caps w (before ++ startOf μ d s ∷ during ++ end ∷ until) (show d room ∷ between)
+      d k) in
+      inl (omega (
+        arith,
+        number-shown k m,
+        small,
+        seen,
+        greatest-ge (y .tables .view d) items k below,
+      ))
 
   -- ---- and no delivery reports its end again, up to the client's next start
-  pub silent : stays caps (after caps w (before ++ startRead d s ∷ during ++ end ∷ [])) d until
+  pub silent : stays caps (after caps w (before ++ startOf μ d s ∷ during ++ end ∷ [])) d until
       ≡ true
   silent =
-      rest-stays caps (after caps w (before ++ startRead d s ∷ during ++ end ∷ []))
-      (after-inv caps w inv (before ++ startRead d s ∷ during ++ end ∷ [])) d
+      rest-stays caps (after caps w (before ++ startOf μ d s ∷ during ++ end ∷ []))
+      (after-inv caps w inv (before ++ startOf μ d s ∷ during ++ end ∷ [])) d
       (idle-rested (v .tables .client d) _
       (ap (λ (y : World). y .tables .client d) ended-is ∙ done .client)) until
       quietly
 
-  pub shows : Shows caps w calls d s before during end until room
+  pub shows : Shows caps w calls μ d s before during end until room
   shows =
       record {
         shown = answer-is caps x inv-shown d (v .tables .client d) last
-            room isClient refl kept enough;
+            room isClient shows-part shows-none kept enough;
         head = head-is caps x inv-shown d (v .tables .client d) last
-            room isClient refl kept enough;
+            room isClient shows-part shows-none kept enough
+            ∙ ap (λ (b : ℕ). b ∷ d ∷ bigEndian 8 s)
+            (by-manner (λ ν. frameByte (kindOf ν) ≡ byteOf ν) refl refl μ);
         unfractured = unfractured;
-        written = written-or-initial;
+        written = λ k m. (
+          answer k m .reply,
+          last-reply k m,
+          reply-shown k m,
+          value-shown k m ∙ sym (answer k m .bears),
+          written-or-initial k m,
+        );
         own = own;
+        fresh = λ is k m.
+            let y = answered caps w inv μ d s before during end r is k m in
+            let v = then caps w inv μ d s before during end r is k m in (
+              first caps w inv μ d s before during end r is k m .reply,
+              first caps w inv μ d s before during end r is k m .isLeft,
+              first caps w inv μ d s before during end r is k m .isFor,
+              (
+                y .early,
+                y .late,
+                (
+                  y .place,
+                  y .splits,
+                  asked-then caps w inv μ d s before during end r is k m,
+                  then-time caps w inv μ d s before during end r is k m,
+                  then-stamp caps w inv μ d s before during end r is k m,
+                  λ older. let less : stamps k < v .tables .latest k .stamp =
+                      shown-older k m (v .tables .latest k .stamp) older in
+                      omega (
+                        arith,
+                        less,
+                        then-stamp caps w inv μ d s before during end r is k m,
+                        first caps w inv μ d s before during end r is k m .notLater,
+                      ),
+                ),
+              ),
+            );
       }

@@ -1,8 +1,8 @@
 -- The numbers of a client's writes rise strictly, in every list of calls: a write raises its
 -- client's count to its own number, counts only rise, and each number is above the count.
 use mathlib.Core.List.{List, _∷_, _++_}
-use mathlib.Core.Path.{_≡_, sym, ap, _∙_}
-use Prim.Native.Nat.{ℕ, suc, _≤_, _<_}
+use mathlib.Core.Path.{_≡_, ap}
+use Prim.Native.Nat.{ℕ, suc, _<_}
 use native.Mathlib.Omega.{arith}
 use Rattle.protocol.specs.Tables.{Client, numberOf}
 use Rattle.protocol.specs.Range.{Capacities}

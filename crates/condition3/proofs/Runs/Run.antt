@@ -10,13 +10,14 @@ use borrow.Author.Tests.{eqb-true, eq-eqb}
 use Rattle.basics.proofs.Cases.{by-test}
 use Rattle.basics.specs.Lists.{In}
 use Rattle.basics.proofs.Lists.{in-left}
-use Rattle.protocol.specs.Tables.{Tables}
+use Rattle.protocol.specs.Tables.{Sizes, Tables}
 use Rattle.protocol.specs.Range.{Capacities}
 use Rattle.protocol.specs.Calls.{Call, refusal, effect}
 use Rattle.condition3.specs.World.{World, Labelled, Write, Store, begun, storing, accepts}
 use Rattle.condition3.specs.World.{moved, passed, next, after, joiningOver, leavingOver}
 use Rattle.condition3.specs.World.{joining, leaving}
-use Rattle.protocol.proofs.Sorts.{ViewGrows}
+use Rattle.protocol.proofs.Ranges.Values.{IsClient}
+use Rattle.protocol.proofs.Sorts.{ViewGrows, LatestGrows}
 use Rattle.protocol.proofs.Keeps.{keeps}
 use Rattle.condition3.proofs.Link.{Inv}
 use Rattle.condition3.proofs.Link.Step.{next-inv}
@@ -92,17 +93,45 @@ after-sizes caps =
     (λ w c. next-all caps (λ (v : World). v .tables .sizes ≡ w .tables .sizes) w c
     (λ e. keeps caps (w .tables) c e .sizes) refl)
 
--- ---- views only grow
+-- so a client that exists does on
+pub still-client : (caps : Capacities) (w : World) (d : ℕ) (xs ys : List Call)
+    → IsClient (after caps w xs .tables .sizes) d
+    → IsClient (after caps w (xs ++ ys) .tables .sizes) d
+still-client caps w d xs ys =
+    subst (λ (z : Sizes). IsClient z d)
+    (after-sizes caps w xs ∙ sym (after-sizes caps w (xs ++ ys)))
+
+-- ---- a number that no accepted call lowers: views and latest only grow, and counts rise
+
+module _ (caps : Capacities) (f : Tables → ℕ)
+    (grows : (t : Tables) (c : Call) → refusal caps t c ≡ 0 → f t ≤ f (effect t c)) where
+  after-grows : (w : World) (cs : List Call) → f (w .tables) ≤ f (after caps w cs .tables)
+  after-grows =
+      after-all caps (λ (u v : World). f (u .tables) ≤ f (v .tables)) (λ w. le-refl (f (w .tables)))
+      (λ u v w p q. le-trans p q)
+      (λ w c. next-all caps (λ (v : World). f (w .tables) ≤ f (v .tables)) w c
+      (grows (w .tables) c) (le-refl (f (w .tables))))
 
 pub after-view : (caps : Capacities) (w : World) (cs : List Call)
     → ViewGrows (w .tables) (after caps w cs .tables)
 unfolding effect
-after-view caps =
-    after-all caps (λ (u v : World). ViewGrows (u .tables) (v .tables))
-    (λ w d k. le-refl (w .tables .view d k .stamp))
-    (λ u v w p q d k. le-trans (p d k) (q d k))
-    (λ w c. next-all caps (λ (v : World). ViewGrows (w .tables) (v .tables)) w c
-    (λ e. keeps caps (w .tables) c e .view) (λ d k. le-refl (w .tables .view d k .stamp)))
+after-view caps w cs d k =
+    after-grows caps (λ t. t .view d k .stamp) (λ t c e. keeps caps t c e .view d k) w cs
+
+abbrev pub CountsRise : Tables → Tables → Type 0
+CountsRise t u = (d : ℕ) → t .client d .count ≤ u .client d .count
+
+pub after-count : (caps : Capacities) (w : World) (cs : List Call)
+    → CountsRise (w .tables) (after caps w cs .tables)
+unfolding effect
+after-count caps w cs d =
+    after-grows caps (λ t. t .client d .count) (λ t c e. keeps caps t c e .rises d) w cs
+
+pub after-latest : (caps : Capacities) (w : World) (cs : List Call)
+    → LatestGrows (w .tables) (after caps w cs .tables)
+unfolding effect
+after-latest caps w cs k =
+    after-grows caps (λ t. t .latest k .stamp) (λ t c e. keeps caps t c e .latest k) w cs
 
 -- by the end of a longer list
 pub longer-view : (caps : Capacities) (w : World) (xs ys : List Call)
@@ -119,21 +148,6 @@ since-view caps w xs c ys =
     subst (λ (v : World). ViewGrows (next caps (after caps w xs) c .tables) (v .tables))
     (sym (after-append caps w xs (c ∷ ys))) (after-view caps (next caps (after caps w xs) c) ys)
 
--- ---- counts only rise
-
-abbrev pub CountsRise : Tables → Tables → Type 0
-CountsRise t u = (d : ℕ) → t .client d .count ≤ u .client d .count
-
-pub after-count : (caps : Capacities) (w : World) (cs : List Call)
-    → CountsRise (w .tables) (after caps w cs .tables)
-unfolding effect
-after-count caps =
-    after-all caps (λ (u v : World). CountsRise (u .tables) (v .tables))
-    (λ w d. le-refl (w .tables .client d .count))
-    (λ u v w p q d. le-trans (p d) (q d))
-    (λ w c. next-all caps (λ (v : World). CountsRise (w .tables) (v .tables)) w c
-    (λ e. keeps caps (w .tables) c e .rises) (λ d. le-refl (w .tables .client d .count)))
-
 -- ---- the history grows
 
 pub after-writes : (caps : Capacities) (w : World) (cs : List Call) (a : Write) → In a (w .writes)
@@ -143,6 +157,12 @@ after-writes caps =
     (λ u v w p q a i. q a (p a i))
     (λ w c. next-all caps (λ (v : World). (a : Write) → In a (w .writes) → In a (v .writes)) w c
     (λ e a i. in-left a (w .writes) (begun w c) i) (λ a i. i))
+
+pub longer-writes : (caps : Capacities) (w : World) (xs ys : List Call) (a : Write)
+    → In a (after caps w xs .writes) → In a (after caps w (xs ++ ys) .writes)
+longer-writes caps w xs ys a i =
+    subst (λ (v : World). In a (v .writes)) (sym (after-append caps w xs ys))
+    (after-writes caps (after caps w xs) ys a i)
 
 pub after-stores : (caps : Capacities) (w : World) (cs : List Call) (σ : Store) → In σ (w .stores)
     → In σ (after caps w cs .stores)

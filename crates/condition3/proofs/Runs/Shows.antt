@@ -1,8 +1,8 @@
 -- A showing of a read that is its client's last transaction: accepted with room enough, and its
 -- output bytes say the read's stamps and values.
-use mathlib.Core.Bool.{true}
+use mathlib.Core.Bool.{true, false}
 use mathlib.Core.List.{List, _∷_, _++_}
-use mathlib.Core.Path.{_≡_, refl, ap, _∙_, subst}
+use mathlib.Core.Path.{_≡_, ap, _∙_, subst}
 use Prim.Native.Nat.{ℕ, _+_, _*_, _^_, _≤_, _<_}
 use native.Mathlib.Omega.{arith}
 use lib.Dec.{eqb}
@@ -13,9 +13,9 @@ use Rattle.hex.specs.Number.{numberAt, bigEndian}
 use Rattle.itemset.specs.Set.{has, count, rank}
 use Rattle.itemset.proofs.Laws.{below-le}
 use Rattle.protocol.specs.declared.Answer.the-variants.{Shown}
-use Rattle.protocol.specs.Tables.{Client, Ended, showsRead, rested, numberOf, writerOf}
+use Rattle.protocol.specs.Tables.{Client, Ended, showsRead, showsWrite, rested, numberOf, writerOf}
 use Rattle.protocol.specs.Range.{Capacities}
-use Rattle.protocol.specs.LogFrame.{frame}
+use Rattle.protocol.specs.LogFrame.{frameByte, frame}
 use Rattle.protocol.specs.Calls.{show, refusal, step, reply, written, isNothing, shownFrame}
 use Rattle.condition3.specs.World.{World}
 use Rattle.condition3.specs.Condition3.{shownNumber, shownWriter, shownValue}
@@ -23,14 +23,15 @@ use Rattle.protocol.proofs.Ranges.Values.{SizesInRange, IsClient}
 use Rattle.protocol.proofs.Ranges.Clients.{ReadPartInRange, EndedInRange}
 use Rattle.protocol.proofs.Ranges.Tables.{Valid}
 use Rattle.protocol.proofs.Refusals.{accepted-show, idle-rested}
-use Rattle.protocol.proofs.Shown.{length-frame-read, frame-head-client, shown-number}
+use Rattle.protocol.proofs.Shown.{shows-some, length-frame-read, frame-head-client, shown-number}
 use Rattle.protocol.proofs.Shown.{shown-writer, shown-value}
 use Rattle.condition3.proofs.Link.{Inv}
 
 -- ---- a showing of a read that is the client's last transaction
 
 module _ (caps : Capacities) (x : World) (inv : Inv caps x) (d : ℕ) (before : Client) (e : Ended)
-    (room : List ℕ) (isClient : IsClient (x .tables .sizes) d) (kind : e .kind ≡ 1)
+    (room : List ℕ) (isClient : IsClient (x .tables .sizes) d)
+    (shows : showsRead (e .kind) ≡ true) (none : showsWrite (e .kind) ≡ false)
     (kept : x .tables .client d ≡ rested before e)
     (enough : 10 + 9 * count (e .read .set) ≤ length room) where
   valid-here : Valid caps (x .tables)
@@ -45,9 +46,6 @@ module _ (caps : Capacities) (x : World) (inv : Inv caps x) (d : ℕ) (before : 
   abbrev stamps : ℕ → ℕ
   stamps = e .read .asked
 
-  shows : showsRead (e .kind) ≡ true
-  shows = rw kind refl
-
   ended : ReadPartInRange (x .tables .sizes) (e .read)
   ended = subst (λ (c : Client). EndedInRange (x .tables .sizes) (c .last)) kept
       (valid-here .inRange .client d isClient .last) .read shows
@@ -59,7 +57,7 @@ module _ (caps : Capacities) (x : World) (inv : Inv caps x) (d : ℕ) (before : 
   frame-is = ap (λ (c : Client). frame d (c .last)) kept
 
   frame-length : length (shownFrame (x .tables) d) ≡ 10 + 9 * count s
-  frame-length = ap length frame-is ∙ length-frame-read d e kind below-64
+  frame-length = ap length frame-is ∙ length-frame-read d e shows none below-64
 
   accepted : refusal caps (x .tables) (show d room) ≡ 0
   unfolding isNothing
@@ -69,7 +67,7 @@ module _ (caps : Capacities) (x : World) (inv : Inv caps x) (d : ℕ) (before : 
         valid = valid-here;
         client = isClient;
         idle = idle-rested before e kept;
-        ended = ap (λ (c : Client). isNothing (c .last)) kept ∙ rw kind refl;
+        ended = ap (λ (c : Client). isNothing (c .last)) kept ∙ shows-some (e .kind) shows;
         room = omega (arith, frame-length, enough);
       })
 
@@ -87,10 +85,9 @@ module _ (caps : Capacities) (x : World) (inv : Inv caps x) (d : ℕ) (before : 
   unfolding step written
   output-is = rw accepted (ap (λ (f : List ℕ). f ++ rest) frame-is)
 
-  pub head-is : take 10 output ≡ 0x21 ∷ d ∷ bigEndian 8 s
+  pub head-is : take 10 output ≡ frameByte (e .kind) ∷ d ∷ bigEndian 8 s
   head-is = ap (take 10) output-is
       ∙ frame-head-client d e shows rest (omega (arith, isClient .1, sizes .clients))
-      ∙ rw kind refl
 
   module _ (k : ℕ) (member : has s k ≡ true) where
     number-fits : numberOf (stamps k) < 2 ^ 32

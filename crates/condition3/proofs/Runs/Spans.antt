@@ -1,9 +1,9 @@
 -- From a transaction's start over a list of calls: a read under way, and a client at rest.
 use mathlib.Core.Bool.{true, false, cond, not, _&&_, and-false}
 use mathlib.Core.List.{List, [], _∷_, _++_, append-assoc, append-nil}
+use mathlib.Core.Logic.{_≢_}
 use mathlib.Core.Path.{_≡_, refl, sym, ap, _∙_, subst}
 use Prim.Native.Nat.{ℕ, _+_}
-use native.Mathlib.Nat.{zero-add}
 use native.Mathlib.Omega.{arith}
 use lib.Dec.{eqb}
 use borrow.Author.Tests.{eqb-true, eq-eqb, ne-eqb}
@@ -12,15 +12,17 @@ use Rattle.basics.proofs.Cases.{eqb-same}
 use Rattle.basics.specs.Lists.{counted}
 use Rattle.basics.proofs.Lists.{counted-append, counted-map, counted-all}
 use Rattle.itemset.specs.Set.{has, count, members}
+use Rattle.itemset.proofs.Laws.{has-empty, has-below}
+use Rattle.itemset.proofs.Counts.{count-empty}
 use Rattle.itemset.proofs.Members.{length-members}
 use Rattle.protocol.specs.declared.Message.the-variants.{Get}
-use Rattle.protocol.specs.Tables.{Client}
+use Rattle.protocol.specs.Tables.{Client, noWrite}
 use Rattle.protocol.specs.Range.{Capacities}
 use Rattle.protocol.specs.Steps.{reader, gets, asks}
 use Rattle.protocol.specs.Calls.{Call, startRead, refusal, effect}
-use Rattle.condition3.specs.World.{World, Labelled, labelled, placed, joining, leaving, accepts}
-use Rattle.condition3.specs.World.{moved, next, after, joiningOver, leavingOver, isRequest}
-use Rattle.condition3.specs.World.{delivers, endsFor, stays, startsFor, rests}
+use Rattle.condition3.specs.World.{World, Labelled, labelled, placed, joining, leaving}
+use Rattle.condition3.specs.World.{accepts, moved, next, after, joiningOver, leavingOver}
+use Rattle.condition3.specs.World.{isRequest, delivers, endsFor, stays, startsFor, rests}
 use Rattle.protocol.proofs.Put.{put-same}
 use Rattle.protocol.proofs.Refusals.{Idle, AcceptedStart, accepted-read}
 use Rattle.condition3.proofs.Link.{Inv}
@@ -29,10 +31,30 @@ use Rattle.condition3.proofs.Link.Step.{next-inv}
 use Rattle.condition3.proofs.Runs.Run.{next-all}
 use Rattle.condition3.proofs.Runs.Touch.{refused-outcome, Way, quiet, starts, answers, way}
 use Rattle.condition3.proofs.Runs.Touch.{no-answer}
+use Rattle.condition3.proofs.Link.Grows.{moved-grows}
+use Rattle.condition3.proofs.Link.Asks.{picked, picked-grows}
+use Rattle.condition3.proofs.Runs.Replies.{Awaiting}
 use Rattle.condition3.proofs.Runs.ReadSpan.{Reading}
 use Rattle.condition3.proofs.Runs.ReadStep.{read-goes-on}
 
 -- ---- a read from its start
+
+-- a client that awaits all of s and has had no reply
+pub starts-awaiting : (d s : ℕ) (v : World) (c : Client) → v .tables .client d ≡ c
+    → c .read .set ≡ s → c .read .awaited ≡ s → c .write ≡ noWrite → s ≢ 0
+    → Awaiting d s 0 v []
+unfolding counted
+starts-awaiting d s v c is set awaited alone some =
+    let here : v .tables .client d .read .awaited ≡ s =
+    ap (λ (x : Client). x .read .awaited) is ∙ awaited in
+    record {
+      mode = λ z. some (sym (ap (λ (x : Client). x .read .set) is ∙ set) ∙ z);
+      alone = ap (λ (x : Client). x .write) is ∙ alone;
+      set = ap (λ (x : Client). x .read .set) is ∙ set;
+      busy = ap (λ (x : ℕ). eqb x 0) here ∙ ne-eqb s 0 some;
+      once = λ k. ap (λ (x : ℕ). 0 + cond (has x k) 1 0) here ∙ rw (has-empty k) (omega arith);
+      replied = omega (arith, ap count here, count-empty);
+    }
 
 module _ (caps : Capacities) (w : World) (inv : Inv caps w) (d s : ℕ)
     (accepted : refusal caps (w .tables) (startRead d s) ≡ 0) where
@@ -43,19 +65,20 @@ module _ (caps : Capacities) (w : World) (inv : Inv caps w) (d s : ℕ)
   unfolding effect
   client-is = put-same (w .tables .client) d (reader (w .tables) d s)
 
-  pub read-started : Reading d s (reader (w .tables) d s .read .asked) (moved w (startRead d s)) []
-  unfolding counted
+  pub read-started : Reading d s 0 0 (reader (w .tables) d s .read .asked)
+      (moved w (startRead d s)) []
   read-started =
       record {
-        mode = λ z. start .some (sym (ap (λ (c : Client). c .read .set) client-is) ∙ z);
-        alone = ap (λ (c : Client). c .write) client-is;
-        set = ap (λ (c : Client). c .read .set) client-is;
+        awaiting = starts-awaiting d s (moved w (startRead d s)) (reader (w .tables) d s) client-is
+            refl refl refl (start .some);
+        isStage = ap (λ (c : Client). c .read .stage) client-is;
+        byStamp = λ z. absurd (omega (arith, ap (λ (c : Client). c .read .stage) client-is));
         asks = ap (λ (c : Client). c .read .asked) client-is;
-        busy = ap (λ (c : Client). eqb (c .read .awaited) 0) client-is ∙ ne-eqb s 0 (start .some);
-        once = λ k. ap (λ (c : Client). 0 + cond (has (c .read .awaited) k) 1 0) client-is
-            ∙ zero-add (cond (has s k) 1 0);
-        replied = zero-add (count (moved w (startRead d s) .tables .client d .read .awaited))
-            ∙ ap (λ (c : Client). count (c .read .awaited)) client-is;
+        picked = picked-grows w (moved w (startRead d s)) (moved-grows caps w (startRead d s)
+            accepted) s (reader (w .tables) d s .read .asked)
+            (picked caps w inv (w .tables .view d)
+            (λ j l. inv .sound .view d j (start .client) l) s (reader (w .tables) d s .read .asked)
+            (λ k m. has-below s k (w .tables .sizes .items) (start .set) m) (λ k m. rw m refl));
         answered =
             λ k e f. not-both e (sym (ap (λ (c : Client). has (c .read .awaited) k) client-is) ∙ f);
       }
@@ -76,22 +99,25 @@ module _ (caps : Capacities) (w : World) (inv : Inv caps w) (d s : ℕ)
 -- ---- while no call ends it
 
 pub read-during : (caps : Capacities) (v : World) → Inv caps v
-    → (d s : ℕ) (asked : ℕ → ℕ) (left : List Labelled) → Reading d s asked v left
+    → (d s stage again : ℕ) (asked : ℕ → ℕ) (left : List Labelled)
+    → Reading d s stage again asked v left
     → (cs : List Call) → stays caps v d cs ≡ true
-    → Reading d s asked (after caps v cs) (left ++ leavingOver caps v cs)
+    → Reading d s stage again asked (after caps v cs) (left ++ leavingOver caps v cs)
     × (counted (isRequest d) (joiningOver caps v cs) ≡ 0)
 unfolding after leavingOver joiningOver stays counted
-read-during caps v inv d s asked left r [] e =
-    (subst (λ (l : List Labelled). Reading d s asked v l) (sym (append-nil left)) r, refl)
-read-during caps v inv d s asked left r (c ∷ cs) e =
+read-during caps v inv d s stage again asked left r [] e = (
+  subst (λ (l : List Labelled). Reading d s stage again asked v l) (sym (append-nil left)) r,
+  refl,
+)
+read-during caps v inv d s stage again asked left r (c ∷ cs) e =
     let open′ : endsFor caps v d c ≡ false =
     not-true (endsFor caps v d c)
     (and-left (not (endsFor caps v d c)) (stays caps (next caps v c) d cs) e) in
-    let one = read-goes-on caps v inv d s asked left r c open′ in
-    let rest = read-during caps (next caps v c) (next-inv caps v inv c) d s asked
+    let one = read-goes-on caps v inv d s stage again asked left r c open′ in
+    let rest = read-during caps (next caps v c) (next-inv caps v inv c) d s stage again asked
     (left ++ cond (accepts caps v c) (leaving v c) []) (one .0) cs
     (and-right (not (endsFor caps v d c)) (stays caps (next caps v c) d cs) e) in (
-      subst (λ (l : List Labelled). Reading d s asked (after caps (next caps v c) cs) l)
+      subst (λ (l : List Labelled). Reading d s stage again asked (after caps (next caps v c) cs) l)
           (append-assoc left (cond (accepts caps v c) (leaving v c) [])
           (leavingOver caps (next caps v c) cs)) (rest .0),
       counted-append (isRequest d) (cond (accepts caps v c) (joining v c) [])

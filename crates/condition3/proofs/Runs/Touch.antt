@@ -1,8 +1,9 @@
--- Which calls touch a client's record: its own starts, and the deliveries of its prepared replies
--- and gots; any other leaves it as it was, sends it no request and brings it no reply.
-use mathlib.Core.Bool.{Bool, true, false, and-false, _&&_, _||_}
+-- Which calls touch a client's record: its own starts, and the deliveries of its prepared replies,
+-- gots and first replies; any other leaves it as it was, sends it no request and brings it no
+-- reply.
+use mathlib.Core.Bool.{Bool, true, false, and-false, _&&_}
 use mathlib.Core.List.{List, [], map}
-use mathlib.Core.Logic.{⊎-elim}
+use mathlib.Core.Logic.{_≢_, ⊎-elim}
 use mathlib.Core.Path.{_≡_, refl, sym, ap, _∙_, subst}
 use Prim.Native.Nat.{ℕ, zero, suc}
 use lib.Dec.{eqb}
@@ -14,25 +15,27 @@ use Rattle.basics.proofs.Lists.{none-counted, in-map}
 use Rattle.protocol.specs.declared.Version.{Version}
 use Rattle.protocol.specs.declared.Entry.{Entry}
 use Rattle.protocol.specs.declared.Message.{Message}
-use Rattle.protocol.specs.declared.Message.the-variants.{Prepared, Got}
+use Rattle.protocol.specs.declared.Message.the-variants.{Prepared, Got, FirstReply}
 use Rattle.protocol.specs.declared.Answer.the-variants.{Refused}
 use Rattle.protocol.specs.Tables.{Tables, Client, writerOf}
-use Rattle.protocol.specs.Message.{kindOf, isPrepared, isGet, isGot, ownerOf}
+use Rattle.protocol.specs.Message.{kindOf, isPrepared, isGot, isFirstReply, isAnyGet, isAnyGot}
+use Rattle.protocol.specs.Message.{ownerOf}
 use Rattle.protocol.specs.Range.{Capacities}
-use Rattle.protocol.specs.Steps.{joined, gets, prepares, reader}
-use Rattle.protocol.specs.Steps.{writer, messageAt}
-use Rattle.protocol.specs.Calls.{Call, startRead, startWrite, deliver, refusal, effect, step}
-use Rattle.protocol.specs.Calls.{reply, outcomeOf, pick}
+use Rattle.protocol.specs.FastRead.{fastReader, firstGets}
+use Rattle.protocol.specs.Steps.{joined, gets, prepares, reader, writer, messageAt}
+use Rattle.protocol.specs.Calls.{Call, startRead, startFastRead, startWrite, deliver, refusal}
+use Rattle.protocol.specs.Calls.{effect, step, reply, outcomeOf, pick}
 use Rattle.condition3.specs.World.{World, Labelled, labelled, placed, joining, leaving}
 use Rattle.condition3.specs.World.{isRequest, isReply, startsFor, accepts, outcomeIn}
 use Rattle.condition3.specs.World.{isDelivery, delivers, endsFor}
 use Rattle.protocol.proofs.Refusals.{Idle}
-use Rattle.protocol.proofs.Sorts.{Apart, Sort, reads, writes, delivers as delivered-at}
+use Rattle.protocol.proofs.Sorts.{Apart, Sort, reads, readsFast, writes, delivers as delivered-at}
 use Rattle.protocol.proofs.Sorts.{apart, sort}
 use Rattle.protocol.proofs.Put.{put-other}
 use Rattle.protocol.proofs.Delivered.{isAnswer, delivered-work, outcome-none, joined-each}
-use Rattle.protocol.proofs.MessageKinds.{answer-is}
-use Rattle.condition3.proofs.Sound.{Ledger, Fits, FitsPrepared, FitsGot, SoundBy}
+use Rattle.protocol.proofs.MessageKinds.{answer-is, answer-asks}
+use Rattle.condition3.proofs.Sound.{Ledger, Fits, FitsPrepared, FitsGot, FitsFirstReply}
+use Rattle.condition3.proofs.Sound.{SoundBy}
 use Rattle.condition3.proofs.Sound.Delivery.{no-message}
 use Rattle.condition3.proofs.Common.{hasItem}
 use Rattle.condition3.proofs.Link.{Inv}
@@ -40,22 +43,21 @@ use Rattle.condition3.proofs.Link.Messages.{placed-message, placed-here
 use Rattle.condition3.proofs.Link.Apart.{apart-tables, apart-origin, apart-joining}
 use Rattle.condition3.proofs.Link.Apart.{apart-leaving}
 
--- a prepared reply or a got of client d
+-- a prepared reply, a got or a first reply of client d
 abbrev pub answersTo : ℕ → Message → Bool
 answersTo d m = isAnswer m && eqb (ownerOf m) d
 
--- a delivery makes no get join
-joined-no-get : (t : Tables) (m j : Message) → In j (joined t m) → isGet j ≡ false
-joined-no-get t m =
-    joined-each (λ j. isGet j ≡ false) t m
-    (λ j r. by-test (isGet j)
-    (λ e. not-both (r .answer) (rw (eqb-true (kindOf j) 4 e) refl)) (λ e. e))
-    (λ p s some o. refl)
+-- a delivery makes no get join, but that of a first reply
+joined-no-get : (t : Tables) (m : Message) → isFirstReply m ≡ false → (j : Message)
+    → In j (joined t m) → isAnyGet j ≡ false
+joined-no-get t m f =
+    joined-each (λ j. isAnyGet j ≡ false) t m (λ j r. answer-asks j (r .answer))
+    (λ p s some o. refl) (λ first k s. not-both first f)
 
--- a got of client d is an answer to it
-got-answers : (m : Message) (d : ℕ) → isGot m ≡ true → ownerOf m ≡ d → answersTo d m ≡ true
-got-answers m d e o = and-both (isPrepared m || isGot m) (eqb (ownerOf m) d)
-    (or-right (isPrepared m) (isGot m) e) (eq-eqb (ownerOf m) d o)
+-- a got of client d, of either kind, is an answer to it
+pub got-answers : (m : Message) (d : ℕ) → isAnyGot m ≡ true → ownerOf m ≡ d → answersTo d m ≡ true
+got-answers m d e o = and-both (isAnswer m) (eqb (ownerOf m) d)
+    (or-right (isPrepared m) (isAnyGot m) e) (eq-eqb (ownerOf m) d o)
 
 -- ---- which deliveries report an end
 
@@ -87,13 +89,14 @@ no-outcome t m d o f =
 
 answers-item : (m : Message) (d : ℕ) → answersTo d m ≡ true → hasItem m ≡ true
 answers-item m d e =
-    ⊎-elim (λ f. rw (eqb-true (kindOf m) 2 f) refl) (λ f. rw (eqb-true (kindOf m) 5 f) refl)
-    (or-cases (isPrepared m) (isGot m)
-    (and-left (isPrepared m || isGot m) (eqb (ownerOf m) d) e))
+    ⊎-elim (λ f. rw (eqb-true (kindOf m) 2 f) refl)
+    (λ f. ⊎-elim (λ g. rw (eqb-true (kindOf m) 5 g) refl) (λ g. rw (eqb-true (kindOf m) 7 g) refl)
+    (or-cases (isGot m) (isFirstReply m) f))
+    (or-cases (isPrepared m) (isAnyGot m) (and-left (isAnswer m) (eqb (ownerOf m) d) e))
 
 pub answers-owner : (m : Message) (d : ℕ) → answersTo d m ≡ true → ownerOf m ≡ d
 answers-owner m d e =
-    eqb-true (ownerOf m) d (and-right (isPrepared m || isGot m) (eqb (ownerOf m) d) e)
+    eqb-true (ownerOf m) d (and-right (isAnswer m) (eqb (ownerOf m) d) e)
 
 pub record Quiet (caps : Capacities) (v : World) (c : Call) (d : ℕ) : Type 0 where
   pub ends : endsFor caps v d c ≡ false
@@ -109,16 +112,18 @@ others-labelled d e n f ms =
     (λ x i. let q = in-map (labelled e n n) x ms i in ap (isRequest d) (q .2) ∙ rw f refl)
 
 module _ (caps : Capacities) (v : World) (inv : Inv caps v) (d : ℕ) where
-  -- a delivery makes no request
-  pub no-requests : (i : ℕ) → counted (isRequest d) (joining v (deliver i)) ≡ 0
+  -- a delivery makes no request of the client, but that of a first reply of its
+  pub no-requests : (i : ℕ) → (eqb (placed v i .label .client) d ≡ true
+      → isFirstReply (messageAt (v .tables) i) ≡ false)
+      → counted (isRequest d) (joining v (deliver i)) ≡ 0
   unfolding joining
-  no-requests i =
+  no-requests i none =
       none-counted (isRequest d) (joining v (deliver i))
       (λ x p. let q = in-map (labelled (placed v i .label .client) (placed v i .label .start)
       (v .time)) x (joined (v .tables) (messageAt (v .tables) i)) p in
       ap (isRequest d) (q .2)
       ∙ by-test (eqb (placed v i .label .client) d)
-      (λ t. rw t (joined-no-get (v .tables) (messageAt (v .tables) i) (q .0) (q .1)))
+      (λ t. rw t (joined-no-get (v .tables) (messageAt (v .tables) i) (none t) (q .0) (q .1)))
       (λ t. rw t refl))
 
   no-end : (i : ℕ) → In (placed v i) (v .inFlight) → answersTo d (placed v i .message) ≡ false
@@ -148,16 +153,23 @@ module _ (caps : Capacities) (v : World) (inv : Inv caps v) (d : ℕ) where
         ends = no-end i here f;
         client = delivered-work (v .tables) (messageAt (v .tables) i) .client d
             (subst (λ (m : Message). answersTo d m ≡ false) (placed-message caps v inv i) f);
-        requests = no-requests i;
+        requests = no-requests i
+            (λ t. by-test (isFirstReply (messageAt (v .tables) i))
+            (λ e. not-both
+            (got-answers (placed v i .message) d
+            (or-right (isGot (placed v i .message)) (isFirstReply (placed v i .message))
+            (ap isFirstReply (placed-message caps v inv i) ∙ e))
+            (sym (inv .owners (placed v i) here) ∙ eqb-true (placed v i .label .client) d t)) f)
+            (λ e. e));
         replies = λ l p. ⊎-elim
             (λ e. ap (isReply d) e
             ∙ by-test (isReply d (placed v i))
             (λ t. not-both
             (got-answers (placed v i .message) d
-            (and-right (eqb (placed v i .label .client) d) (isGot (placed v i .message)) t)
+            (and-right (eqb (placed v i .label .client) d) (isAnyGot (placed v i .message)) t)
             (sym (inv .owners (placed v i) here)
             ∙ eqb-true (placed v i .label .client) d
-            (and-left (eqb (placed v i .label .client) d) (isGot (placed v i .message)) t)))
+            (and-left (eqb (placed v i .label .client) d) (isAnyGot (placed v i .message)) t)))
             f)
             (λ t. t))
             (λ z. absurd z) p;
@@ -197,6 +209,17 @@ module _ (caps : Capacities) (v : World) (inv : Inv caps v) (d : ℕ) where
         requests = others-labelled d e (v .time) f (gets (v .tables) e s);
         replies = λ l p. absurd p;
       }))
+  sort-way (readsFast e s a) =
+      by-test (eqb e d)
+      (λ t. starts (startFastRead e s) t)
+      (λ f. quiet (startFastRead e s)
+      (record {
+        ends = refl;
+        client = put-other (v .tables .client) e (fastReader (v .tables) e s) d
+            (λ q. eqb-false e d f (sym q));
+        requests = others-labelled d e (v .time) f (firstGets (v .tables) e s);
+        replies = λ l p. absurd p;
+      }))
   sort-way (writes e s bytes a) =
       by-test (eqb e d)
       (λ t. starts (startWrite e s bytes) t)
@@ -220,33 +243,57 @@ module _ (caps : Capacities) (v : World) (inv : Inv caps v) (d : ℕ) where
 
 -- ---- answers go to a client with the right part
 
--- an answer to a client with no write part is a got
-pub got-of : (L : Ledger) (vs : List Version) (c : Client) (m : Message) (d : ℕ)
-    → answersTo d m ≡ true → Fits L vs c m → c .write .set ≡ 0
-    → (u : Version) × ((e : Entry) × (m ≡ Got d u e))
-unfolding Fits
-got-of L vs c m d t f r =
-    ⊎-elim
-    (λ x. let fit : FitsPrepared vs c (x .0) (x .1 .0) = subst (Fits L vs c) (x .1 .1) f in
-    absurd (fit .mode r))
-    (λ x.
-    let same : x .0 ≡ d = sym (ap ownerOf (x .1 .1 .1)) ∙ answers-owner m d t in
-    (x .1 .0, (x .1 .1 .0, x .1 .1 .1 ∙ ap (λ (e : ℕ). Got e (x .1 .0) (x .1 .1 .0)) same)))
-    (answer-is m (and-left (isAnswer m) (eqb (ownerOf m) d) t))
+module _ (L : Ledger) (vs : List Version) (c : Client) (m : Message) (d : ℕ)
+    (t : answersTo d m ≡ true) (f : Fits L vs c m) where
+  -- a prepared reply, of its stamp; a got, outside a first part; a first reply, in a first part
+  pub data Kind : Type 0 where
+    prepared : (k s : ℕ) → m ≡ Prepared k s → writerOf s ≡ d → FitsPrepared vs c k s → Kind
+    got : (u : Version) (e : Entry) → m ≡ Got d u e → FitsGot L vs c u e → Kind
+    first : (u : Version) (e : Entry) → m ≡ FirstReply d u e → FitsFirstReply L vs c u e → Kind
 
--- an answer to a client with no read part is a prepared reply, of its stamp
-pub prepared-of : (L : Ledger) (vs : List Version) (c : Client) (m : Message) (d : ℕ)
-    → answersTo d m ≡ true → Fits L vs c m → c .read .set ≡ 0
-    → (k : ℕ) × ((s : ℕ) × (m ≡ Prepared k s) × (writerOf s ≡ d) × (c .write .stamp ≡ s))
-unfolding Fits
-prepared-of L vs c m d t f r =
-    ⊎-elim
-    (λ x. let fit : FitsPrepared vs c (x .0) (x .1 .0) = subst (Fits L vs c) (x .1 .1) f in
-    (x .0, (x .1 .0, x .1 .1, sym (ap ownerOf (x .1 .1)) ∙ answers-owner m d t, fit .stamp)))
-    (λ x. let fit : FitsGot L vs c (x .1 .0) (x .1 .1 .0) =
-    subst (Fits L vs c) (x .1 .1 .1) f in
-    absurd (fit .mode r))
-    (answer-is m (and-left (isAnswer m) (eqb (ownerOf m) d) t))
+  pub kind-of : Kind
+  unfolding Fits
+  kind-of =
+      ⊎-elim
+      (λ x. prepared (x .0) (x .1 .0) (x .1 .1)
+      (sym (ap ownerOf (x .1 .1)) ∙ answers-owner m d t) (subst (Fits L vs c) (x .1 .1) f))
+      (⊎-elim
+      (λ x. got (x .1 .0) (x .1 .1 .0) (x .1 .1 .1
+      ∙ ap (λ (e : ℕ). Got e (x .1 .0) (x .1 .1 .0))
+      (sym (ap ownerOf (x .1 .1 .1)) ∙ answers-owner m d t)) (subst (Fits L vs c) (x .1 .1 .1) f))
+      (λ x. first (x .1 .0) (x .1 .1 .0) (x .1 .1 .1
+      ∙ ap (λ (e : ℕ). FirstReply e (x .1 .0) (x .1 .1 .0))
+      (sym (ap ownerOf (x .1 .1 .1)) ∙ answers-owner m d t)) (subst (Fits L vs c) (x .1 .1 .1) f)))
+      (answer-is m (and-left (isAnswer m) (eqb (ownerOf m) d) t))
+
+  -- with no write part, a got or a first reply; with no read part, a prepared reply
+  pub got-of : c .write .set ≡ 0 → c .read .stage ≢ 1
+      → (u : Version) × ((e : Entry) × (m ≡ Got d u e))
+  got-of none n = go kind-of
+    where
+      go : Kind → (u : Version) × ((e : Entry) × (m ≡ Got d u e))
+      go (prepared k s is own fit) = absurd (fit .mode none)
+      go (got u e is fit) = (u, (e, is))
+      go (first u e is fit) = absurd (n (fit .byItem))
+
+  pub first-of : c .write .set ≡ 0 → c .read .stage ≡ 1
+      → (u : Version) × ((e : Entry) × (m ≡ FirstReply d u e))
+  first-of none stage = go kind-of
+    where
+      go : Kind → (u : Version) × ((e : Entry) × (m ≡ FirstReply d u e))
+      go (prepared k s is own fit) = absurd (fit .mode none)
+      go (got u e is fit) = absurd (fit .byStamp stage)
+      go (first u e is fit) = (u, (e, is))
+
+  pub prepared-of : c .read .set ≡ 0
+      → (k : ℕ) × ((s : ℕ) × (m ≡ Prepared k s) × (writerOf s ≡ d) × (c .write .stamp ≡ s))
+  prepared-of none = go kind-of
+    where
+      go : Kind → (k : ℕ) × ((s : ℕ) × (m ≡ Prepared k s) × (writerOf s ≡ d)
+          × (c .write .stamp ≡ s))
+      go (prepared k s is own fit) = (k, (s, is, own, fit .stamp))
+      go (got u e is fit) = absurd (fit .mode none)
+      go (first u e is fit) = absurd (fit .mode none)
 
 -- and an idle client has none
 pub no-answer : (caps : Capacities) (L : Ledger) (t : Tables) → SoundBy caps L t → (m : Message)

@@ -15,7 +15,7 @@ use Rattle.protocol.proofs.Sorts.{aside, Apart}
 use Rattle.protocol.proofs.Keeps.{valid-apart}
 use Rattle.condition3.proofs.Sound.{Ledger, GoodEntry, SoundBy}
 use Rattle.condition3.proofs.Sound.Carry.{Carries, view-carried, latest-carried}
-use Rattle.condition3.proofs.Sound.Carry.{writes-carried, fits-carried}
+use Rattle.condition3.proofs.Sound.Carry.{writes-carried, firsts-carried, fits-carried}
 use Rattle.condition3.proofs.Sound.Distinct.{distinct-sublist}
 use Rattle.condition3.proofs.Common.{like-self}
 
@@ -43,6 +43,7 @@ module _ (caps : Capacities) (L : Ledger) (t : Tables) (sound : SoundBy caps L t
         distinct = distinct-sublist (a .fewer) (sound .distinct);
         writes = writes-carried caps L t sound Used (used-covered t) L (a .versions) carries;
         last = sound .last;
+        firsts = firsts-carried caps L t sound Used (used-covered t) L (a .versions) carries;
         one = sound .one;
         fits = λ m i.
             fits-carried caps L t sound Used (used-covered t) L (a .versions) carries m i

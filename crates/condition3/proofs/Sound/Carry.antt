@@ -10,17 +10,19 @@ use lib.Dec.{eqb, ltb}
 use Rattle.basics.proofs.Cases.{by-test, or-left, or-right, eqb-same}
 use Rattle.basics.specs.Lists.{In}
 use Rattle.itemset.specs.Set.{has}
+use Rattle.itemset.proofs.Laws.{has-below}
 use Rattle.protocol.specs.declared.Version.{Version}
 use Rattle.protocol.specs.declared.Entry.{Entry}
 use Rattle.protocol.specs.declared.Message.{Message}
 use Rattle.protocol.specs.declared.Message.the-variants.{Prepare, Prepared, Commit, Get, Got}
-use Rattle.protocol.specs.Tables.{Tables, Client, Ended, writerOf}
-use Rattle.protocol.specs.Tables.{laterOf, entryOf}
+use Rattle.protocol.specs.declared.Message.the-variants.{FirstGet, FirstReply}
+use Rattle.protocol.specs.Tables.{Tables, Client, Ended, writerOf, laterOf, entryOf}
 use Rattle.protocol.specs.Message.{partsOf, ownerOf}
-use Rattle.protocol.specs.Range.{Capacities}
+use Rattle.protocol.specs.Range.{Capacities, hasFirst}
 use Rattle.protocol.specs.Steps.{stored}
 use Rattle.protocol.specs.Clear.{mentions}
 use Rattle.protocol.proofs.Cleared.{Covers}
+use Rattle.protocol.proofs.FastRead.{first-in-set}
 use Rattle.protocol.proofs.Ranges.Values.{IsClient, owner-in-range}
 use Rattle.condition3.proofs.Sound.{Ledger, Good, GoodEntry, Kept, Last, Writes, Fits}
 use Rattle.condition3.proofs.Sound.{SoundBy}
@@ -115,6 +117,7 @@ module _ (L L′ : Ledger) (vs vs′ : List Version) where
       let s : Like c c′ = like refl in
       record {
         mode = λ z. x .mode (sym (s .reads) ∙ z);
+        byStamp = λ z. x .byStamp (sym (s .stage) ∙ z);
         asked = s .asked k ∙ x .asked;
         good = carry-good k s₀ (carries s₀ (mentions-own (Get d k s₀))) (x .good);
       }
@@ -126,7 +129,24 @@ module _ (L L′ : Ledger) (vs vs′ : List Version) where
       carries (e .stamp) (mentions-latest (Got d v e)) in
       record {
         mode = λ z. x .mode (sym (s .reads) ∙ z);
+        byStamp = λ z. x .byStamp (sym (s .stage) ∙ z);
         asked = s .asked (v .item) ∙ x .asked;
+        version = carry-entry (v .item) (entryOf v) a (x .version);
+        value = x .value ∙ sym (a .value (v .item) (x .version .good .mine));
+        latest = carry-entry (v .item) e b (x .latest);
+      }
+  carry-fits c c′ (FirstGet d k) like own keep carries x =
+      let s : Like c c′ = like refl in
+      record { mode = λ z. x .mode (sym (s .reads) ∙ z); byItem = s .stage ∙ x .byItem }
+  carry-fits c c′ (FirstReply d v e) like own keep carries x =
+      let s : Like c c′ = like refl in
+      let a : Carries L L′ vs vs′ (v .stamp) =
+      carries (v .stamp) (mentions-own (FirstReply d v e)) in
+      let b : Carries L L′ vs vs′ (e .stamp) =
+      carries (e .stamp) (mentions-latest (FirstReply d v e)) in
+      record {
+        mode = λ z. x .mode (sym (s .reads) ∙ z);
+        byItem = s .stage ∙ x .byItem;
         version = carry-entry (v .item) (entryOf v) a (x .version);
         value = x .value ∙ sym (a .value (v .item) (x .version .good .mine));
         latest = carry-entry (v .item) e b (x .latest);
@@ -143,6 +163,7 @@ all-covered t = record {
   latest = λ k l. tt;
   message = λ m i s e. tt;
   write = λ d i m. tt;
+  first = λ d k i l e. tt;
 }
 
 -- ---- what changes neither place nor message is carried
@@ -169,6 +190,15 @@ module _ (caps : Capacities) (L : Ledger) (t : Tables) (sound : SoundBy caps L t
       → Writes L′ vs′ d (t .client d)
   writes-carried d i m = carry-writes L L′ (t .versions) vs′ d (t .client d)
       (carries (t .client d .write .stamp) (covers .write d i m)) (sound .writes d i m)
+
+  pub firsts-carried : (d k : ℕ) → IsClient (t .sizes) d → hasFirst (t .client d .read) k ≡ true
+      → GoodEntry L′ vs′ k (t .client d .read .firsts k)
+  firsts-carried d k i e =
+      let p = t .client d .read in
+      let l : k < t .sizes .items = has-below (p .set) k (t .sizes .items)
+      (sound .valid .inRange .client d i .read .set) (first-in-set p k e) in
+      carry-entry L L′ (t .versions) vs′ k (p .firsts k)
+      (carries (p .firsts k .stamp) (covers .first d k i l e)) (sound .firsts d k i e)
 
   pub fits-carried : (m : Message) → In m (t .messages) → (c′ : Client)
       → (hasItem m ≡ true → Like (t .client (ownerOf m)) c′)

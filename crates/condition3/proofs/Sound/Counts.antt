@@ -12,8 +12,10 @@ use Rattle.basics.specs.Lists.{In}
 use Rattle.itemset.specs.Set.{has}
 use Rattle.protocol.specs.declared.Message.{Message}
 use Rattle.protocol.specs.declared.Message.the-variants.{Prepare, Prepared, Commit, Get, Got}
+use Rattle.protocol.specs.declared.Message.the-variants.{FirstGet, FirstReply}
 use Rattle.protocol.specs.Tables.{Tables, numberOf, writerOf}
-use Rattle.protocol.specs.Message.{partsOf, isGet, itemOf}
+use Rattle.protocol.specs.Message.{partsOf, isAnyGet, itemOf}
+use Rattle.protocol.specs.Calls.{soughtBy}
 use Rattle.protocol.specs.Range.{Capacities}
 use Rattle.protocol.specs.Steps.{stored, found}
 use Rattle.protocol.specs.Clear.{mentions}
@@ -48,11 +50,12 @@ module _ (caps : Capacities) (L : Ledger) (t : Tables) (sound : SoundBy caps L t
       subst (λ (e : ℕ). numberOf (t .client d .write .stamp) ≤ t .client e .count) (sym writer)
       (write-number L (t .versions) d (t .client d) small w)
 
-  -- the stamps of a message, its own and its latest's, are counted; a get's is good
+  -- the stamps of a message, its own and its latest's, are counted; the one that a get is for, of
+  -- either kind, is good
   pub record Stamps (m : Message) : Type 0 where
     pub own : Counted (t .client) (partsOf m .stamp)
     pub latest : Counted (t .client) (partsOf m .latest .stamp)
-    pub asked : isGet m ≡ true → Good L (t .versions) (itemOf m) (partsOf m .stamp)
+    pub asked : isAnyGet m ≡ true → Good L (t .versions) (itemOf m) (soughtBy t m)
 
   pub stamps : (m : Message) → In m (t .messages) → Stamps m
   unfolding Fits
@@ -88,6 +91,19 @@ module _ (caps : Capacities) (L : Ledger) (t : Tables) (sound : SoundBy caps L t
         latest = good-counted (v .item) (l .stamp) (fit .latest .good);
         asked = λ e. not-both e refl;
       }
+  stamps (FirstGet d k) i =
+      record {
+        own = zero-counted;
+        latest = zero-counted;
+        asked = λ e. sound .latest k (sound .valid .inRange .messages (FirstGet d k) i .item) .good;
+      }
+  stamps (FirstReply d v l) i =
+      let fit = sound .fits (FirstReply d v l) i in
+      record {
+        own = good-counted (v .item) (v .stamp) (fit .version .good);
+        latest = good-counted (v .item) (l .stamp) (fit .latest .good);
+        asked = λ e. not-both e refl;
+      }
 
   message-counted : (m : Message) → In m (t .messages) → (s : ℕ) → mentions s m ≡ true
       → Counted (t .client) s
@@ -106,4 +122,6 @@ module _ (caps : Capacities) (L : Ledger) (t : Tables) (sound : SoundBy caps L t
         latest = λ k l. good-counted k (t .latest k .stamp) (sound .latest k l .good);
         message = message-counted;
         write = write-counted;
+        first = λ d k i l e. good-counted k (t .client d .read .firsts k .stamp)
+            (sound .firsts d k i e .good);
       }

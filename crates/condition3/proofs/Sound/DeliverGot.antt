@@ -4,8 +4,9 @@ use mathlib.Core.List.{List, []}
 use mathlib.Core.Logic.{_≢_, _⊎_, inl, inr}
 use mathlib.Core.Path.{_≡_, refl, sym, _∙_, subst}
 use Prim.Native.Nat.{ℕ, _≤_, _<_}
+use lib.Dec.{eqb}
 use native.Mathlib.Nat.{le-refl}
-use Rattle.basics.proofs.Cases.{by-test}
+use Rattle.basics.proofs.Cases.{by-test, not-both}
 use Rattle.basics.specs.Lists.{counted, without}
 use Rattle.itemset.specs.Set.{has, remove}
 use Rattle.itemset.proofs.Laws.{has-empty}
@@ -13,23 +14,23 @@ use Rattle.protocol.specs.declared.Version.{Version}
 use Rattle.protocol.specs.declared.Entry.{Entry}
 use Rattle.protocol.specs.declared.Message.{Message}
 use Rattle.protocol.specs.declared.Message.the-variants.{Got}
-use Rattle.protocol.specs.Tables.{Tables, Client, Side, ofRead, ofWrite, awaitedOf, rested}
-use Rattle.protocol.specs.Tables.{laterOf, entryOf, put}
+use Rattle.protocol.specs.Tables.{Tables, Client, Side, ofRead, ofWrite, awaitedOf, rested, noRead}
+use Rattle.protocol.specs.Tables.{put}
 use Rattle.protocol.specs.Message.{ownerOf}
-use Rattle.protocol.specs.Range.{Capacities}
-use Rattle.protocol.specs.Steps.{delivered, joined, stored, seen, commits, got, answered}
-use Rattle.protocol.specs.Steps.{offered, endedRead, ended, isLast}
+use Rattle.protocol.specs.Range.{Capacities, hasFirst}
+use Rattle.protocol.specs.Steps.{delivered, joined, stored, seen, commits, got, answered, offered}
+use Rattle.protocol.specs.Steps.{endedRead, ended, isLast}
 use Rattle.protocol.proofs.Each.{Each, each-none, each-append}
 use Rattle.protocol.proofs.Put.{by-cond, put-every}
+use Rattle.protocol.proofs.FastRead.{no-first, first-apart}
 use Rattle.protocol.proofs.Ranges.Values.{IsClient}
 use Rattle.protocol.proofs.Ranges.Tables.{Valid}
 use Rattle.condition3.proofs.Sound.{Ledger, GoodEntry, Writes, Last, FitsGot, Fits, SoundBy}
-use Rattle.condition3.proofs.Sound.Carry.{later-good, owner-client, recounted}
-use Rattle.condition3.proofs.Sound.Carry.{last-recounted}
+use Rattle.condition3.proofs.Sound.Carry.{owner-client, recounted, last-recounted}
 use Rattle.condition3.proofs.Sound.End.{has-some, commits-for, ended-last, seen-good}
 use Rattle.condition3.proofs.Sound.End.{commits-fit}
 use Rattle.condition3.proofs.Sound.Delivery.{Taken, one-after, likes}
-use Rattle.condition3.proofs.Sound.Staying.{afterDelivery, staying}
+use Rattle.condition3.proofs.Sound.Staying.{afterDelivery, staying, grown-good}
 use Rattle.condition3.proofs.Common.{isFor, ofSide, by-side, leftOf, Like, struck-last}
 
 module _ (caps : Capacities) (L : Ledger) (t : Tables) (sound : SoundBy caps L t) (i : ℕ) (d : ℕ)
@@ -64,20 +65,12 @@ module _ (caps : Capacities) (L : Ledger) (t : Tables) (sound : SoundBy caps L t
   abbrev entries : ℕ → Entry
   entries = cond last (seen grown (c .write .set) (c .write .stamp)) grown
 
-  -- all three that the entry is the latest of are good
-  grown-good : (j : ℕ) → j < t .sizes .items → GoodEntry L (t .versions) j (grown j)
-  grown-good =
-      put-every (λ (j : ℕ) (x : Entry). j < t .sizes .items → GoodEntry L (t .versions) j x)
-      (t .view d) k (offered (t .view d k) v latest)
-      (λ l. later-good L (t .versions) k (laterOf (t .view d k) latest) (entryOf v)
-      (later-good L (t .versions) k (t .view d k) latest (sound .view d k is-client l)
-      (fit .latest)) (fit .version)) (λ j n l. sound .view d j is-client l)
-
   entries-good : (j : ℕ) → j < t .sizes .items → GoodEntry L (t .versions) j (entries j)
   entries-good j l =
+      let good = grown-good caps L t sound d is-client v latest (fit .version) (fit .latest) j l in
       by-test last
-      (λ e. rw e (seen-good caps L t sound d is-client (arrived e) grown j (grown-good j l)))
-      (λ e. rw e (grown-good j l))
+      (λ e. rw e (seen-good caps L t sound d is-client (arrived e) grown j good))
+      (λ e. rw e good)
 
   view : (e j : ℕ) → IsClient (t .sizes) e → j < t .sizes .items
       → GoodEntry L (t .versions) j (put (t .view) d entries e j)
@@ -99,7 +92,14 @@ module _ (caps : Capacities) (L : Ledger) (t : Tables) (sound : SoundBy caps L t
       (λ f. rw f refl))
 
   like : last ≡ false → Like c c′
-  like f = rw f (record { reads = refl; writes = refl; stamp = refl; asked = λ j. refl })
+  like f =
+      rw f (record {
+        reads = refl;
+        writes = refl;
+        stamp = refl;
+        asked = λ j. refl;
+        stage = refl;
+      })
 
   count : (e : ℕ) → t .client e .count ≤ put (t .client) d c′ e .count
   count =
@@ -114,12 +114,21 @@ module _ (caps : Capacities) (L : Ledger) (t : Tables) (sound : SoundBy caps L t
       (λ f. rw f (λ m. let w = sound .writes d is-client m in
       record { newest = w .newest; agrees = w .agrees; values = w .values; arrived = w .arrived }))
 
+  -- in a second part the first replies stay
+  firsts-here : (j : ℕ) → hasFirst (c′ .read) j ≡ true
+      → GoodEntry L (t .versions) j (c′ .read .firsts j)
+  firsts-here j =
+      by-test last (λ l. rw l (λ e. not-both e (no-first noRead j refl)))
+      (λ f. rw f (λ e. sound .firsts d j is-client
+      (sym (first-apart (c .read) (answered c k (v .value) .read) j (fit .byStamp) refl refl)
+      ∙ e)))
+
   ended-here : Last L (put (t .client) d c′) (c′ .last)
   ended-here =
       by-test last
       (λ l. subst (λ (x : Client). Last L (put (t .client) d c′) (x .last)) (sym (by-cond-true l))
       (ended-last caps L t sound d is-client (put (t .client) d c′) count
-      (endedRead (answered c k (v .value) .read))))
+      (endedRead (answered c k (v .value) .read)) (eqb (c .read .stage) 0)))
       (λ f. subst (λ (x : Client). Last L (put (t .client) d c′) (x .last)) (sym (by-cond-false f))
       (last-recounted L (t .client) (put (t .client) d c′) count (c .last)
       (sound .last d is-client)))
@@ -171,12 +180,15 @@ module _ (caps : Capacities) (L : Ledger) (t : Tables) (sound : SoundBy caps L t
             → Last L (put (t .client) d c′) (x .last)) (t .client) d c′
             (λ h. ended-here) (λ e n h. last-recounted L (t .client) (put (t .client) d c′) count
             (t .client e .last) (sound .last e h));
+        firsts = λ e j h. put-every (λ (e : ℕ) (x : Client). IsClient (t .sizes) e
+            → hasFirst (x .read) j ≡ true → GoodEntry L (t .versions) j (x .read .firsts j))
+            (t .client) d c′ (λ h. firsts-here j) (λ e n h. sound .firsts e j h) e h;
         one = one-after caps L t sound i
             (Got d v latest) taken ofRead d k refl refl mine c′ struck-awaited js none-for;
         fits = each-append (λ x. Fits L (t .versions) (put (t .client) d c′ (ownerOf x)) x)
             (without i (t .messages)) js
             (staying caps L t sound i (put (t .client) d c′)
             (likes caps L t sound i
-            (Got d v latest) taken ofRead d k refl refl mine c′ struck-awaited like))
+            (Got d v latest) taken ofRead d k refl refl mine c′ like))
             joins;
       }

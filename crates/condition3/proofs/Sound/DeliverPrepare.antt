@@ -14,8 +14,7 @@ use Rattle.itemset.specs.Set.{has}
 use Rattle.protocol.specs.declared.Version.{Version}
 use Rattle.protocol.specs.declared.Message.{Message}
 use Rattle.protocol.specs.declared.Message.the-variants.{Prepare, Prepared}
-use Rattle.protocol.specs.Tables.{Side, ofRead, ofWrite, awaitedOf, Tables, numberOf}
-use Rattle.protocol.specs.Tables.{writerOf}
+use Rattle.protocol.specs.Tables.{Side, ofRead, ofWrite, awaitedOf, Tables, numberOf, writerOf}
 use Rattle.protocol.specs.Message.{ownerOf}
 use Rattle.protocol.specs.Range.{Capacities}
 use Rattle.protocol.specs.Steps.{delivered, joined, stored, alike}
@@ -26,7 +25,7 @@ use Rattle.protocol.proofs.Ranges.Tables.{Valid}
 use Rattle.condition3.proofs.Sound.{Ledger, Kept, FitsPrepare, Fits, SoundBy}
 use Rattle.condition3.proofs.Sound.Carry.{Carries, Any, all-covered, owner-client}
 use Rattle.condition3.proofs.Sound.Carry.{view-carried, latest-carried, writes-carried}
-use Rattle.condition3.proofs.Sound.Carry.{fits-carried}
+use Rattle.condition3.proofs.Sound.Carry.{firsts-carried, fits-carried}
 use Rattle.condition3.proofs.Sound.Delivery.{Taken, not-again}
 use Rattle.condition3.proofs.Sound.Distinct.{distinct-append}
 use Rattle.condition3.proofs.Sound.Staying.{afterDelivery, write-number, small}
@@ -122,6 +121,7 @@ module _ (caps : Capacities) (L : Ledger) (t : Tables) (sound : SoundBy caps L t
           distinct = distinct-append (t .versions) v (sound .distinct) (fit .unstored);
           writes = writes-carried caps L t sound Any (all-covered t) L vs′ carries;
           last = sound .last;
+          firsts = firsts-carried caps L t sound Any (all-covered t) L vs′ carries;
           one = one;
           fits = each-append (λ x. Fits L vs′ (t .client (ownerOf x)) x) (without i (t .messages))
               (Prepared (v .item) (v .stamp) ∷ [])

@@ -7,21 +7,22 @@ use Prim.Native.Nat.{ℕ, _≤_, _<_}
 use native.Mathlib.Nat.{le-refl}
 use lib.Dec.{eqb}
 use borrow.Author.Tests.{eqb-true, eqb-false}
-use Rattle.basics.proofs.Cases.{by-test}
+use Rattle.basics.proofs.Cases.{by-test, not-both}
 use Rattle.basics.specs.Lists.{counted, without}
 use Rattle.itemset.specs.Set.{has, remove}
 use Rattle.itemset.proofs.Laws.{has-empty, has-remove-other}
 use Rattle.protocol.specs.declared.Entry.{Entry}
 use Rattle.protocol.specs.declared.Message.{Message}
 use Rattle.protocol.specs.declared.Message.the-variants.{Prepared}
-use Rattle.protocol.specs.Tables.{Tables, Client, Side, ofRead, ofWrite, awaitedOf, rested}
+use Rattle.protocol.specs.Tables.{Tables, Client, Side, ofRead, ofWrite, awaitedOf, rested, noRead}
 use Rattle.protocol.specs.Tables.{writerOf, put}
 use Rattle.protocol.specs.Message.{ownerOf}
-use Rattle.protocol.specs.Range.{Capacities}
+use Rattle.protocol.specs.Range.{Capacities, hasFirst}
 use Rattle.protocol.specs.Steps.{delivered, joined, stored, prepared, struck, ended, seen}
 use Rattle.protocol.specs.Steps.{endedRead, isLast, commits}
 use Rattle.protocol.proofs.Each.{Each, each-none, each-append}
 use Rattle.protocol.proofs.Put.{by-cond, put-every}
+use Rattle.protocol.proofs.FastRead.{no-first}
 use Rattle.protocol.proofs.Ranges.Values.{IsClient}
 use Rattle.protocol.proofs.Ranges.Tables.{Valid}
 use Rattle.condition3.proofs.Sound.{Ledger, GoodEntry, Writes, Last, FitsPrepared, Fits}
@@ -99,7 +100,14 @@ module _ (caps : Capacities) (L : Ledger) (t : Tables) (sound : SoundBy caps L t
       (λ f. rw f refl))
 
   like : last ≡ false → Like c c′
-  like f = rw f (record { reads = refl; writes = refl; stamp = refl; asked = λ j. refl })
+  like f =
+      rw f (record {
+        reads = refl;
+        writes = refl;
+        stamp = refl;
+        asked = λ j. refl;
+        stage = refl;
+      })
 
   count : (e : ℕ) → t .client e .count ≤ put (t .client) d c′ e .count
   count =
@@ -118,12 +126,18 @@ module _ (caps : Capacities) (L : Ledger) (t : Tables) (sound : SoundBy caps L t
         arrived = left-arrived;
       }))
 
+  firsts-here : (j : ℕ) → hasFirst (c′ .read) j ≡ true
+      → GoodEntry L (t .versions) j (c′ .read .firsts j)
+  firsts-here j =
+      by-test last (λ l. rw l (λ e. not-both e (no-first noRead j refl)))
+      (λ f. rw f (sound .firsts d j is-client))
+
   ended-here : Last L (put (t .client) d c′) (c′ .last)
   ended-here =
       by-test last
       (λ l. subst (λ (x : Client). Last L (put (t .client) d c′) (x .last)) (sym (by-cond-true l))
       (ended-last caps L t sound d is-client (put (t .client) d c′) count
-      (endedRead (c .read))))
+      (endedRead (c .read)) (eqb (c .read .stage) 0)))
       (λ f. subst (λ (x : Client). Last L (put (t .client) d c′) (x .last)) (sym (by-cond-false f))
       (last-recounted L (t .client) (put (t .client) d c′) count (c .last)
       (sound .last d is-client)))
@@ -175,11 +189,14 @@ module _ (caps : Capacities) (L : Ledger) (t : Tables) (sound : SoundBy caps L t
             → Last L (put (t .client) d c′) (x .last)) (t .client) d c′
             (λ h. ended-here) (λ e n h. last-recounted L (t .client) (put (t .client) d c′) count
             (t .client e .last) (sound .last e h));
+        firsts = λ e j h. put-every (λ (e : ℕ) (x : Client). IsClient (t .sizes) e
+            → hasFirst (x .read) j ≡ true → GoodEntry L (t .versions) j (x .read .firsts j))
+            (t .client) d c′ (λ h. firsts-here j) (λ e n h. sound .firsts e j h) e h;
         one = one-after caps L t sound i
             (Prepared k s) taken ofWrite d k refl refl mine c′ struck-awaited js none-for;
         fits = each-append (λ x. Fits L (t .versions) (put (t .client) d c′ (ownerOf x)) x)
             (without i (t .messages)) js
             (staying caps L t sound i (put (t .client) d c′)
             (likes caps L t sound i
-            (Prepared k s) taken ofWrite d k refl refl mine c′ struck-awaited like)) joins;
+            (Prepared k s) taken ofWrite d k refl refl mine c′ like)) joins;
       }

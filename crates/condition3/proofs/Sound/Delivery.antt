@@ -24,8 +24,8 @@ use Rattle.protocol.proofs.Ranges.Values.{IsClient}
 use Rattle.protocol.proofs.Refusals.{Idle, idle-awaits}
 use Rattle.condition3.proofs.Sound.{Ledger, SoundBy}
 use Rattle.condition3.proofs.Sound.Carry.{owner-client}
-use Rattle.condition3.proofs.Common.{isFor, hasItem, ofSide, side-of, leftOf, Like, like-self}
-use Rattle.condition3.proofs.Common.{struck-last}
+use Rattle.condition3.proofs.Common.{isFor, hasItem, ofSide, side-of, leftOf, Like}
+use Rattle.condition3.proofs.Common.{like-self, struck-last}
 
 -- m stands at place i
 pub record Taken (t : Tables) (i : ℕ) (m : Message) : Type 0 where
@@ -77,13 +77,11 @@ module _ (caps : Capacities) (L : Ledger) (t : Tables) (sound : SoundBy caps L t
     not-again σ d k c e x h = counted-none (isFor σ d k) (without i (t .messages))
         (none-left σ d k c e) x h
 
-    -- the reply for item k of side σ of client d, whose record becomes c′
+    -- the reply for item k of side σ of client d
     module _ (σ : Side) (d k : ℕ) (owner : ownerOf m ≡ d) (item : itemOf m ≡ k)
         (mine : (τ : Side) → ((ofSide τ m ≡ true) × (leftOf σ (t .client d) k τ ≡ remove
         (awaitedOf τ (t .client d)) k))
-        ⊎ ((ofSide τ m ≡ false) × (leftOf σ (t .client d) k τ ≡ awaitedOf τ (t .client d))))
-        (c′ : Client) (struck : (τ : Side) (j : ℕ) → has (awaitedOf τ c′) j ≡ has
-        (leftOf σ (t .client d) k τ) j) where
+        ⊎ ((ofSide τ m ≡ false) × (leftOf σ (t .client d) k τ ≡ awaitedOf τ (t .client d)))) where
       abbrev c : Client
       c = t .client d
 
@@ -121,29 +119,6 @@ module _ (caps : Capacities) (L : Ledger) (t : Tables) (sound : SoundBy caps L t
           (λ p. others-counted τ d j is-client (is-for τ false (p .0) d j) ∙ rw (p .1) refl)
           (mine τ)
 
-      one-struck : (τ : Side) (e j : ℕ) → IsClient (t .sizes) e
-          → counted (isFor τ e j) (without i (t .messages)) ≡ cond
-          (has (awaitedOf τ (put (t .client) d c′ e)) j) 1 0
-      one-struck τ e j h =
-          by-test (eqb e d)
-          (λ u. rw u
-          (subst (λ (f : ℕ). counted (isFor τ f j) (without i (t .messages)) ≡ cond
-          (has (awaitedOf τ c′) j) 1 0) (sym (eqb-true e d u))
-          (one-here τ j ∙ rw (struck τ j) refl)))
-          (λ f. rw f (others-counted τ e j h (other τ e j (λ x. eqb-false e d f (sym x)))))
-        where
-          other : (τ : Side) (e j : ℕ) → (d ≡ e → ⊥) → isFor τ e j m ≡ false
-          other τ e j n = is-for τ (ofSide τ m) refl e j
-              ∙ rw (ne-eqb d e n) (and-false (ofSide τ m))
-
-      pub one-after : (js : List Message) → ((τ : Side) (e j : ℕ) → counted (isFor τ e j) js ≡ 0)
-          → (τ : Side) (e j : ℕ) → IsClient (t .sizes) e
-          → counted (isFor τ e j) (without i (t .messages) ++ js) ≡ cond
-          (has (awaitedOf τ (put (t .client) d c′ e)) j) 1 0
-      one-after js none τ e j h =
-          counted-append (isFor τ e j) (without i (t .messages)) js ∙ omega (arith, none τ e j)
-          ∙ one-struck τ e j h
-
       -- a message of this client that stays is for an item still awaited, so this was not the last
       pub not-last : (x : Message) → In x (without i (t .messages)) → hasItem x ≡ true
           → ownerOf x ≡ d → isLast σ c k ≡ false
@@ -161,12 +136,38 @@ module _ (caps : Capacities) (L : Ledger) (t : Tables) (sound : SoundBy caps L t
           absurd (omega arith))
           (λ f. f)
 
-      pub likes : (isLast σ c k ≡ false → Like c c′) → (x : Message)
+      pub likes : (c′ : Client) → (isLast σ c k ≡ false → Like c c′) → (x : Message)
           → In x (without i (t .messages)) → hasItem x ≡ true
           → Like (t .client (ownerOf x)) (put (t .client) d c′ (ownerOf x))
-      likes like x p e =
+      likes c′ like x p e =
           by-test (eqb (ownerOf x) d)
           (λ u. rw u
           (subst (λ (f : ℕ). Like (t .client f) c′) (sym (eqb-true (ownerOf x) d u))
           (like (not-last x p e (eqb-true (ownerOf x) d u)))))
           (λ f. rw f (like-self (t .client (ownerOf x))))
+
+      -- whose record becomes c′, with k struck
+      module _ (c′ : Client) (struck : (τ : Side) (j : ℕ) → has (awaitedOf τ c′) j ≡ has
+          (leftOf σ c k τ) j) where
+        pub one-struck : (τ : Side) (e j : ℕ) → IsClient (t .sizes) e
+            → counted (isFor τ e j) (without i (t .messages)) ≡ cond
+            (has (awaitedOf τ (put (t .client) d c′ e)) j) 1 0
+        one-struck τ e j h =
+            by-test (eqb e d)
+            (λ u. rw u
+            (subst (λ (f : ℕ). counted (isFor τ f j) (without i (t .messages)) ≡ cond
+            (has (awaitedOf τ c′) j) 1 0) (sym (eqb-true e d u))
+            (one-here τ j ∙ rw (struck τ j) refl)))
+            (λ f. rw f (others-counted τ e j h (other τ e j (λ x. eqb-false e d f (sym x)))))
+          where
+            other : (τ : Side) (e j : ℕ) → (d ≡ e → ⊥) → isFor τ e j m ≡ false
+            other τ e j n = is-for τ (ofSide τ m) refl e j
+                ∙ rw (ne-eqb d e n) (and-false (ofSide τ m))
+
+        pub one-after : (js : List Message) → ((τ : Side) (e j : ℕ) → counted (isFor τ e j) js ≡ 0)
+            → (τ : Side) (e j : ℕ) → IsClient (t .sizes) e
+            → counted (isFor τ e j) (without i (t .messages) ++ js) ≡ cond
+            (has (awaitedOf τ (put (t .client) d c′ e)) j) 1 0
+        one-after js none τ e j h =
+            counted-append (isFor τ e j) (without i (t .messages)) js ∙ omega (arith, none τ e j)
+            ∙ one-struck τ e j h

@@ -1,7 +1,7 @@
 -- What the end of a transaction does for its write part, whichever reply ends it: the entries that
 -- its items' views take are good, its commits fit and are for no item, and the ended write agrees
 -- with the ledger.
-use mathlib.Core.Bool.{true, cond}
+use mathlib.Core.Bool.{Bool, true, cond}
 use mathlib.Core.Path.{_≡_, refl, sym, ap, subst}
 use mathlib.Core.Logic.{_≢_}
 use Prim.Native.Nat.{ℕ, zero, suc, _≤_}
@@ -62,15 +62,15 @@ module _ (caps : Capacities) (L : Ledger) (t : Tables) (sound : SoundBy caps L t
   stamp = c .write .stamp
 
   pub ended-last : (client′ : ℕ → Client) → ((e : ℕ) → t .client e .count ≤ client′ e .count)
-      → (p : ReadPart)
+      → (p : ReadPart) (fast : Bool)
       → Last L client′ (record {
-        kind = cond (eqb (c .write .set) 0) 1 2;
+        kind = cond (eqb (c .write .set) 0) (cond fast 1 3) 2;
         read = p;
         write = endedWrite (c .write);
       })
-  ended-last client′ rises p shows =
+  ended-last client′ rises p fast shows =
       by-test (eqb (c .write .set) 0)
-      (λ e. not-both (rw e at shows) refl)
+      (λ e. not-both (rw e at shows) (by-test fast (λ f. rw f refl) (λ f. rw f refl)))
       (λ e. let some = eqb-false (c .write .set) 0 e in
       record {
         agrees = sound .writes d is-client some .agrees;

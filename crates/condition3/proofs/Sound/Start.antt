@@ -1,4 +1,4 @@
--- What both starts share: an idle client takes a transaction, with one message for each item of its
+-- What all starts share: an idle client takes a transaction, with one message for each item of its
 -- set; the ledger may take a stamp that is new.
 use mathlib.Core.Bool.{true, false, cond, _&&_, _||_, and-false}
 use mathlib.Core.List.{List, _++_, map}
@@ -9,7 +9,7 @@ use native.Mathlib.Omega.{arith}
 use native.Mathlib.Nat.{le-trans}
 use lib.Dec.{eqb}
 use borrow.Author.Tests.{eqb-true, eqb-false, eq-eqb, ne-eqb}
-use Rattle.basics.proofs.Cases.{by-test, or-right}
+use Rattle.basics.proofs.Cases.{by-test, not-both, or-right}
 use Rattle.basics.specs.Lists.{In, counted}
 use Rattle.basics.proofs.Lists.{counted-append, counted-map, counted-ext, none-counted}
 use Rattle.itemset.specs.Set.{has, members}
@@ -18,15 +18,16 @@ use Rattle.protocol.specs.declared.Version.{Version}
 use Rattle.protocol.specs.declared.Message.{Message}
 use Rattle.protocol.specs.Tables.{Tables, Client, Side, awaitedOf, Ended, withClient, withMessages}
 use Rattle.protocol.specs.Message.{ownerOf, itemOf}
-use Rattle.protocol.specs.Range.{Capacities}
+use Rattle.protocol.specs.Range.{Capacities, hasFirst}
 use Rattle.protocol.proofs.Each.{each-append}
 use Rattle.protocol.proofs.Put.{put-every}
 use Rattle.protocol.proofs.Ranges.Values.{IsClient}
 use Rattle.protocol.proofs.Refusals.{Idle, idle-awaits}
 use Rattle.protocol.proofs.Ranges.Tables.{Valid}
-use Rattle.condition3.proofs.Sound.{Ledger, Kept, Counted, Writes, Last, Fits, SoundBy}
+use Rattle.condition3.proofs.Sound.{Ledger, GoodEntry, Kept, Counted, Writes, Last, Fits}
+use Rattle.condition3.proofs.Sound.{SoundBy}
 use Rattle.condition3.proofs.Sound.Carry.{Carries, view-carried, latest-carried}
-use Rattle.condition3.proofs.Sound.Carry.{writes-carried, fits-carried}
+use Rattle.condition3.proofs.Sound.Carry.{writes-carried, firsts-carried, fits-carried}
 use Rattle.condition3.proofs.Sound.Delivery.{no-message}
 use Rattle.condition3.proofs.Sound.Counts.{counted-covered}
 use Rattle.condition3.proofs.Common.{isFor, hasItem, ofSide, Like, like-self, members-once}
@@ -125,9 +126,10 @@ module _ (caps : Capacities) (L : Ledger) (t : Tables) (sound : SoundBy caps L t
 
   pub begin-sound : Valid caps t′ → (L′ .set 0 ≡ 0) → ((k : ℕ) → L′ .value 0 k ≡ 0)
       → (c′ .write .set ≢ 0 → Writes L′ (t .versions) d c′)
+      → ((k : ℕ) → hasFirst (c′ .read) k ≡ false)
       → ((x : Message) → In x ms → Fits L′ (t .versions) (t′ .client (ownerOf x)) x)
       → SoundBy caps L′ t′
-  begin-sound ok noSet noValue writes joins =
+  begin-sound ok noSet noValue writes none joins =
       record {
         valid = ok;
         noSet = noSet;
@@ -147,6 +149,11 @@ module _ (caps : Capacities) (L : Ledger) (t : Tables) (sound : SoundBy caps L t
             (λ h. subst (λ (e : Ended). Last L′ (t′ .client) e) (sym last)
             (last-kept (t .client d .last) (sound .last d h)))
             (λ e n h. last-kept (t .client e .last) (sound .last e h));
+        firsts = λ e k h. put-every (λ (e : ℕ) (x : Client). IsClient (t .sizes) e
+            → hasFirst (x .read) k ≡ true → GoodEntry L′ (t .versions) k (x .read .firsts k))
+            (t .client) d c′ (λ h f. not-both f (none k))
+            (λ e n h. firsts-carried caps L t sound (Counted (t .client))
+            (counted-covered caps L t sound) L′ (t .versions) carries e k h) e h;
         one = one;
         fits = each-append (λ x. Fits L′ (t .versions) (t′ .client (ownerOf x)) x) (t .messages) ms
             (λ x p. fits-carried caps L t sound (Counted (t .client))

@@ -5,6 +5,7 @@ use mathlib.Core.Logic.{⊎-elim}
 use mathlib.Core.Path.{_≡_, refl, sym, subst, _∙_}
 use Prim.Native.Nat.{ℕ, _^_, _<_}
 use native.Mathlib.Nat.{le-refl}
+use native.Mathlib.Omega.{arith}
 use lib.Dec.{eqb}
 use Rattle.basics.proofs.Cases.{or-right, not-both}
 use Rattle.basics.specs.Lists.{counted}
@@ -20,11 +21,13 @@ use Rattle.protocol.proofs.Each.{each-upto}
 use Rattle.protocol.proofs.Put.{put-same}
 use Rattle.protocol.proofs.Refusals.{Idle}
 use Rattle.protocol.proofs.Stored.{Chosen, choice-chosen}
+use Rattle.protocol.proofs.FastRead.{no-first}
 use Rattle.protocol.proofs.Ranges.Values.{IsClient}
 use Rattle.protocol.proofs.Ranges.Tables.{Valid}
 use Rattle.condition3.proofs.Sound.{Ledger, Good, GoodEntry, Fits, SoundBy}
 use Rattle.condition3.proofs.Sound.Carry.{carries-self}
-use Rattle.condition3.proofs.Sound.Start.{begin-sound, part-counted, part-uncounted, none-due}
+use Rattle.condition3.proofs.Sound.Start.{begin-sound, part-counted, part-uncounted}
+use Rattle.condition3.proofs.Sound.Start.{none-due}
 use Rattle.condition3.proofs.Common.{isFor, by-side}
 
 -- the stamp chosen from a view of good entries is good
@@ -65,12 +68,13 @@ module _ (caps : Capacities) (L : Ledger) (t : Tables) (sound : SoundBy caps L t
       (λ e j. part-uncounted ofWrite (t .sizes .items) s (λ k. Get d k (asks t d k)) (λ k. refl) e j
       ∙ sym (none-due d e j)))
       (le-refl (t .client d .count)) refl ok (sound .noSet) (sound .noValue)
-      (λ m. absurd (m refl))
+      (λ m. absurd (m refl)) (λ k. no-first (reader t d s .read) k refl)
       (each-upto (λ x. Fits L (t .versions) (put (t .client) d (reader t d s) (ownerOf x)) x)
       (λ k. Get d k (asks t d k)) (t .sizes .items) (has s)
       (λ k l e. rw (put-same (t .client) d (reader t d s))
       (record {
         mode = λ z. not-both e (rw z (has-empty k));
+        byStamp = λ z. absurd (omega arith);
         asked = rw e refl;
         good = choice-good L t (t .view d) (t .sizes .items) (λ j l. sound .view d j is-client l) k
             (has-below s k (t .sizes .items) below e);

@@ -11,11 +11,13 @@ use Rattle.basics.specs.Lists.{counted}
 use Rattle.itemset.proofs.Laws.{has-empty}
 use Rattle.itemset.specs.Set.{has}
 use Rattle.protocol.specs.declared.Message.the-variants.{Prepare}
-use Rattle.protocol.specs.Tables.{Tables, ofRead, ofWrite, awaitedOf, numberOf, writerOf, put}
+use Rattle.protocol.specs.Tables.{noRead, Tables, ofRead, ofWrite, awaitedOf, numberOf, writerOf}
+use Rattle.protocol.specs.Tables.{put}
 use Rattle.protocol.specs.Message.{ownerOf}
 use Rattle.protocol.specs.Range.{Capacities}
 use Rattle.protocol.specs.Steps.{writer, version, valueOf, nextStamp, startedWrite, stored}
 use Rattle.protocol.specs.Steps.{prepares}
+use Rattle.protocol.proofs.FastRead.{no-first}
 use Rattle.protocol.proofs.Each.{each-upto}
 use Rattle.protocol.proofs.Refusals.{Idle}
 use Rattle.protocol.proofs.Put.{put-same, put-other}
@@ -107,6 +109,7 @@ module _ (caps : Capacities) (L : Ledger) (t : Tables) (sound : SoundBy caps L t
         values = λ k e. sym (value-is k);
         arrived = λ k e g. not-both e g;
       })
+      (λ k. no-first noRead k refl)
       (each-upto (λ x. Fits L′ (t .versions) (put (t .client) d (writer t d s bytes) (ownerOf x)) x)
       (λ k. Prepare (version k (valueOf s bytes k) stamp s)) (t .sizes .items) (has s)
       (λ k l e. rw (writer-is, put-same (t .client) d (writer t d s bytes))

@@ -13,16 +13,20 @@ use Rattle.basics.specs.Lists.{In, without}
 use Rattle.basics.proofs.Lists.{in-without}
 use Rattle.itemset.specs.Set.{has}
 use Rattle.protocol.specs.declared.Version.{Version}
+use Rattle.protocol.specs.declared.Entry.{Entry}
 use Rattle.protocol.specs.declared.Message.{Message}
-use Rattle.protocol.specs.Tables.{Tables, Client, numberOf, stampOf, withMessages}
+use Rattle.protocol.specs.Tables.{Tables, Client, numberOf, stampOf, laterOf, entryOf, put}
+use Rattle.protocol.specs.Tables.{withMessages}
 use Rattle.protocol.specs.Message.{ownerOf}
 use Rattle.protocol.specs.Range.{Capacities}
-use Rattle.protocol.specs.Steps.{version, delivered, joined, stored, found}
+use Rattle.protocol.specs.Steps.{version, offered, delivered, joined, stored, found}
 use Rattle.protocol.proofs.Each.{Each}
+use Rattle.protocol.proofs.Put.{put-every}
 use Rattle.protocol.proofs.Stored.{found-held, not-found}
 use Rattle.protocol.proofs.Ranges.Values.{IsClient}
-use Rattle.condition3.proofs.Sound.{Ledger, Good, Writes, Fits, SoundBy}
-use Rattle.condition3.proofs.Sound.Carry.{carries-self, Any, all-covered, fits-carried}
+use Rattle.condition3.proofs.Sound.{Ledger, Good, GoodEntry, Writes, Fits, SoundBy}
+use Rattle.condition3.proofs.Sound.Carry.{carries-self, later-good, Any, all-covered}
+use Rattle.condition3.proofs.Sound.Carry.{fits-carried}
 use Rattle.condition3.proofs.Common.{hasItem, Like, like-self}
 
 abbrev pub afterDelivery : Tables → ℕ → Message → Tables
@@ -33,6 +37,20 @@ pub write-number : (L : Ledger) (vs : List Version) (d : ℕ) (c : Client) → d
     → numberOf (c .write .stamp) ≤ c .count
 write-number L vs d c l w = let e : c .write .stamp ≡ stampOf (c .count) d = w .newest in
     rw e (omega arith)
+
+-- a view with what a reply offers to it: all three that the entry is the latest of are good
+pub grown-good : (caps : Capacities) (L : Ledger) (t : Tables) (sound : SoundBy caps L t) (d : ℕ)
+    → IsClient (t .sizes) d → (v : Version) (latest : Entry)
+    → GoodEntry L (t .versions) (v .item) (entryOf v) → GoodEntry L (t .versions) (v .item) latest
+    → (j : ℕ) → j < t .sizes .items → GoodEntry L (t .versions) j
+    (put (t .view d) (v .item) (offered (t .view d (v .item)) v latest) j)
+grown-good caps L t sound d is-client v latest version late =
+    let k = v .item in
+    put-every (λ (j : ℕ) (x : Entry). j < t .sizes .items → GoodEntry L (t .versions) j x)
+    (t .view d) k (offered (t .view d k) v latest)
+    (λ l. later-good L (t .versions) k (laterOf (t .view d k) latest) (entryOf v)
+    (later-good L (t .versions) k (t .view d k) latest (sound .view d k is-client l)
+    late) version) (λ j n l. sound .view d j is-client l)
 
 module _ (caps : Capacities) (L : Ledger) (t : Tables) (sound : SoundBy caps L t) (i : ℕ) where
   abbrev z : ℕ

@@ -39,6 +39,20 @@ got-requires : tie.Need-got-requires
 got-requires c κs = let p = c .before .before .before .before .before .pre in let x =
     subst Bounded (c .before .before .m5 .given .1) (p .4) in (p .2, x .0, x .1, x .2)
 
+enum-known-m-6 : tie.Need-enum-known-m-6
+enum-known-m-6 c = search needs
+
+first-get-requires : tie.Need-first-get-requires
+first-get-requires c κs = let x = subst Bounded (c .before .before .m6 .given .1)
+    (c .before .before .before .before .before .pre .4) in x .2
+
+enum-known-m-7 : tie.Need-enum-known-m-7
+enum-known-m-7 c = search needs
+
+first-reply-requires : tie.Need-first-reply-requires
+first-reply-requires c κs = let p = c .before .before .before .before .before .pre in let x =
+    subst Bounded (c .before .before .m7 .given .1) (p .4) in (p .2, x .0, x .1, x .2, p .5)
+
 same-length : tie.Need-same-length
 same-length c = search needs
 
@@ -79,6 +93,22 @@ unfolding messageDelivered
 returns-5 c = rw (c .before .before .before .before .before .m5 .given .1)
     (c .before .before .got .ensures)
 
+same-length-6 : tie.Need-same-length-6
+same-length-6 c = search needs
+
+returns-6 : tie.Need-returns-6
+unfolding messageDelivered
+returns-6 c = rw (c .before .before .before .before .before .m6 .given .1)
+    (c .before .before .first-get .ensures)
+
+same-length-7 : tie.Need-same-length-7
+same-length-7 c = search needs
+
+returns-7 : tie.Need-returns-7
+unfolding messageDelivered
+returns-7 c = rw (c .before .before .before .before .before .m7 .given .1)
+    (c .before .before .first-reply .ensures)
+
 pub work-spec : {M : Type 1} → statement M
 work-spec =
     tie.close
@@ -93,6 +123,10 @@ work-spec =
     get-requires
     enum-known-m-5
     got-requires
+    enum-known-m-6
+    first-get-requires
+    enum-known-m-7
+    first-reply-requires
     same-length
     returns
     same-length-2
@@ -102,4 +136,8 @@ work-spec =
     same-length-4
     returns-4
     same-length-5
-    returns-5)
+    returns-5
+    same-length-6
+    returns-6
+    same-length-7
+    returns-7)

@@ -42,9 +42,21 @@ message-count-requires-2 c κs = search needs
 same-length : tie.Need-same-length
 same-length c = search needs
 
+outcome-requires : tie.Need-outcome-requires
+outcome-requires c κs =
+    let messages = c .before .before .before .before .before .before .before in
+    let versions = messages .before .before in
+    let items = versions .before .before in
+    let partitions = items .before .before in
+    let start = partitions .before .before .before .before .before in
+    deliver-ready (start .args .b .now) (start .args .i) (start .pre .0) _ _ _ _ _
+    (messages .message-count .ensures)
+    (partitions .partitions .ensures) (items .items .ensures) (versions .version-count .ensures)
+    (start .pre .1) .1 .4
+
 returns : tie.Need-returns
 returns c =
-    let sent = c .before .before .before .before in
+    let sent = c .before .before .before .before .before .before in
     let messages = sent .before .before in
     let versions = messages .before .before in
     let items = versions .before .before in
@@ -54,8 +66,9 @@ returns c =
     deliver-given (start .args .b .now) (start .args .i) (start .pre .0) _ _ _ _ _ _
     (messages .message-count .ensures)
     (partitions .partitions .ensures) (items .items .ensures) (versions .version-count .ensures)
-    (start .pre .1) (start .pre .2) _ _ _
-    (sent .deliver-message .ensures) (c .message-count2 .ensures) (kind .kind .ensures)
+    (start .pre .1) (start .pre .2) _ _ _ _
+    (sent .deliver-message .ensures) (c .before .before .message-count2 .ensures)
+    (kind .kind .ensures) (c .outcome .ensures)
 
 pub deliver-on-spec : {M : Type 1} → statement M
 deliver-on-spec =
@@ -68,5 +81,6 @@ deliver-on-spec =
     message-count-requires
     deliver-message-requires
     message-count-requires-2
+    outcome-requires
     same-length
     returns)

@@ -49,7 +49,7 @@ returns c =
     let v : found (table (a .n) f) (a .item) (a .stamp) ≡ f i =
     found-first (a .n) f (a .item) (a .stamp) ∙ ap (foundAt f (a .item) (a .stamp)) e
     in
-    rw (or-right _ _ s) (ap (told 0 0) (c .version .ensures ∙ sym v))
+    rw (or-right _ _ s) (ap (told 0) (c .version .ensures ∙ sym v))
 
 returns-2 : tie.Need-returns-2
 returns-2 c =
@@ -63,7 +63,7 @@ returns-2 c =
     found-first (a .n) f (a .item) (a .stamp) ∙ ap (foundAt f (a .item) (a .stamp)) e
     in
     rw (s, or-false, v)
-    (ap (λ (x : ℕ). told x 0 (version (a .item) 0 (a .stamp) 0)) (c .pick .ensures))
+    (ap (λ (x : ℕ). told x (version (a .item) 0 (a .stamp) 0)) (c .pick .ensures))
 
 pub get-spec : {M : Type 1} → statement M
 get-spec =

@@ -73,20 +73,26 @@ enum-known-frame-5 c = search needs
 show-requires : tie.Need-show-requires
 show-requires c κs = search needs
 
+enum-known-frame-6 : tie.Need-enum-known-frame-6
+enum-known-frame-6 c = search needs
+
+start-fast-read-requires : tie.Need-start-fast-read-requires
+start-fast-read-requires c κs = search needs
+
 enum-told : tie.Need-enum-told
 enum-told c = search needs
 
 clear-requires : tie.Need-clear-requires
 clear-requires c κs = search needs
 
-enum-known-frame-6 : tie.Need-enum-known-frame-6
-enum-known-frame-6 c = search needs
+enum-known-frame-7 : tie.Need-enum-known-frame-7
+enum-known-frame-7 c = search needs
 
 hand-over-requires : tie.Need-hand-over-requires
 hand-over-requires c κs = search needs
 
-enum-known-frame-7 : tie.Need-enum-known-frame-7
-enum-known-frame-7 c = search needs
+enum-known-frame-8 : tie.Need-enum-known-frame-8
+enum-known-frame-8 c = search needs
 
 compare-requires : tie.Need-compare-requires
 compare-requires c κs = search needs
@@ -201,6 +207,25 @@ same-length-7 c = search needs
 returns-6 : tie.Need-returns-6
 unfolding callAnswer callBlock callOutput
 returns-6 c =
+    let arm = c .before .before .before .before .before in
+    let a = arm .before .before .before .before .before .args in
+    let b = a .b .now in
+    let f = a .f .now in
+    let o = a .shown .now in
+    let told = arm .frame6 .given .1 in (
+      c .before .before .start-fast-read .ensures .0 ∙ sym (ap (callAnswer b f o) told),
+      (
+        c .before .before .start-fast-read .ensures .1 .0 ∙ sym (ap (callBlock b f o) told),
+        sym (ap (callOutput b f o) told),
+      ),
+    )
+
+same-length-8 : tie.Need-same-length-8
+same-length-8 c = search needs
+
+returns-7 : tie.Need-returns-7
+unfolding callAnswer callBlock callOutput
+returns-7 c =
     let arm = c .before .before .before .before in
     let a = arm .before .before .before .before .before .args in
     let b = a .b .now in
@@ -214,18 +239,18 @@ returns-6 c =
       ),
     )
 
-same-length-8 : tie.Need-same-length-8
-same-length-8 c = search needs
+same-length-9 : tie.Need-same-length-9
+same-length-9 c = search needs
 
-returns-7 : tie.Need-returns-7
+returns-8 : tie.Need-returns-8
 unfolding callAnswer callBlock callOutput
-returns-7 c =
+returns-8 c =
     let arm = c .before .before .before .before .before in
     let a = arm .before .before .before .before .before .args in
     let b = a .b .now in
     let f = a .f .now in
     let o = a .shown .now in
-    let told = arm .frame6 .given .1 in (
+    let told = arm .frame7 .given .1 in (
       c .before .before .hand-over .ensures .0 ∙ sym (ap (callAnswer b f o) told),
       (
         c .before .before .hand-over .ensures .1 .0 ∙ sym (ap (callBlock b f o) told),
@@ -233,18 +258,18 @@ returns-7 c =
       ),
     )
 
-same-length-9 : tie.Need-same-length-9
-same-length-9 c = search needs
+same-length-10 : tie.Need-same-length-10
+same-length-10 c = search needs
 
-returns-8 : tie.Need-returns-8
+returns-9 : tie.Need-returns-9
 unfolding callAnswer callBlock callOutput
-returns-8 c =
+returns-9 c =
     let arm = c .before .before .before in
     let a = arm .before .before .before .before .before .args in
     let b = a .b .now in
     let f = a .f .now in
     let o = a .shown .now in
-    let told = arm .frame7 .given .1 in (
+    let told = arm .frame8 .given .1 in (
       c .compare .ensures .0 ∙ sym (ap (callAnswer b f o) told),
       (
         c .compare .ensures .1 ∙ sym (ap (callBlock b f o) told),
@@ -269,11 +294,13 @@ call-spec =
     deliver-requires
     enum-known-frame-5
     show-requires
+    enum-known-frame-6
+    start-fast-read-requires
     enum-told
     clear-requires
-    enum-known-frame-6
-    hand-over-requires
     enum-known-frame-7
+    hand-over-requires
+    enum-known-frame-8
     compare-requires
     same-length
     returns
@@ -291,4 +318,6 @@ call-spec =
     same-length-8
     returns-7
     same-length-9
-    returns-8)
+    returns-8
+    same-length-10
+    returns-9)

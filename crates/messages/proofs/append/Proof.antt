@@ -34,6 +34,18 @@ enum-known-m-5 c = search needs
 join-requires-5 : tie.Need-join-requires-5
 join-requires-5 c κs = search needs
 
+enum-known-m-6 : tie.Need-enum-known-m-6
+enum-known-m-6 c = search needs
+
+join-requires-6 : tie.Need-join-requires-6
+join-requires-6 c κs = search needs
+
+enum-known-m-7 : tie.Need-enum-known-m-7
+enum-known-m-7 c = search needs
+
+join-requires-7 : tie.Need-join-requires-7
+join-requires-7 c κs = search needs
+
 same-length : tie.Need-same-length
 same-length c = search needs
 
@@ -74,6 +86,22 @@ unfolding appendMessage storeMessage
 returns-5 c = rw (c .before .before .before .before .before .m5 .given .1)
     (c .before .before .join5 .ensures)
 
+same-length-6 : tie.Need-same-length-6
+same-length-6 c = search needs
+
+returns-6 : tie.Need-returns-6
+unfolding appendMessage storeMessage
+returns-6 c = rw (c .before .before .before .before .before .m6 .given .1)
+    (c .before .before .join6 .ensures)
+
+same-length-7 : tie.Need-same-length-7
+same-length-7 c = search needs
+
+returns-7 : tie.Need-returns-7
+unfolding appendMessage storeMessage
+returns-7 c = rw (c .before .before .before .before .before .m7 .given .1)
+    (c .before .before .join7 .ensures)
+
 pub append-spec : {M : Type 1} → statement M
 append-spec =
     tie.close
@@ -88,6 +116,10 @@ append-spec =
     join-requires-4
     enum-known-m-5
     join-requires-5
+    enum-known-m-6
+    join-requires-6
+    enum-known-m-7
+    join-requires-7
     same-length
     returns
     same-length-2
@@ -97,4 +129,8 @@ append-spec =
     same-length-4
     returns-4
     same-length-5
-    returns-5)
+    returns-5
+    same-length-6
+    returns-6
+    same-length-7
+    returns-7)

@@ -5,9 +5,9 @@ use lib.ListN.{replicate}
 use Rattle.protocol.specs.declared.Version.{Version}
 use Rattle.protocol.specs.declared.Entry.{Entry}
 use Rattle.protocol.specs.declared.Message.the-variants.{Prepare, Prepared, Commit, Get, Got}
-use Rattle.protocol.specs.Tables.{Sizes, Tables, Client, Ended, noRead, noWrite, nothing}
-use Rattle.protocol.specs.Tables.{fresh, initial, resting, stampOf, put, withClient, withView}
-use Rattle.protocol.specs.Tables.{withVersions, withMessages, withWrite}
+use Rattle.protocol.specs.Tables.{Sizes, Tables, Client, ReadPart, Ended, noRead, noWrite}
+use Rattle.protocol.specs.Tables.{nothing, fresh, initial, resting, stampOf, put, withClient}
+use Rattle.protocol.specs.Tables.{withView, withVersions, withMessages, withWrite}
 
 abbrev pub sizes : ℕ → ℕ → ℕ → Sizes
 sizes clients partitions items = record
@@ -20,14 +20,41 @@ abbrev pub version : ℕ → ℕ → ℕ → ℕ → ℕ → Version
 version k value number writer set =
     record { item = k; value = value; stamp = stampOf number writer; set = set }
 
--- an ended read and an ended write of these items
+-- of an ordinary read
+abbrev pub readPart : ℕ → ℕ → (ℕ → ℕ) → (ℕ → ℕ) → ReadPart
+readPart set awaited asked values =
+    record {
+      set = set;
+      awaited = awaited;
+      asked = asked;
+      values = values;
+      stage = 0;
+      firsts = λ k. initial;
+    }
+
+-- of a fast read at this stage
+abbrev pub fastPart : ℕ → ℕ → ℕ → (ℕ → ℕ) → (ℕ → Entry) → (ℕ → ℕ) → ReadPart
+fastPart stage set awaited asked firsts values =
+    record {
+      set = set;
+      awaited = awaited;
+      asked = asked;
+      values = values;
+      stage = stage;
+      firsts = firsts;
+    }
+
+-- an ended read, fast read or write of these items
 abbrev pub readOf : ℕ → (ℕ → ℕ) → (ℕ → ℕ) → Ended
 readOf set stamps values =
     record {
       kind = 1;
-      read = record { set = set; awaited = 0; asked = stamps; values = values };
+      read = readPart set 0 stamps values;
       write = noWrite;
     }
+
+abbrev pub fastOf : ℕ → (ℕ → ℕ) → (ℕ → ℕ) → Ended
+fastOf set stamps values = record { kind = 3; read = readPart set 0 stamps values; write = noWrite }
 
 abbrev pub writeOf : ℕ → ℕ → (ℕ → ℕ) → Ended
 writeOf set stamp values =
@@ -43,8 +70,7 @@ abbrev pub reader : ℕ → ℕ → ℕ → ℕ → Client
 reader set awaited asked value =
     record {
       count = 5;
-      read = record
-          { set = set; awaited = awaited; asked = λ k. asked; values = λ k. value };
+      read = readPart set awaited (λ k. asked) (λ k. value);
       write = noWrite;
       last = nothing;
     }
@@ -57,6 +83,18 @@ writer set awaited stamp value =
       write = record { set = set; awaited = awaited; stamp = stamp; values = λ k. value };
       last = nothing;
     }
+
+-- and one in the first or the second part of a fast read
+abbrev pub fastReader : ReadPart → Client
+fastReader p = record { count = 5; read = p; write = noWrite; last = nothing }
+
+abbrev pub firstPart : ℕ → ℕ → (ℕ → Entry) → ℕ → Client
+firstPart set awaited firsts value =
+    fastReader (fastPart 1 set awaited (λ k. 0) firsts (λ k. value))
+
+abbrev pub secondPart : ℕ → ℕ → (ℕ → ℕ) → (ℕ → Entry) → ℕ → Client
+secondPart set awaited asked firsts value =
+    fastReader (fastPart 2 set awaited asked firsts (λ k. value))
 
 -- the read part of one client and the write part of another
 abbrev pub both : Client → Client → Client

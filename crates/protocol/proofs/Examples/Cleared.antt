@@ -3,7 +3,9 @@
 use mathlib.Core.List.{List, [], _∷_, _++_}
 use Prim.Native.Nat.{ℕ}
 use Rattle.protocol.specs.declared.Message.{Message}
+use Rattle.protocol.specs.declared.Entry.{Entry}
 use Rattle.protocol.specs.declared.Message.the-variants.{Prepare, Prepared, Commit, Get, Got}
+use Rattle.protocol.specs.declared.Message.the-variants.{FirstReply}
 use Rattle.protocol.specs.Tables.{Tables, Client, initial, nothing, fresh, resting, stampOf}
 use Rattle.protocol.specs.Tables.{put, withClient, withView, withLatest, withVersions}
 use Rattle.protocol.specs.Tables.{withMessages, withWrite}
@@ -12,7 +14,8 @@ use Rattle.protocol.proofs.Examples.Table.{Row, freshly, on, onEach, _�
 use Rattle.protocol.proofs.Examples.Table.{room, versionsAre}
 use Rattle.protocol.proofs.Examples.Begin.{strayed}
 use Rattle.protocol.proofs.Examples.Begin.{sizes, entry, version, reader, writer, readOf}
-use Rattle.protocol.proofs.Examples.Begin.{writeOf, holding}
+use Rattle.protocol.proofs.Examples.Begin.{fastOf, writeOf, holding, fastPart, fastReader}
+use Rattle.protocol.proofs.Examples.Begin.{firstPart, secondPart}
 
 -- ---- What spares, and what doesn't
 
@@ -33,6 +36,10 @@ latestAt k = withLatest stock (put (λ j. initial) k (entry 2 1 3))
 abbrev inFlight : Message → Tables
 inFlight m = withMessages stock (Commit 0 (stampOf 9 2) ∷ m ∷ [])
 
+-- and for line k in the first replies that a desk keeps
+abbrev keptAt : ℕ → ℕ → Entry
+keptAt k = put (λ j. initial) k (entry 2 1 3)
+
 abbrev withSecond : Client → Tables
 withSecond c = withClient stock 2 c
 
@@ -40,7 +47,9 @@ abbrev writtenBy : ℕ → Tables
 writtenBy d = withClient stock d (writer 3 1 (stampOf 2 1) 7)
 
 -- Its stamp in any one of these places spares it, on both lines, and nothing else: any view, any
--- latest, any message, also of the other line or of none, and a write under way. A got holds two.
+-- latest, any message, also of the other line or of none, and a write under way. A got and a first
+-- reply hold two. So does a first reply that has come, until its read ends: in the second part also
+-- of a line that is awaited again, or whose second answer has come.
 abbrev spared : Row
 spared =
     record {
@@ -52,7 +61,13 @@ spared =
           ∷ inFlight (Get 2 1 (stampOf 2 1))
           ∷ inFlight (Got 2 (version 1 8 2 1 3) initial)
           ∷ inFlight (Got 2 (version 1 0 0 0 0) (entry 2 1 3))
+          ∷ inFlight (FirstReply 2 (version 1 8 2 1 3) initial)
+          ∷ inFlight (FirstReply 2 (version 1 0 0 0 0) (entry 2 1 3))
           ∷ writtenBy 1 ∷ writtenBy 2
+          ∷ withSecond (firstPart 3 2 (keptAt 0) 7)
+          ∷ withSecond (secondPart 3 2 (λ k. 0) (keptAt 0) 7)
+          ∷ withSecond (secondPart 3 2 (λ k. 0) (keptAt 1) 7)
+          ∷ withSecond (secondPart 3 1 (λ k. 0) (keptAt 1) 7)
           ∷ []);
       lines = clear ⇒ "000002" ∷ clear ⇒ "000000" ∷ [];
       after = λ t. versionsAre (t .versions)
@@ -71,15 +86,22 @@ othersSpared =
           ((0 ∷ 6 ∷ 1 ∷ 1 ∷ 1 ∷ []) ∷ (1 ∷ 9 ∷ 2 ∷ 2 ∷ 2 ∷ []) ∷ []);
     }
 
--- These don't spare: a desk's last transaction, of either kind; a stamp asked for, with no message;
--- an idle desk's stamp; views and latest of desks and lines that don't exist.
+-- These don't spare: a desk's last transaction, of any kind; a stamp asked for, with no message; an
+-- idle desk's stamp; what stands for the first reply of a line that is still awaited in the first
+-- part, or isn't read, or of an ordinary read; views and latest of desks and lines that don't
+-- exist.
 abbrev notSpared : Row
 notSpared =
     record {
       start = onEach
           (withSecond (resting 2 (writeOf 3 (stampOf 2 1) (λ k. 7)))
           ∷ withSecond (resting 2 (readOf 3 (λ k. stampOf 2 1) (λ k. 7)))
+          ∷ withSecond (resting 2 (fastOf 3 (λ k. stampOf 2 1) (λ k. 7)))
           ∷ withSecond (reader 3 3 (stampOf 2 1) 0)
+          ∷ withSecond (secondPart 3 2 (λ k. stampOf 2 1) (λ k. initial) 7)
+          ∷ withSecond (firstPart 3 2 (keptAt 1) 7)
+          ∷ withSecond (secondPart 1 1 (λ k. 0) (keptAt 1) 7)
+          ∷ withSecond (fastReader (fastPart 0 3 2 (λ k. 0) (keptAt 0) (λ k. 7)))
           ∷ withSecond (withWrite (resting 2 nothing) (writer 0 0 (stampOf 2 1) 7 .write))
           ∷ seenBy 0 0 ∷ seenBy 3 0 ∷ seenBy 1 2 ∷ latestAt 2
           ∷ []);

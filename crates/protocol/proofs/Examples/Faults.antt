@@ -1,16 +1,18 @@
 -- Tables with one fault each (document 01, 'Tables'): a field out of range, in the order of that
 -- sentence, or too much in all.
 use mathlib.Core.List.{List, [], _∷_}
+use lib.ListN.{replicate}
 use Rattle.protocol.specs.declared.Version.{Version}
 use Rattle.protocol.specs.declared.Entry.{Entry}
 use Rattle.protocol.specs.declared.Message.{Message}
 use Rattle.protocol.specs.declared.Message.the-variants.{Prepare, Prepared, Commit, Get, Got}
+use Rattle.protocol.specs.declared.Message.the-variants.{FirstGet, FirstReply}
 use Rattle.protocol.specs.Tables.{Sizes, Tables, Client, Ended, noRead, noWrite, nothing}
-use Rattle.protocol.specs.Tables.{fresh, initial, resting, stampOf, put, withClient}
-use Rattle.protocol.specs.Tables.{withView}
+use Rattle.protocol.specs.Tables.{fresh, initial, resting, stampOf, put, withClient, withView}
 use Rattle.protocol.specs.Tables.{withLatest, withVersions, withMessages}
 use Rattle.protocol.proofs.Examples.Begin.{sizes, entry, version, reader, writer, loaded}
-use Rattle.protocol.proofs.Examples.Begin.{readOf, writeOf, holding, both}
+use Rattle.protocol.proofs.Examples.Begin.{readOf, fastOf, writeOf, holding, both, fastPart}
+use Rattle.protocol.proofs.Examples.Begin.{fastReader, firstPart, secondPart}
 
 -- ---- Fresh tables of two clients, partitions and items, but for one field
 
@@ -50,10 +52,15 @@ faults =
     ∷ withMessage (Prepared 2 (stampOf 1 1))
     ∷ withMessage (Get 1 2 0) ∷ withMessage (Got 1 (version 2 0 0 0 0) initial)
     ∷ withMessage (Commit 2 (stampOf 1 1))
+    ∷ withMessage (FirstGet 0 1) ∷ withMessage (FirstGet 3 1) ∷ withMessage (FirstGet 1 2)
+    ∷ withMessage (FirstReply 0 (version 1 0 0 0 0) initial)
+    ∷ withMessage (FirstReply 3 (version 1 0 0 0 0) initial)
+    ∷ withMessage (FirstReply 1 (version 2 0 0 0 0) initial)
     -- counts and values
     ∷ withBusy (resting 4294967296 nothing)
     ∷ withStored (version 1 4294967296 1 1 2) ∷ withMessage (Prepare (version 1 4294967296 1 1 2))
     ∷ withMessage (Got 1 (version 1 4294967296 0 0 0) initial)
+    ∷ withMessage (FirstReply 1 (version 1 4294967296 0 0 0) initial)
     ∷ withBusy (reader 2 2 0 4294967296) ∷ withBusy (writer 2 2 (stampOf 1 2) 4294967296)
     ∷ withLast (readOf 2 (λ k. 0) (λ k. 4294967296))
     ∷ withLast (writeOf 2 (stampOf 1 1) (λ k. 4294967296))
@@ -61,6 +68,10 @@ faults =
     ∷ withLatestOf (entry 1 1 6) ∷ withViewOf (entry 1 1 6)
     ∷ withMessage (Got 1 (version 1 0 0 0 6) initial)
     ∷ withMessage (Got 1 (version 1 0 0 0 0) (entry 1 1 6))
+    ∷ withMessage (FirstReply 1 (version 1 0 0 0 6) initial)
+    ∷ withMessage (FirstReply 1 (version 1 0 0 0 0) (entry 1 1 6))
+    ∷ withBusy (firstPart 3 2 (λ k. entry 1 1 6) 0)
+    ∷ withBusy (secondPart 3 2 (λ k. 0) (λ k. entry 1 1 6) 0)
     ∷ withStored (version 1 0 1 1 6) ∷ withMessage (Prepare (version 1 0 1 1 6))
     ∷ withBusy (reader 6 2 0 0) ∷ withBusy (writer 6 2 (stampOf 1 2) 0)
     ∷ withBusy (reader 2 6 0 0)
@@ -74,6 +85,12 @@ faults =
     ∷ withMessage (Get 1 1 (stampOf 1 3))
     ∷ withMessage (Got 1 (version 1 0 1 3 0) initial)
     ∷ withMessage (Got 1 (version 1 0 0 0 0) (entry 1 3 2))
+    ∷ withMessage (FirstReply 1 (version 1 0 1 3 0) initial)
+    ∷ withMessage (FirstReply 1 (version 1 0 0 0 0) (entry 1 3 2))
+    ∷ withBusy (firstPart 3 2 (put (λ k. initial) 0 (entry 1 3 1)) 0)
+    ∷ withBusy (secondPart 3 2 (λ k. 0) (put (λ k. initial) 0 (entry 1 3 1)) 0)
+    ∷ withBusy (secondPart 3 2 (λ k. 0) (put (λ k. initial) 1 (entry 1 3 1)) 0)
+    ∷ withLast (fastOf 2 (λ k. stampOf 1 3) (λ k. 0))
     ∷ withBusy (reader 2 2 (stampOf 1 3) 0) ∷ withBusy (writer 2 2 (stampOf 1 3) 0)
     ∷ withLast (readOf 2 (λ k. stampOf 1 3) (λ k. 0)) ∷ withLast (writeOf 2 (stampOf 1 3) (λ k. 0))
     -- versions and prepares of the initial stamp, or with a set that lacks their item
@@ -85,8 +102,16 @@ faults =
     ∷ withBusy (reader 2 3 0 0) ∷ withBusy (writer 2 1 (stampOf 1 2) 0) ∷ withBusy (reader 0 2 0 0)
     ∷ withBusy (writer 0 2 (stampOf 1 2) 0) ∷ withBusy (writer 2 0 (stampOf 1 2) 0)
     ∷ withBusy (both (reader 2 2 0 0) (writer 1 1 (stampOf 1 2) 0))
+    -- a fast read that awaits none, in either part; a third part; a fast read and a write at once
+    ∷ withBusy (firstPart 2 0 (λ k. initial) 0) ∷ withBusy (firstPart 0 0 (λ k. initial) 0)
+    ∷ withBusy (secondPart 2 0 (λ k. 0) (λ k. initial) 0)
+    ∷ withBusy (fastReader (fastPart 3 2 2 (λ k. 0) (λ k. initial) (λ k. 0)))
+    ∷ withBusy (both (firstPart 2 2 (λ k. initial) 0) (writer 1 1 (stampOf 1 2) 0))
     -- a last transaction of no kind
-    ∷ withLast (record { kind = 3; read = noRead; write = noWrite })
+    ∷ withLast (record { kind = 4; read = noRead; write = noWrite })
     -- load 129; 513 versions; 512 and a prepare
-    ∷ loaded 101 ∷ holding 513 ∷ withMessages (holding 512) (Prepare (version 1 7 1 2 2) ∷ [])
+    ∷ loaded 101
+    ∷ withMessages (withBusy (firstPart 3 2 (λ k. initial) 0))
+    (replicate 128 (Commit 0 (stampOf 1 1)))
+    ∷ holding 513 ∷ withMessages (holding 512) (Prepare (version 1 7 1 2 2) ∷ [])
     ∷ []

@@ -4,15 +4,16 @@ use mathlib.Core.List.{List, [], _∷_}
 use Prim.Native.Nat.{ℕ, _+_, _^_}
 use lib.Dec.{eqb}
 use lib.ListN.{replicate}
-use Rattle.protocol.specs.declared.Message.the-variants.{Commit, Get, Got}
-use Rattle.protocol.specs.Tables.{Tables, Client, Ended, fresh, initial}
-use Rattle.protocol.specs.Tables.{resting, stampOf, put, withClient, withLatest, withVersions}
-use Rattle.protocol.specs.Tables.{withMessages, withLast}
-use Rattle.protocol.specs.Calls.{startRead, startWrite, deliver, show}
+use Rattle.protocol.specs.declared.Message.the-variants.{Commit, Get, Got, FirstReply}
+use Rattle.protocol.specs.Tables.{Tables, Client, Ended, fresh, initial, resting, stampOf}
+use Rattle.protocol.specs.Tables.{put, withClient, withLatest, withVersions, withMessages}
+use Rattle.protocol.specs.Tables.{withLast}
+use Rattle.protocol.specs.Calls.{startRead, startFastRead, startWrite, deliver, show}
 use Rattle.protocol.proofs.Examples.Table.{Row, freshly, on, onEach, _⇒_, _keeping_}
 use Rattle.protocol.proofs.Examples.Table.{room, anything, messagesAre, entryIs}
 use Rattle.protocol.proofs.Examples.Begin.{sizes, entry, version, reader, writer, loaded}
-use Rattle.protocol.proofs.Examples.Begin.{readOf, writeOf, seeing, spent}
+use Rattle.protocol.proofs.Examples.Begin.{readOf, fastOf, writeOf, seeing, spent, fastPart}
+use Rattle.protocol.proofs.Examples.Begin.{fastReader, firstPart, secondPart}
 
 -- fresh tables of two clients, partitions and items, with client 2 like this
 abbrev withSecond : Client → Tables
@@ -42,13 +43,23 @@ readersReply =
       after = anything;
     }
 
--- Load 128: 3 and 5 come before 8.
+-- Load 128: 3, 4 and 5 come before 8, for an ordinary read and for a fast one.
 abbrev fullAndWrong : Row
 fullAndWrong =
     record {
       start = on (loaded 100);
-      lines = startRead 8 1 ⇒ "08" ∷ startRead 8 0 ⇒ "05" ∷ startRead 8 16 ⇒ "05"
-          ∷ startRead 9 1 ⇒ "03" ∷ [];
+      lines =
+          startRead 8 1 ⇒ "08"
+          ∷ startRead 8 0 ⇒ "05"
+          ∷ startRead 8 16 ⇒ "05"
+          ∷ startRead 9 1 ⇒ "03"
+          ∷ startRead 1 1 ⇒ "04"
+          ∷ startFastRead 8 1 ⇒ "08"
+          ∷ startFastRead 8 0 ⇒ "05"
+          ∷ startFastRead 8 16 ⇒ "05"
+          ∷ startFastRead 9 1 ⇒ "03"
+          ∷ startFastRead 1 1 ⇒ "04"
+          ∷ [];
       after = anything;
     }
 
@@ -141,6 +152,20 @@ oddButInRange =
       after = anything;
     }
 
+-- what isn't a first reply that has come: of a line that a first part still awaits, of a line that
+-- isn't read, of an ordinary read, of an idle desk
+abbrev oddFirsts : Row
+oddFirsts =
+    record {
+      start = onEach
+          (withSecond (firstPart 2 2 (λ k. entry 1 3 6) 0)
+          ∷ withSecond (secondPart 2 2 (λ k. 0) (put (λ k. entry 1 3 6) 1 initial) 0)
+          ∷ withSecond (fastReader (fastPart 0 3 1 (λ k. 0) (λ k. entry 1 3 6) (λ k. 0)))
+          ∷ withSecond (fastReader (fastPart 0 3 0 (λ k. 0) (λ k. entry 1 3 6) (λ k. 0))) ∷ []);
+      lines = startRead 1 1 ⇒ "000001" ∷ deliver 0 ⇒ "0004000100" ∷ [];
+      after = anything;
+    }
+
 -- a got of the initial stamp with a value and with a set, which lacks its line
 abbrev oddReply : Row
 oddReply =
@@ -149,6 +174,17 @@ oddReply =
           (Got 2 (version 0 5 0 0 2) initial ∷ []));
       lines = deliver 0 ⇒ "0005000001"
           ∷ show 2 (room 19) ⇒ "0021020000000000000001000000000000000005" ∷ [];
+      after = anything;
+    }
+
+-- the same of a first reply
+abbrev oddFirstReply : Row
+oddFirstReply =
+    record {
+      start = on (withMessages (withSecond (firstPart 1 1 (λ k. initial) 0))
+          (FirstReply 2 (version 0 5 0 0 2) initial ∷ []));
+      lines = deliver 0 ⇒ "0007000001"
+          ∷ show 2 (room 19) ⇒ "0023020000000000000001000000000000000005" ∷ [];
       after = anything;
     }
 
@@ -170,11 +206,13 @@ wide = 1 + 2 ^ 63
 abbrev wideFrames : Row
 wideFrames =
     record {
-      start = on (withClient (withClient (fresh (sizes 8 8 64)) 2
+      start = on (withClient (withClient (withClient (fresh (sizes 8 8 64)) 1
+          (resting 0 (fastOf wide (λ k. stampOf 0x01020304 8) (λ k. 0x05060708 + k)))) 2
           (resting 0 (writeOf wide (stampOf 0x01020304 2) (λ k. 0x05060708 + k)))) 8
           (resting 0 (readOf wide (λ k. stampOf 0x01020304 8) (λ k. 0x05060708 + k))));
       lines =
-          show 2 (room 22) ⇒ "0020028000000000000001010203040506070805060747"
+          show 1 (room 28) ⇒ "0023018000000000000001010203040805060708010203040805060747"
+          ∷ show 2 (room 22) ⇒ "0020028000000000000001010203040506070805060747"
           ∷ show 8 (room 28) ⇒ "0021088000000000000001010203040805060708010203040805060747"
           ∷ [];
       after = anything;
@@ -192,7 +230,9 @@ pinned =
     ∷ firstAlikeCommitted
     ∷ lastKept
     ∷ oddButInRange
+    ∷ oddFirsts
     ∷ oddReply
+    ∷ oddFirstReply
     ∷ shownEmpty
     ∷ wideFrames
     ∷ []

@@ -11,9 +11,10 @@ use lib.ListN.{drop, replicate}
 use lib.Text.{eqt}
 use Rattle.basics.specs.Lists.{every, all, counted, without, dropped}
 use Rattle.hex.specs.Number.{bigEndian, numberAt}
-use Rattle.itemset.specs.Set.{has, upto, remove}
+use Rattle.itemset.specs.Set.{has, upto, insert, remove, setOf}
 use Rattle.protocol.specs.declared.Message.{Message}
 use Rattle.protocol.specs.declared.Message.the-variants.{Prepare, Prepared, Commit, Get, Got}
+use Rattle.protocol.specs.declared.Message.the-variants.{FirstGet, FirstReply}
 use Rattle.protocol.specs.declared.Answer.{Answer}
 use Rattle.protocol.specs.declared.Answer.the-variants.{Refused, Made, Started, Delivered}
 use Rattle.protocol.specs.declared.Answer.the-variants.{Shown, Cleared, HandedOver, Compared}
@@ -22,8 +23,8 @@ use Rattle.protocol.specs.declared.Entry.{Entry}
 use Rattle.protocol.specs.Tables.{Sizes, Tables, isKind, fresh, numberOf, writerOf}
 use Rattle.protocol.specs.Range.{capacities, valid, inRange, stampInRange, sizesInRange}
 use Rattle.protocol.specs.Range.{entryInRange, versionInRange, messageInRange, endedInRange}
-use Rattle.protocol.specs.Range.{clientInRange, readPartInRange, writePartInRange, arrived}
-use Rattle.protocol.specs.Range.{total, load, occupied}
+use Rattle.protocol.specs.Range.{clientInRange, hasFirst, readPartInRange, writePartInRange}
+use Rattle.protocol.specs.Range.{arrived, total, load, occupied}
 use Rattle.protocol.specs.Steps.{greatestIn, choice, stored, found, delivered, joined}
 use Rattle.protocol.specs.Steps.{touches}
 use Rattle.protocol.specs.Clear.{mentions, unused}
@@ -77,10 +78,10 @@ anything t = true
 unfoldable pub given : Tables → Call → Given
 unfolding step refusal first unexpected missing isNothing effect reply written lent outcomeOf valid
     inRange sizesInRange stampInRange entryInRange versionInRange messageInRange isKind
-    endedInRange clientInRange readPartInRange writePartInRange load arrived total occupied
+    endedInRange clientInRange hasFirst readPartInRange writePartInRange load arrived total occupied
     greatestIn choice stored found delivered joined touches mentions unused standing listed
-    readBytes writeBytes frame every all counted without dropped has upto remove ones onesIn
-    bigEndian numberAt
+    readBytes writeBytes frame every all counted without dropped has upto insert remove setOf ones
+    onesIn bigEndian numberAt
 given t c = step capacities t c
 
 unfoldable pub made : Sizes → Answer
@@ -140,6 +141,10 @@ fieldsOf (Commit p stamp) = 3 ∷ p ∷ numberOf stamp ∷ writerOf stamp ∷ []
 fieldsOf (Get d k stamp) = 4 ∷ d ∷ k ∷ numberOf stamp ∷ writerOf stamp ∷ []
 fieldsOf (Got d v latest) =
     5 ∷ d ∷ v .item ∷ v .value ∷ numberOf (v .stamp) ∷ writerOf (v .stamp) ∷ v .set
+    ∷ numberOf (latest .stamp) ∷ writerOf (latest .stamp) ∷ latest .set ∷ []
+fieldsOf (FirstGet d k) = 6 ∷ d ∷ k ∷ []
+fieldsOf (FirstReply d v latest) =
+    7 ∷ d ∷ v .item ∷ v .value ∷ numberOf (v .stamp) ∷ writerOf (v .stamp) ∷ v .set
     ∷ numberOf (latest .stamp) ∷ writerOf (latest .stamp) ∷ latest .set ∷ []
 
 abbrev pub same : List ℕ → List ℕ → Bool

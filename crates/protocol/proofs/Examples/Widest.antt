@@ -9,7 +9,7 @@ use Rattle.protocol.specs.declared.Message.the-variants.{Prepare, Prepar
 use Rattle.protocol.specs.Tables.{Tables, fresh, initial, nothing, resting, stampOf, put}
 use Rattle.protocol.specs.Tables.{withClient, withView, withLatest, withVersions}
 use Rattle.protocol.specs.Tables.{withMessages}
-use Rattle.protocol.specs.Calls.{startRead, startWrite, deliver, show}
+use Rattle.protocol.specs.Calls.{startRead, startFastRead, startWrite, deliver, show}
 use Rattle.protocol.proofs.Examples.Table.{Row, freshly, on, onEach, _⇒_, anything, entryIs}
 use Rattle.protocol.proofs.Examples.Begin.{sizes, entry, version, reader, writer, writeOf}
 
@@ -22,8 +22,8 @@ values n = replicate (4 * n) 0
 
 -- ---- Twelve items and no more
 
--- twelve from either end of thirteen; and thirteen for a read. Counting takes as many turns as the
--- set's number says where it is computed, so rows have low items.
+-- twelve from either end of thirteen; and thirteen for a read, ordinary or fast. Counting takes as
+-- many turns as the set's number says where it is computed, so rows have low items.
 abbrev twelve : Row
 twelve =
     record {
@@ -33,6 +33,7 @@ twelve =
           ∷ startWrite 1 (items 12) (values 12) ⇒ "00000c"
           ∷ startWrite 2 (items 13 - 1) (values 12) ⇒ "000018"
           ∷ startRead 3 (items 13) ⇒ "000025"
+          ∷ startFastRead 4 (items 13) ⇒ "000032"
           ∷ [];
       after = anything;
     }

@@ -3,27 +3,33 @@
 use mathlib.Core.Bool.{false}
 use mathlib.Core.List.{[], _∷_, _++_}
 use mathlib.Core.Path.{_≡_, refl, sym, ap, _∙_, subst}
-use Prim.Native.Nat.{ℕ}
+use Prim.Native.Nat.{ℕ, _<_}
 use native.Mathlib.Omega.{arith}
 use lib.Dec.{eqb}
 use borrow.Author.Tests.{eqb-true, eqb-false}
 use Rattle.basics.proofs.Cases.{by-test}
 use Rattle.basics.specs.Lists.{without}
+use Rattle.itemset.specs.Set.{has}
 use Rattle.protocol.specs.declared.Message.{Message}
+use Rattle.protocol.specs.declared.Version.{Version}
+use Rattle.protocol.specs.declared.Entry.{Entry}
 use Rattle.protocol.specs.declared.Message.the-variants.{Prepare, Prepared, Commit, Get, Got}
-use Rattle.protocol.specs.Tables.{Sizes, Tables, ofRead, ofWrite, put, writerOf}
+use Rattle.protocol.specs.declared.Message.the-variants.{FirstGet, FirstReply}
+use Rattle.protocol.specs.Tables.{Sizes, Tables, isSecondPart, ofRead, ofWrite, put, writerOf}
 use Rattle.protocol.specs.Range.{Capacities}
-use Rattle.protocol.specs.Steps.{found, isLast, prepared, got, committed, commits, touches}
-use Rattle.protocol.specs.Steps.{offered, version, delivered, joined, messageAt}
+use Rattle.protocol.specs.FastRead.{firstReplied}
+use Rattle.protocol.specs.Steps.{isLast, prepared, got, gotFirst, committed, commits, touches}
+use Rattle.protocol.specs.Steps.{offered, answerOf, delivered, joined, messageAt}
 use Rattle.protocol.specs.Calls.{deliver, effect}
 use Rattle.protocol.proofs.Each.{Each, each-none, each-one, each-append, each-without}
 use Rattle.protocol.proofs.Each.{each-upto}
 use Rattle.protocol.proofs.Ranges.Values.{IsClient, EntryInRange, EntriesInRange}
-use Rattle.protocol.proofs.Ranges.Values.{Stamped, VersionInRange, MessageInRange}
-use Rattle.protocol.proofs.Ranges.Values.{range-reply, range-commit}
+use Rattle.protocol.proofs.Ranges.Values.{StampInRange, Stamped, VersionInRange}
+use Rattle.protocol.proofs.Ranges.Values.{MessageInRange, ReplyInRange, tells-reply}
+use Rattle.protocol.proofs.Ranges.Values.{range-reply, range-commit, range-get}
 use Rattle.protocol.proofs.Ranges.Tables.{InRange}
 use Rattle.protocol.proofs.Refusals.{Expected, AcceptedDeliver, accepted-message}
-use Rattle.protocol.proofs.Refusals.{tells-prepared, tells-got}
+use Rattle.protocol.proofs.Refusals.{tells-prepared, tells-got, tells-first-reply}
 use Rattle.protocol.proofs.Commits.{no-commits}
 use Rattle.protocol.proofs.Delivered.{delivered-work}
 use Rattle.protocol.proofs.Put.{by-cond, put-all}
@@ -31,7 +37,21 @@ use Rattle.protocol.proofs.Kept.Changes.{range-both, range-latest, rang
 use Rattle.protocol.proofs.Kept.Changes.{range-messages}
 use Rattle.protocol.proofs.Kept.Values.{range-offered, range-seen, range-found}
 use Rattle.protocol.proofs.Kept.Values.{range-committed, range-prepared, range-got}
-use Rattle.protocol.proofs.Kept.Values.{awaits-some}
+use Rattle.protocol.proofs.Kept.Values.{awaits-some, reads-alone}
+use Rattle.protocol.proofs.Kept.Firsts.{range-replied, range-first-reply}
+
+-- the view with what a reply offers to it
+range-grown : (t : Tables) → InRange t → (d : ℕ) (v : Version) (latest : Entry)
+    → ReplyInRange (t .sizes) d v latest
+    → EntriesInRange (t .sizes)
+    (put (t .view d) (v .item) (offered (t .view d (v .item)) v latest))
+range-grown t r d v latest h j l =
+    let z = t .sizes in
+    let view = r .view d (h .client) in
+    put-all (EntryInRange z) (t .view d) (v .item) (offered (t .view d (v .item)) v latest) j
+    (range-offered z (t .view d (v .item)) v latest (view (v .item) (h .item)) (h .entry)
+    (h .latest))
+    (view j l)
 
 -- what changes beside the messages in flight
 pub range-delivered : (t : Tables) (m : Message) → InRange t → MessageInRange (t .sizes) m
@@ -65,22 +85,47 @@ range-delivered t (Commit p stamp) r h x =
 range-delivered t (Get d k stamp) r h x = r
 range-delivered t (Got d v latest) r h x =
     let z = t .sizes in
-    let one : IsClient z d = h .client (omega arith) in
+    let reply = tells-reply z d v latest 5 (omega arith) .0 h in
+    let one : IsClient z d = reply .client in
     let k = v .item in
-    let view = r .view d one in
-    let entry = range-offered z (t .view d k) v latest (view k (h .item)) h in
     let c = t .client d in
-    let after : EntriesInRange z (put (t .view d) k (offered (t .view d k) v latest)) =
-    λ j l. put-all (EntryInRange z) (t .view d) k (offered (t .view d k) v latest) j entry
-    (view j l) in
+    let after = range-grown t r d v latest reply in
+    let awaited = tells-got t d v latest .0 x in
     range-both t r d (got c k (v .value)) _
-    (range-got z c k (v .value) (r .client d one) (tells-got t d v latest .0 x .awaited) (h .value))
+    (range-got z c k (v .value) (r .client d one) (awaited .awaited) (awaited .byStamp)
+    (reply .value))
     (by-cond (EntriesInRange z) (isLast ofRead c k) _ _
     (λ l. range-seen z _ (c .write .set) (c .write .stamp) after
     (r .client d one .write .set) (r .client d one .write .stamp))
     (λ l. after))
+range-delivered t (FirstGet d k) r h x = r
+range-delivered t (FirstReply d v latest) r h x =
+    let z = t .sizes in
+    let reply = tells-reply z d v latest 7 (omega arith) .0 h in
+    let c = t .client d in
+    let one = r .client d (reply .client) in
+    let awaited = tells-first-reply t d v latest .0 x in
+    range-both t r d (gotFirst (z .items) c v) _
+    (range-first-reply z c one v (awaited .byItem) (reply .value) (reply .entry)
+    (reads-alone z c (v .item) one (awaited .awaited)))
+    (range-grown t r d v latest reply)
 
 -- what joins
+
+-- what a partition answers
+range-answer : (t : Tables) → InRange t → (d k stamp : ℕ) → IsClient (t .sizes) d
+    → k < t .sizes .items → StampInRange (t .sizes) stamp
+    → ReplyInRange (t .sizes) d (answerOf t k stamp) (t .latest k)
+range-answer t r d k stamp client item h =
+    let found-in = range-found (t .sizes) (t .versions) k stamp (r .versions) in
+    record {
+      client = client;
+      item = item;
+      value = found-in .value;
+      entry = record { stamp = h; set = found-in .set };
+      latest = r .latest k item;
+    }
+
 range-commits : (t : Tables) (s stamp : ℕ) → InRange t → Stamped (t .sizes) stamp
     → Each (MessageInRange (t .sizes)) (commits t s stamp)
 range-commits t s stamp r h =
@@ -101,21 +146,9 @@ range-joined t (Prepared k stamp) r h x =
     (λ l. each-none (MessageInRange (t .sizes)))
 range-joined t (Commit p stamp) r h x = each-none (MessageInRange (t .sizes))
 range-joined t (Get d k stamp) r h x =
-    let v = found (t .versions) k stamp in
-    let found-in = range-found (t .sizes) (t .versions) k stamp (r .versions) in
-    each-one (MessageInRange (t .sizes))
-    (Got d (version k (v .value) stamp (v .set)) (t .latest k))
-    (record {
-      client = λ l. h .client (omega arith);
-      partition = λ l. absurd (omega arith);
-      item = h .item;
-      value = found-in .value;
-      stamp = h .stamp;
-      set = found-in .set;
-      latest = r .latest k (h .item);
-      written = λ l. absurd (omega arith);
-      own = λ e. absurd (omega arith);
-    })
+    each-one (MessageInRange (t .sizes)) (Got d (answerOf t k stamp) (t .latest k))
+    (tells-reply (t .sizes) d (answerOf t k stamp) (t .latest k) 5 (omega arith) .1
+    (range-answer t r d k stamp (h .client (omega arith)) (h .item) (h .stamp)))
 range-joined t (Got d v latest) r h x =
     let c = t .client d in
     let k = v .item in
@@ -131,6 +164,23 @@ range-joined t (Got d v latest) r h x =
     ∙ no-commits t (c .write .stamp))) (each-none (MessageInRange (t .sizes))))
     (λ e. absurd (eqb-false (c .read .set) 0 reads (one .alone (eqb-false s 0 e) .0))))
     (λ l. each-none (MessageInRange (t .sizes)))
+range-joined t (FirstGet d k) r h x =
+    let stamp = t .latest k .stamp in
+    each-one (MessageInRange (t .sizes)) (FirstReply d (answerOf t k stamp) (t .latest k))
+    (tells-reply (t .sizes) d (answerOf t k stamp) (t .latest k) 7 (omega arith) .1
+    (range-answer t r d k stamp (h .client (omega arith)) (h .item) (r .latest k (h .item) .stamp)))
+range-joined t (FirstReply d v latest) r h x =
+    let z = t .sizes in
+    let reply = tells-reply z d v latest 7 (omega arith) .0 h in
+    let c = t .client d in
+    let p = firstReplied (z .items) (c .read) v in
+    let part = range-replied z c (r .client d (reply .client)) v
+    (tells-first-reply t d v latest .0 x .byItem) (reply .value) (reply .entry) in
+    by-cond (Each (MessageInRange z)) (isSecondPart p) _ _
+    (λ e. each-upto (MessageInRange z) (λ k. Get d k (p .asked k)) (z .items) (has (p .awaited))
+    (λ k l a. range-get z (r .sizes) d k (p .asked k) (reply .client) l
+    (part .asked k (part .within k a))))
+    (λ e. each-none (MessageInRange z))
 
 pub range-deliver : (caps : Capacities) (t : Tables) (i : ℕ) → AcceptedDeliver caps t i
     → InRange (effect t (deliver i))

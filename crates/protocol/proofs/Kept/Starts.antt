@@ -6,26 +6,30 @@ use mathlib.Core.Path.{_≡_, refl}
 use Prim.Native.Nat.{ℕ, zero, suc, _*_, _%_, _^_, _≤_, _<_}
 use native.Mathlib.Nat.{le-refl}
 use native.Mathlib.Omega.{arith}
+use Rattle.basics.proofs.Cases.{not-both}
 use Rattle.hex.specs.Number.{numberAt}
 use Rattle.itemset.specs.Set.{has, rank}
 use Rattle.itemset.proofs.Laws.{has-below}
 use Rattle.protocol.specs.declared.Entry.{Entry}
 use Rattle.protocol.specs.declared.Message.{Message}
-use Rattle.protocol.specs.declared.Message.the-variants.{Prepare, Get}
+use Rattle.protocol.specs.declared.Message.the-variants.{Prepare, Get, FirstGet}
 use Rattle.protocol.specs.Tables.{Sizes, Tables, Client, noRead, noWrite, withClient}
 use Rattle.protocol.specs.Tables.{withMessages, withCount}
 use Rattle.protocol.specs.Range.{Capacities}
+use Rattle.protocol.specs.FastRead.{fastReader, firstGets}
 use Rattle.protocol.specs.Steps.{choice, asks, reader, gets, nextStamp, valueOf, writer}
 use Rattle.protocol.specs.Steps.{version, prepares, greatestOf}
-use Rattle.protocol.specs.Calls.{startRead, startWrite, effect}
+use Rattle.protocol.specs.Calls.{startRead, startFastRead, startWrite, effect}
 use Rattle.protocol.proofs.Each.{Each, each-append, each-upto}
 use Rattle.protocol.proofs.Ranges.Values.{Stamped, StampInRange, EntriesInRange}
-use Rattle.protocol.proofs.Ranges.Values.{MessageInRange, range-get, range-prepare}
+use Rattle.protocol.proofs.Ranges.Values.{MessageInRange, entry-initial, range-get}
+use Rattle.protocol.proofs.Ranges.Values.{range-first-get, range-prepare}
 use Rattle.protocol.proofs.Ranges.Clients.{ClientInRange}
 use Rattle.protocol.proofs.Ranges.Tables.{InRange}
 use Rattle.protocol.proofs.Refusals.{AcceptedStart, AcceptedWrite}
 use Rattle.protocol.proofs.Put.{by-cond}
 use Rattle.protocol.proofs.Known.{greatest-fits}
+use Rattle.protocol.proofs.FastRead.{no-first}
 use Rattle.protocol.proofs.Kept.Changes.{range-client, range-messages}
 use Rattle.protocol.proofs.Kept.Values.{range-no-read, range-no-write, range-initial}
 use Rattle.protocol.proofs.Kept.Values.{range-max, range-count, range-parts}
@@ -57,7 +61,7 @@ range-start t r d c ms h each =
     range-messages (withClient t d c) (range-client t r d c h) (t .messages ++ ms)
     (each-append (MessageInRange (t .sizes)) (t .messages) ms (r .messages) each)
 
--- ---- Start a read
+-- ---- Start a read, or a fast read
 
 module _ (caps : Capacities) (t : Tables) (d s : ℕ) (a : AcceptedStart caps t d s) where
   pub range-asks : (k : ℕ) → has s k ≡ true → StampInRange (t .sizes) (asks t d k)
@@ -74,7 +78,9 @@ module _ (caps : Capacities) (t : Tables) (d s : ℕ) (a : AcceptedStart caps t 
         within = λ k e. e;
         asked = λ k e. rw e (range-asks k e);
         values = λ k e. omega arith;
-      }) (range-no-write (t .sizes)) (λ n. absurd (n refl))
+        stage = omega arith;
+        firsts = λ k e. not-both e (no-first (reader t d s .read) k refl);
+      }) (range-no-write (t .sizes)) (λ n. absurd (n refl)) (λ n. absurd (n refl))
 
   pub range-read : InRange (effect t (startRead d s))
   unfolding effect
@@ -83,6 +89,26 @@ module _ (caps : Capacities) (t : Tables) (d s : ℕ) (a : AcceptedStart caps t 
       (each-upto (MessageInRange (t .sizes)) (λ k. Get d k (asks t d k)) (t .sizes .items) (has s)
       (λ k l e. range-get (t .sizes) (a .valid .inRange .sizes) d k (asks t d k) (a .client) l
       (range-asks k e)))
+
+  pub range-fast-reader : ClientInRange (t .sizes) (fastReader t d s)
+  range-fast-reader =
+      range-parts (t .sizes) (t .client d) (fastReader t d s .read) noWrite
+      (a .valid .inRange .client d (a .client)) (record {
+        set = a .set;
+        awaited = a .set;
+        within = λ k e. e;
+        asked = λ k e. range-initial (t .sizes);
+        values = λ k e. omega arith;
+        stage = omega arith;
+        firsts = λ k e. entry-initial (t .sizes);
+      }) (range-no-write (t .sizes)) (λ n. absurd (n refl)) (λ n. a .some)
+
+  pub range-fast-read : InRange (effect t (startFastRead d s))
+  unfolding effect
+  range-fast-read =
+      range-start t (a .valid .inRange) d (fastReader t d s) (firstGets t d s) range-fast-reader
+      (each-upto (MessageInRange (t .sizes)) (FirstGet d) (t .sizes .items) (has s)
+      (λ k l e. range-first-get (t .sizes) d k (a .client) l))
 
 -- ---- Start a write
 
@@ -117,7 +143,7 @@ module _ (caps : Capacities) (t : Tables) (d s : ℕ) (bytes : List ℕ)
         within = λ k e. e;
         stamp = λ n. range-next;
         values = λ k e. value-fits s bytes k;
-      }) (λ n. (refl, n))
+      }) (λ n. (refl, n)) (λ n. absurd (n refl))
 
   pub range-write : InRange (effect t (startWrite d s bytes))
   unfolding effect

@@ -9,26 +9,26 @@ use native.Mathlib.Nat.{lt-of-le-of-lt}
 use native.Mathlib.Omega.{arith}
 use lib.Dec.{eqb, leb, ltb}
 use lib.Pow.{pow-pos}
-use borrow.Author.Tests.{leb-true, leb-false, eqb-true}
+use borrow.Author.Tests.{leb-true, leb-false, eqb-true, eqb-false}
 use Rattle.basics.proofs.Cases.{by-test, not-both, and-right}
 use Rattle.itemset.specs.Set.{has, remove}
 use Rattle.itemset.proofs.Laws.{has-empty, has-remove, remove-le, set-empty}
 use Rattle.protocol.specs.declared.Version.{Version}
 use Rattle.protocol.specs.declared.Entry.{Entry}
-use Rattle.protocol.specs.declared.Message.the-variants.{Got}
 use Rattle.protocol.specs.Tables.{Sizes, Tables, Client, ReadPart, Ended, nothing, isKind}
 use Rattle.protocol.specs.Tables.{ofRead, ofWrite, noRead, noWrite, laterOf, entryOf}
 use Rattle.protocol.specs.Tables.{partitionOf, resting, rested, put, WritePart, withCount}
 use Rattle.protocol.specs.Tables.{withRead, withWrite, withLast}
 use Rattle.protocol.specs.Steps.{alike, stored, found, answered, isLast, ended, prepared, got}
-use Rattle.protocol.specs.Steps.{struck, offered, seen, committed}
+use Rattle.protocol.specs.Steps.{struck, endedRead, offered, seen, committed}
 use Rattle.protocol.proofs.Each.{Each}
 use Rattle.protocol.proofs.Ranges.Values.{Stamped, StampInRange, EntryInRange}
-use Rattle.protocol.proofs.Ranges.Values.{EntriesInRange, VersionInRange, MessageInRange}
+use Rattle.protocol.proofs.Ranges.Values.{EntriesInRange, VersionInRange}
 use Rattle.protocol.proofs.Ranges.Clients.{EndedInRange, ReadPartInRange, WritePartInRange}
 use Rattle.protocol.proofs.Ranges.Clients.{ClientInRange}
 use Rattle.protocol.proofs.Ranges.Tables.{InRange}
 use Rattle.protocol.proofs.Put.{by-cond, put-all}
+use Rattle.protocol.proofs.FastRead.{no-first, first-apart}
 
 -- ---- Stamps and entries
 
@@ -46,12 +46,11 @@ pub range-later : (z : Sizes) (e f : Entry) → EntryInRange z e → EntryInRang
     → EntryInRange z (laterOf e f)
 range-later z e f p q = by-cond (EntryInRange z) (ltb (e .stamp) (f .stamp)) _ _ (λ l. q) (λ l. p)
 
--- the latest of three, of which two come in a got
-pub range-offered : {d : ℕ} (z : Sizes) (e : Entry) (v : Version) (latest : Entry)
-    → EntryInRange z e → MessageInRange z (Got d v latest) → EntryInRange z (offered e v latest)
-range-offered z e v latest p h =
-    range-later z (laterOf e latest) (entryOf v) (range-later z e latest p (h .latest))
-    (record { stamp = h .stamp; set = h .set })
+-- the latest of three, of which two come in a got or first reply
+pub range-offered : (z : Sizes) (e : Entry) (v : Version) (latest : Entry) → EntryInRange z e
+    → EntryInRange z (entryOf v) → EntryInRange z latest → EntryInRange z (offered e v latest)
+range-offered z e v latest p h g =
+    range-later z (laterOf e latest) (entryOf v) (range-later z e latest p g) h
 
 pub range-seen : (z : Sizes) (f : ℕ → Entry) (s stamp : ℕ) → EntriesInRange z f → s < 2 ^ z .items
     → StampInRange z stamp
@@ -98,6 +97,8 @@ range-no-read z =
       within = λ k i. i;
       asked = λ k i. range-initial z;
       values = λ k i. omega arith;
+      stage = omega arith;
+      firsts = λ k e. not-both e (no-first noRead k refl);
     }
 
 pub range-no-write : (z : Sizes) → WritePartInRange z noWrite
@@ -118,6 +119,7 @@ range-resting z n e h r =
       read = range-no-read z;
       write = range-no-write z;
       alone = λ n. absurd (n refl);
+      fast = λ n. absurd (n refl);
       last = r;
     }
 
@@ -132,13 +134,17 @@ pub range-ended : (z : Sizes) (c : Client) → ReadPartInRange z (c .read)
 unfolding isKind
 range-ended z c r w =
     record {
-      kind = by-test (eqb (c .write .set) 0) (λ e. rw e refl) (λ e. rw e refl);
+      kind = by-test (eqb (c .write .set) 0)
+          (λ e. by-test (eqb (c .read .stage) 0) (λ f. rw (e, f) refl) (λ f. rw (e, f) refl))
+          (λ e. rw e refl);
       read = λ s. record {
         set = r .set;
         awaited = pow-pos (z .items);
         within = λ k i. not-both i (has-empty k);
         asked = r .asked;
         values = r .values;
+        stage = omega arith;
+        firsts = λ k e. not-both e (no-first (endedRead (c .read)) k refl);
       };
       write = λ s. record {
         set = w .set;
@@ -157,6 +163,7 @@ range-last z c e r h = record {
   read = r .read;
   write = r .write;
   alone = r .alone;
+  fast = r .fast;
   last = h;
 }
 
@@ -167,17 +174,20 @@ range-count z c n r h = record {
   read = r .read;
   write = r .write;
   alone = r .alone;
+  fast = r .fast;
   last = r .last;
 }
 
 pub range-parts : (z : Sizes) (c : Client) (p : ReadPart) (w : WritePart) → ClientInRange z c
     → ReadPartInRange z p → WritePartInRange z w
-    → (w .set ≢ 0 → (p .set ≡ 0) × (w .awaited ≢ 0)) → ClientInRange z (withWrite (withRead c p) w)
-range-parts z c p w r asks keeps alone = record {
+    → (w .set ≢ 0 → (p .set ≡ 0) × (w .awaited ≢ 0)) → (p .stage ≢ 0 → p .awaited ≢ 0)
+    → ClientInRange z (withWrite (withRead c p) w)
+range-parts z c p w r asks keeps alone fast = record {
   count = r .count;
   read = asks;
   write = keeps;
   alone = alone;
+  fast = fast;
   last = r .last;
 }
 
@@ -185,13 +195,14 @@ pub range-rested : (z : Sizes) (c : Client) (e : Ended) → ClientInRange z c �
     → ClientInRange z (rested c e)
 range-rested z c e r h =
     range-last z (withWrite (withRead c noRead) noWrite) e
-    (range-parts z c noRead noWrite r (range-no-read z) (range-no-write z) (λ n. absurd (n refl))) h
+    (range-parts z c noRead noWrite r (range-no-read z) (range-no-write z) (λ n. absurd (n refl))
+    (λ n. absurd (n refl))) h
 
 -- one item is struck
-range-left : (s k n : ℕ) → s < 2 ^ n → remove s k < 2 ^ n
+pub range-left : (s k n : ℕ) → s < 2 ^ n → remove s k < 2 ^ n
 range-left s k n l = lt-of-le-of-lt (remove-le s k) l
 
-within-left : (a s k : ℕ) → ((j : ℕ) → has a j ≡ true → has s j ≡ true) → (j : ℕ)
+pub within-left : (a s k : ℕ) → ((j : ℕ) → has a j ≡ true → has s j ≡ true) → (j : ℕ)
     → has (remove a k) j ≡ true → has s j ≡ true
 within-left a s k h j e = h j (and-right (not (eqb j k)) (has a j) (sym (has-remove a k j) ∙ e))
 
@@ -203,10 +214,16 @@ awaits-some a s k h e =
     (sym (eqb-true s 0 z)) (has-empty k))) (λ z. z)
 
 -- and an empty one awaits none
+none-within : (a s : ℕ) → ((j : ℕ) → has a j ≡ true → has s j ≡ true) → s ≡ 0 → a ≡ 0
+none-within a s h e =
+    set-empty a (λ k. by-test (has a k) (λ m. not-both (h k m) (rw e (has-empty k))) (λ m. m))
+
 none-awaited : (z : Sizes) (p : ReadPart) → ReadPartInRange z p → p .set ≡ 0 → p .awaited ≡ 0
-none-awaited z p r e =
-    set-empty (p .awaited) (λ k. by-test (has (p .awaited) k)
-    (λ h. not-both (r .within k h) (rw e (has-empty k))) (λ h. h))
+none-awaited z p r e = none-within (p .awaited) (p .set) (r .within) e
+
+pub no-write-awaited : (z : Sizes) (p : WritePart) → WritePartInRange z p → p .set ≡ 0
+    → p .awaited ≡ 0
+no-write-awaited z p r e = none-within (p .awaited) (p .set) (r .within) e
 
 pub range-prepared : (z : Sizes) (c : Client) (k : ℕ) → ClientInRange z c
     → has (c .write .awaited) k ≡ true → ClientInRange z (prepared c k)
@@ -222,13 +239,24 @@ range-prepared z c k r m =
       within = within-left (c .write .awaited) (c .write .set) k (w .within);
       stamp = w .stamp;
       values = w .values;
-    }) (λ n. (r .alone n .0, λ e. not-both (last-of n e) l)))
+    }) (λ n. (r .alone n .0, λ e. not-both (last-of n e) l)) (r .fast))
+
+-- a client that awaits an item of its read part awaits none of a write part
+pub reads-alone : (z : Sizes) (c : Client) (k : ℕ) → ClientInRange z c
+    → has (c .read .awaited) k ≡ true → c .write .set ≡ 0
+reads-alone z c k r m =
+    by-test (eqb (c .write .set) 0) (λ e. eqb-true (c .write .set) 0 e)
+    (λ e. absurd (eqb-false (c .read .set) 0
+    (awaits-some (c .read .awaited) (c .read .set) k (r .read .within) m)
+    (r .alone (eqb-false (c .write .set) 0 e) .0)))
 
 pub range-got : (z : Sizes) (c : Client) (k value : ℕ) → ClientInRange z c
-    → has (c .read .awaited) k ≡ true → value < 2 ^ 32
+    → has (c .read .awaited) k ≡ true → c .read .stage ≢ 1 → value < 2 ^ 32
     → ClientInRange z (got c k value)
-range-got z c k value r m h =
+range-got z c k value r m n h =
     let p = r .read in
+    let last-of : remove (c .read .awaited) k ≡ 0 → isLast ofRead c k ≡ true =
+    λ e. rw (e, no-write-awaited z (c .write) (r .write) (reads-alone z c k r m)) refl in
     let values = put (c .read .values) k value in
     let fit : (j : ℕ) → has (c .read .set) j ≡ true → values j < 2 ^ 32 =
     λ j e. put-all (λ v. v < 2 ^ 32) (c .read .values) k value j h (p .values j e) in
@@ -238,8 +266,12 @@ range-got z c k value r m h =
       within = within-left (c .read .awaited) (c .read .set) k (p .within);
       asked = p .asked;
       values = fit;
+      stage = p .stage;
+      firsts = λ j e. p .firsts j
+          (sym (first-apart (c .read) (answered c k value .read) j n refl refl) ∙ e);
     } in
     by-cond (ClientInRange z) (isLast ofRead c k) _ _
     (λ l. range-rested z c (ended (answered c k value)) r
     (range-ended z (answered c k value) part (r .write)))
-    (λ l. range-parts z c (answered c k value .read) (c .write) r part (r .write) (r .alone))
+    (λ l. range-parts z c (answered c k value .read) (c .write) r part (r .write) (r .alone)
+    (λ s e. not-both (last-of e) l))

@@ -3,16 +3,17 @@
 use mathlib.Core.Bool.{Bool, true, false, not, _||_}
 use mathlib.Core.Logic.{_↔_, _≢_}
 use mathlib.Core.Path.{_≡_, refl}
-use Prim.Native.Nat.{ℕ, _^_, _<_}
+use Prim.Native.Nat.{ℕ, _^_, _≤_, _<_}
 use Rattle.basics.proofs.Cases.{not-both}
 use Rattle.itemset.specs.Set.{has}
 use Rattle.itemset.proofs.Laws.{has-below}
 use Rattle.protocol.specs.Tables.{Sizes, Client, ReadPart, WritePart, Ended, isKind}
 use Rattle.protocol.specs.Tables.{showsRead, showsWrite}
-use Rattle.protocol.specs.Range.{readPartInRange, writePartInRange, clientInRange}
+use Rattle.protocol.specs.Range.{hasFirst, readPartInRange, writePartInRange, clientInRange}
 use Rattle.protocol.specs.Range.{endedInRange}
 use Rattle.protocol.proofs.Tells.{tells-and}
-use Rattle.protocol.proofs.Ranges.Values.{StampInRange, parts}
+use Rattle.protocol.proofs.FastRead.{first-in-set}
+use Rattle.protocol.proofs.Ranges.Values.{StampInRange, EntryInRange, parts}
 
 -- a set's items exist
 each-has : {P : ℕ → Type 0} (s n : ℕ) → s < 2 ^ n → ((k : ℕ) → k < n → has s k ≡ true → P k)
@@ -25,6 +26,8 @@ pub record ReadPartInRange (z : Sizes) (p : ReadPart) : Type 0 where
   pub within : (k : ℕ) → has (p .awaited) k ≡ true → has (p .set) k ≡ true
   pub asked : (k : ℕ) → has (p .set) k ≡ true → StampInRange z (p .asked k)
   pub values : (k : ℕ) → has (p .set) k ≡ true → p .values k < 2 ^ 32
+  pub stage : p .stage ≤ 2
+  pub firsts : (k : ℕ) → hasFirst p k ≡ true → EntryInRange z (p .firsts k)
 
 pub tells-read-part : (z : Sizes) (p : ReadPart)
     → (readPartInRange z p ≡ true) ↔ ReadPartInRange z p
@@ -32,18 +35,24 @@ unfolding readPartInRange
 tells-read-part z p = (
   λ h.
       let f = simp parts at h in
-      let within = each-has (p .awaited) (z .items) (f .0 .0 .1) (f .0 .1) in
-      let items = each-has (p .set) (z .items) (f .0 .0 .0) (f .1) in
+      let set = f .0 .0 .0 .0 .0 in
+      let within = each-has (p .awaited) (z .items) (f .0 .0 .0 .0 .1) (f .0 .0 .0 .1) in
+      let items = each-has (p .set) (z .items) set (f .0 .0 .1) in
       record {
-        set = f .0 .0 .0;
-        awaited = f .0 .0 .1;
+        set = set;
+        awaited = f .0 .0 .0 .0 .1;
         within = within;
         asked = λ k e. items k e .0;
         values = λ k e. items k e .1;
+        stage = f .0 .1;
+        firsts = λ k e. f .1 k (has-below (p .set) k (z .items) set (first-in-set p k e)) e;
       },
   λ r. simp parts (
-    ((r .set, r .awaited), λ k l. r .within k),
-    λ k l e. (r .asked k e, r .values k e),
+    (
+      (((r .set, r .awaited), λ k l. r .within k), λ k l e. (r .asked k e, r .values k e)),
+      r .stage,
+    ),
+    λ k l. r .firsts k,
   ),
 )
 
@@ -99,6 +108,7 @@ pub record ClientInRange (z : Sizes) (c : Client) : Type 0 where
   pub read : ReadPartInRange z (c .read)
   pub write : WritePartInRange z (c .write)
   pub alone : c .write .set ≢ 0 → (c .read .set ≡ 0) × (c .write .awaited ≢ 0)
+  pub fast : c .read .stage ≢ 0 → c .read .awaited ≢ 0
   pub last : EndedInRange z (c .last)
 
 pub tells-client : (z : Sizes) (c : Client) → (clientInRange z c ≡ true) ↔ ClientInRange z c
@@ -107,12 +117,13 @@ tells-client z c = (
   λ h.
       let f = simp (parts, tells-read-part, tells-write-part, tells-ended) at h in
       record {
-        count = f .0 .0 .0 .0;
-        read = f .0 .0 .0 .1;
-        write = f .0 .0 .1;
-        alone = f .0 .1;
+        count = f .0 .0 .0 .0 .0;
+        read = f .0 .0 .0 .0 .1;
+        write = f .0 .0 .0 .1;
+        alone = f .0 .0 .1;
+        fast = f .0 .1;
         last = f .1;
       },
   λ r. simp (parts, tells-read-part, tells-write-part, tells-ended)
-      ((((r .count, r .read), r .write), r .alone), r .last),
+      (((((r .count, r .read), r .write), r .alone), r .fast), r .last),
 )

@@ -14,10 +14,12 @@ use Rattle.protocol.specs.declared.Version.{Version}
 use Rattle.protocol.specs.declared.Entry.{Entry}
 use Rattle.protocol.specs.declared.Message.{Message}
 use Rattle.protocol.specs.declared.Message.the-variants.{Prepare, Prepared, Commit, Get}
-use Rattle.protocol.specs.Tables.{Sizes, initial, numberOf, writerOf}
+use Rattle.protocol.specs.declared.Message.the-variants.{FirstGet}
+use Rattle.protocol.specs.Tables.{Sizes, initial, entryOf, numberOf, writerOf}
 use Rattle.protocol.specs.Range.{sizesInRange, stampInRange, entryInRange, versionInRange}
 use Rattle.protocol.specs.Range.{messageInRange}
-use Rattle.protocol.specs.Message.{Parts, partsOf, kindOf, namesClient, ownerOf}
+use Rattle.protocol.specs.Message.{Parts, parts as partsWith, partsOf, kindOf, namesClient}
+use Rattle.protocol.specs.Message.{ownerOf}
 use Rattle.protocol.proofs.Tells.{tells}
 
 -- ---- Sizes and clients
@@ -97,8 +99,8 @@ tells-version z v = (
   λ r. simp parts (search initial-not),
 )
 
--- a message, by its parts: a get's or got's place is a client, any other's a partition, and what
--- stands for a part that a kind doesn't have is in range
+-- a message, by its parts: the place of a get or got, of either kind, is a client, any other's a
+-- partition, and what stands for a part that a kind doesn't have is in range
 pub record PartsInRange (z : Sizes) (p : Parts) : Type 0 where
   pub client : 4 ≤ p .kind → IsClient z (p .place)
   pub partition : p .kind < 4 → p .place < z .partitions
@@ -202,3 +204,51 @@ module _ (z : Sizes) (sizes : SizesInRange z) where
         written = λ l. absurd (omega arith);
         own = λ e. absurd (omega arith);
       }
+
+-- a got and a first reply bring the same
+pub record ReplyInRange (z : Sizes) (d : ℕ) (v : Version) (e : Entry) : Type 0 where
+  pub client : IsClient z d
+  pub item : v .item < z .items
+  pub value : v .value < 2 ^ 32
+  pub entry : EntryInRange z (entryOf v)
+  pub latest : EntryInRange z e
+
+module _ (z : Sizes) (d : ℕ) where
+  pub range-first-get : (k : ℕ) → IsClient z d → k < z .items → MessageInRange z (FirstGet d k)
+  range-first-get k client item =
+      record {
+        client = λ l. client;
+        partition = λ l. absurd (omega arith);
+        item = item;
+        value = omega arith;
+        stamp = λ n. absurd (n refl);
+        set = pow-pos (z .items);
+        latest = entry-initial z;
+        written = λ l. absurd (omega arith);
+        own = λ e. absurd (omega arith);
+      }
+
+  -- by its kind's number
+  pub tells-reply : (v : Version) (latest : Entry) (kind : ℕ) → 5 ≤ kind
+      → PartsInRange z (partsWith kind d (v .item) (v .value) (v .stamp) (v .set) latest)
+      ↔ ReplyInRange z d v latest
+  tells-reply v latest kind l = (
+    λ h. record {
+      client = h .client (omega arith);
+      item = h .item;
+      value = h .value;
+      entry = record { stamp = h .stamp; set = h .set };
+      latest = h .latest;
+    },
+    λ r. record {
+      client = λ m. r .client;
+      partition = λ m. absurd (omega arith);
+      item = r .item;
+      value = r .value;
+      stamp = r .entry .stamp;
+      set = r .entry .set;
+      latest = r .latest;
+      written = λ m. absurd (omega arith);
+      own = λ e. absurd (omega arith);
+    },
+  )

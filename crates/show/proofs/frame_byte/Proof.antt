@@ -1,4 +1,4 @@
--- `show::frame_byte` meets its contract, by the test of the kind.
+-- `show::frame_byte` meets its contract, by the tests of the kind.
 use borrow.Author.Tests.{eq-eqb, ne-eqb}
 use Rattle.show.proofs.frame_byte.Statement.{statement}
 use Rattle.show.proofs.frame_byte.Tie as tie
@@ -6,4 +6,6 @@ use Rattle.show.proofs.frame_byte.Tie as tie
 pub frame-byte-spec : {M : Type 1} → statement M
 frame-byte-spec =
     tie.close
-    (tie.spec (λ c. rw (eq-eqb _ 1 (c .if1 .taken))) (λ c. rw (ne-eqb _ 1 (c .if1 .left))))
+    (tie.spec (λ c. rw (eq-eqb _ 1 (c .if1 .taken)))
+    (λ c. rw (ne-eqb _ 1 (c .before .if1 .left), eq-eqb _ 2 (c .if2 .taken)))
+    (λ c. rw (ne-eqb _ 1 (c .before .if1 .left), ne-eqb _ 2 (c .if2 .left))))

@@ -9,24 +9,26 @@ use Rattle.start_read.proofs.start_read.Tie as tie
 
 returns : tie.Need-returns
 returns c =
-    let sent = c .before .before in
-    let set = sent .before .before .before .before in
-    let asked = set .before .before .before .before in
+    let begun = c .before .before in
+    let asked = begun .before .before .before .before in
     let chosen = asked .before .before .before .before in
     let start = chosen .before .before .before .before in
-    read-started (now (start .args .b)) _ _ _ _ (start .pre .4) (start .pre .5) _ _ _
+    read-started (now (start .args .b)) _ _ _ (start .pre .3) _ _
     (asked-same (now (start .args .b)) _ _ _ _ _ (start .pre .0) (start .pre .1) (start .pre .2)
-    (chosen .choose .ensures) (asked .ask-items .ensures))
-    (set .put-busy .ensures) (sent .get-items .ensures)
+    (asked .ask-items .ensures) (chosen .choose .ensures))
+    (begun .begin .ensures)
 
 pub start-read-spec : {M : Type 1} → statement M
 start-read-spec =
     tie.close
     (tie.spec
     (λ c. search needs)
-    (λ c κs. search needs)
+    (λ c. search needs)
+    (λ c. search needs)
+    (λ c. search needs)
     (λ c. search needs)
     (λ c κs. search needs)
+    (λ c. search needs)
     (λ c κs. search needs)
     (λ c κs. search needs)
     (λ c. search needs)

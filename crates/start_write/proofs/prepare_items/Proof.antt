@@ -7,10 +7,10 @@ use Rattle.start_write.proofs.prepare_items.Statement.{statement}
 use Rattle.start_write.proofs.prepare_items.Tie as tie
 
 abbrev Inv-loop : tie.InvT-loop
-Inv-loop b₀ n d s stamp items k₀ b k = Turns (sendPrepare n d s stamp) items b₀ b k
+Inv-loop b₀ d s stamp items k₀ b k = Turns (sendPrepare d s stamp) items b₀ b k
 
 abbrev μ-loop : tie.MeasureT-loop
-μ-loop b₀ n d s stamp items k₀ b k = items - k
+μ-loop b₀ d s stamp items k₀ b k = items - k
 
 loop-again : tie.Need-loop-again Inv-loop μ-loop
 loop-again c =

@@ -17,7 +17,7 @@ returns c =
     let kept = set .before .before .before .before in
     let known = kept .before .before .greatest in
     let start = kept .before .before .before .before .before .before in
-    write-started (now (start .args .b)) _ _ _ _ (start .pre .4) (start .pre .5)
+    write-started (now (start .args .b)) _ _ _ (start .pre .3)
     (now (start .args .bytes)) (known .result + 1) _ _ _ _ _
     (add-one (known .result) ∙ ap suc (known .ensures))
     (kept .keep-items .ensures)

@@ -1,8 +1,9 @@
 //! The calls that are timed, each with the block that it is made on.
 
-use crate::session::{first_items, some_values, Session, COMMIT, GET, GOT, PREPARE, PREPARED};
+use crate::session::{first_items, some_values, Session};
 use koolvent_model::call::Call;
 use koolvent_model::layout::decode;
+use koolvent_model::store::message::{COMMIT, FIRST_GET, FIRST_REPLY, GET, GOT, PREPARE, PREPARED};
 use koolvent_model::store::tables::Sizes;
 use koolvent_model::store::Store;
 
@@ -28,10 +29,27 @@ fn fresh(session: &Session) -> Case {
 
 pub const READ_OF_4: &str = "start a read of 4 items";
 pub const READ_OF_64: &str = "start a read of 64 items";
+pub const FAST_READ_OF_4: &str = "start a fast read of 4 items";
+pub const FAST_READ_OF_64: &str = "start a fast read of 64 items";
+/// The last two first replies of a fast read: of one that ends with them, and of one that doesn't.
+pub const BEFORE_THE_LAST: &str = "deliver the 63rd first reply of 64, before the read ends";
+pub const LAST_FIRST_REPLY: &str = "deliver the last first reply of 64, and the read ends";
+pub const BEFORE_FETCHING: &str =
+    "deliver the 63rd first reply of 64, before 7 items are fetched again";
+pub const FETCHING_AGAIN: &str =
+    "deliver the last first reply of 64, and 7 items are fetched again";
+/// A commit on the blocks of the two last ones.
+pub const COMMIT_BESIDE_THE_LAST: &str = "deliver a commit, before the read ends";
+pub const COMMIT_BESIDE_FETCHING: &str = "deliver a commit, before 7 items are fetched again";
 
 /// The start of a read.
 pub fn read(name: &'static str, session: &Session, client: u64, set: u64) -> Case {
     case(name, session, Call::Read { client, set })
+}
+
+/// The start of a fast read.
+fn fast_read(name: &'static str, session: &Session, client: u64, set: u64) -> Case {
+    case(name, session, Call::FastRead { client, set })
 }
 
 /// The check of all fields, and next to nothing else: a read of a client that doesn't exist.
@@ -103,6 +121,14 @@ pub fn small() -> Vec<Case> {
     cases.push(deliver("deliver the last got", &session, GOT, 2));
     session.deliver(GOT, 2, 1);
     cases.push(show("show a read of 4 items", &session, 2));
+    cases.push(fast_read(FAST_READ_OF_4, &session, 2, SHEET));
+    let mut fast = session.clone();
+    fast.start_fast_read(2, SHEET);
+    cases.push(deliver("deliver a first get", &fast, FIRST_GET, 2));
+    fast.deliver(FIRST_GET, 2, 4);
+    cases.push(deliver("deliver a first reply", &fast, FIRST_REPLY, 2));
+    fast.deliver(FIRST_REPLY, 2, 3);
+    cases.push(deliver("deliver the last first reply", &fast, FIRST_REPLY, 2));
     cases.push(hand_over(&session, 1, 2));
     cases.push(compare(COMPARE, &session, 1, 2));
     cases.push(check(CHECK, &session));
@@ -125,6 +151,7 @@ pub fn busy() -> Vec<Case> {
         deliver("deliver the last prepared", &session, PREPARED, 5),
         deliver("deliver a commit", &session, COMMIT, 2),
         read(READ_OF_4, &session, 2, SHEET),
+        fast_read(FAST_READ_OF_4, &session, 2, SHEET),
         deliver("deliver a get", &session, GET, 7),
         deliver("deliver a got", &session, GOT, 7),
         deliver("deliver the last got", &session, GOT, 8),
@@ -142,6 +169,13 @@ pub fn busy_clear() -> Case {
     clear(name, busy_session().block(), 80)
 }
 
+/// A clearing of the busy block where client 7's read is a fast one.
+pub fn busy_and_fast_clear() -> Case {
+    let name =
+        "the busy block with a fast read under way: 500 versions, of which 80 stay, 62 messages";
+    clear(name, fetching_again().block(), 80)
+}
+
 /// The busy block before client 7 starts its read of all 64 items: 500 stored versions and 56
 /// messages, since 120 leave no room for such a read.
 pub fn busy_with_room() -> Vec<Case> {
@@ -149,8 +183,52 @@ pub fn busy_with_room() -> Vec<Case> {
     vec![
         read(READ_OF_4, &session, 7, SHEET),
         read(READ_OF_64, &session, 7, first_items(64)),
+        fast_read(FAST_READ_OF_64, &session, 7, first_items(64)),
         check(CHECK, &session),
     ]
+}
+
+/// The same block with client 7's fast read of all 64 items under way: one of the commits of client
+/// 2's write of 8 items is delivered, or none.
+pub fn busy_and_fast() -> Vec<Case> {
+    let mut fast = session_with_room();
+    fast.start_fast_read(7, first_items(64));
+    let mut cases = vec![deliver("deliver a first get", &fast, FIRST_GET, 7)];
+    fast.deliver(FIRST_GET, 7, 64);
+    cases.push(deliver("deliver a first reply", &fast, FIRST_REPLY, 7));
+    for (commits, before, commit, last) in [
+        (0, BEFORE_THE_LAST, COMMIT_BESIDE_THE_LAST, LAST_FIRST_REPLY),
+        (1, BEFORE_FETCHING, COMMIT_BESIDE_FETCHING, FETCHING_AGAIN),
+    ] {
+        cases.push(deliver(before, &first_replied(commits, 62), FIRST_REPLY, 7));
+        let but_one = first_replied(commits, 63);
+        cases.push(deliver(commit, &but_one, COMMIT, 2));
+        cases.push(deliver(last, &but_one, FIRST_REPLY, 7));
+    }
+    let mut again = fetching_again();
+    cases.push(deliver("deliver a get of an item fetched again", &again, GET, 7));
+    again.deliver(GET, 7, 7);
+    cases.push(deliver("deliver a got of an item fetched again", &again, GOT, 7));
+    cases.push(check(CHECK, &again));
+    cases
+}
+
+/// So many of client 2's commits are delivered, and then so many first replies to client 7's fast
+/// read.
+fn first_replied(commits: u32, replies: u32) -> Session {
+    let mut session = session_with_room();
+    session.deliver(COMMIT, 2, commits);
+    session.start_fast_read(7, first_items(64));
+    session.deliver(FIRST_GET, 7, 64);
+    session.deliver(FIRST_REPLY, 7, replies);
+    session
+}
+
+/// Client 7's fast read fetches 7 of the items again that client 2 wrote.
+fn fetching_again() -> Session {
+    let session = first_replied(1, 64);
+    assert_eq!(session.tables().client(7).awaited, 0b1111_1110);
+    session
 }
 
 /// With client 7's read under way too: 32 gets and 32 gots more.

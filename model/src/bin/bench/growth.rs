@@ -3,7 +3,8 @@
 
 use crate::call::{rows, Row};
 use crate::cases::{read, Case};
-use crate::session::{first_items, Session, PREPARE};
+use crate::session::{first_items, Session};
+use koolvent_model::store::message::PREPARE;
 use koolvent_model::store::tables::WIDEST_WRITE;
 
 /// A point of a curve: how many there are, and what the call costs.

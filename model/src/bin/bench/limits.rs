@@ -2,7 +2,9 @@
 
 use crate::call::Row;
 use crate::cases::{
-    CHECK, CHECK_OF_A_FRESH_SHEET, COMPARE, COMPARE_ALIKE, HAND_OVER, READ_OF_4, READ_OF_64,
+    BEFORE_FETCHING, BEFORE_THE_LAST, CHECK, CHECK_OF_A_FRESH_SHEET, COMMIT_BESIDE_FETCHING,
+    COMMIT_BESIDE_THE_LAST, COMPARE, COMPARE_ALIKE, FAST_READ_OF_4, FAST_READ_OF_64,
+    FETCHING_AGAIN, HAND_OVER, LAST_FIRST_REPLY, READ_OF_4, READ_OF_64,
 };
 use crate::clock::Figure;
 use crate::page::{time, Measured};
@@ -24,12 +26,20 @@ const MODELS: f64 = 1.0;
 /// Where the busy block has room for a read of 64 items, it takes at most so many times one of 4
 /// (document 02, P3).
 const WIDE_READS: f64 = 1.5;
+/// On the busy block the start of a fast read takes at most so many times that of a read of as many
+/// items, and the first reply that ends the first part of one of 64 items so many times the one
+/// before it, and so many times a commit on the same block. Document 02's P7 has no limits: these
+/// are our own.
+const FAST_STARTS: f64 = 1.0;
+const LAST_REPLIES: f64 = 1.5;
+const COMMITS: f64 = 1.25;
 /// Floors of the check of a fresh small sheet before stamps were gathered (on an AMD EPYC, quickest
 /// round, as its library was linked then), and how many times as many it may take. The two
 /// libraries, aligned alike and in one program: docs/changes/ready.md.
 const FRESH_SHEET_WAS: f64 = 3.34;
 const FRESH_SHEET: f64 = 1.1;
-/// A clearing of the busy block is at most so many floors (document 02, P5).
+/// A clearing of the busy block, with a fast read under way or without, is at most so many floors
+/// (document 02, P5).
 const CLEARING_FLOORS: f64 = 40.0;
 /// A write and a read on a fresh small sheet are so many times as fast as SQLite's, and over a life
 /// with clearings no slower.
@@ -82,6 +92,7 @@ pub fn limits(measured: &Measured) -> Vec<Limit> {
             FRESH_SHEET * FRESH_SHEET_WAS,
         ),
     ];
+    limits.extend(of_fast_reads(measured));
     limits.extend([HAND_OVER, COMPARE, COMPARE_ALIKE].map(|name| {
         at_most(
             format!("busy block, {name}: at most {CHECKS} times the check alone"),
@@ -89,16 +100,30 @@ pub fn limits(measured: &Measured) -> Vec<Limit> {
             CHECKS,
         )
     }));
-    limits.push(at_most(
-        format!("busy block: a clearing at most {CLEARING_FLOORS} floors"),
-        measured.clearings.busy.floors,
-        CLEARING_FLOORS,
-    ));
+    let clearings = &measured.clearings;
+    for (block, row) in [
+        ("busy block", &clearings.busy),
+        ("busy block with a fast read under way", &clearings.busy_and_fast),
+    ] {
+        limits.push(at_most(
+            format!("{block}: a clearing at most {CLEARING_FLOORS} floors"),
+            row.floors,
+            CLEARING_FLOORS,
+        ));
+    }
     limits.push(as_fast(
         format!(
             "small sheet: a write and a read of 4 items at least {FASTER} times faster than SQLite"
         ),
         &measured.sheets.fresh,
+        FASTER,
+    ));
+    limits.push(as_fast(
+        format!(
+            "small sheet: a write and a fast read of 4 items at least {FASTER} times faster than \
+             SQLite"
+        ),
+        &measured.sheets.fresh_fast,
         FASTER,
     ));
     limits.push(as_fast(
@@ -109,6 +134,48 @@ pub fn limits(measured: &Measured) -> Vec<Limit> {
     ));
     limits.extend(of_the_judge(&measured.slowest));
     limits
+}
+
+fn of_fast_reads(measured: &Measured) -> [Limit; 7] {
+    let starts = [
+        ("busy block", &measured.busy, 4, FAST_READ_OF_4, READ_OF_4),
+        ("busy block with room for it", &measured.busy_with_room, 64, FAST_READ_OF_64, READ_OF_64),
+    ];
+    let [few, many] = starts.map(|(block, rows, items, fast, ordinary)| {
+        at_most(
+            format!(
+                "{block}: the start of a fast read of {items} items at most {FAST_STARTS:.1} times \
+                 that of a read"
+            ),
+            times(named(rows, fast).store, named(rows, ordinary).store),
+            FAST_STARTS,
+        )
+    });
+    let rows = &measured.busy_and_fast;
+    let last_two = [(BEFORE_THE_LAST, LAST_FIRST_REPLY), (BEFORE_FETCHING, FETCHING_AGAIN)];
+    let [ends, goes_on] = last_two.map(|(before, last)| {
+        at_most(
+            format!("busy block, {last}: at most {LAST_REPLIES} times the first reply before it"),
+            times(named(rows, last).store, named(rows, before).store),
+            LAST_REPLIES,
+        )
+    });
+    let commits =
+        [(COMMIT_BESIDE_THE_LAST, LAST_FIRST_REPLY), (COMMIT_BESIDE_FETCHING, FETCHING_AGAIN)];
+    let [ends_beside, goes_on_beside] = commits.map(|(commit, last)| {
+        at_most(
+            format!("busy block, {last}: at most {COMMITS} times a commit on the same block"),
+            times(named(rows, last).store, named(rows, commit).store),
+            COMMITS,
+        )
+    });
+    let all = worst(
+        format!("busy block with a fast read under way: a call at most {FLOORS} floors"),
+        rows,
+        |row| row.floors,
+        FLOORS,
+    );
+    [few, many, ends, goes_on, ends_beside, goes_on_beside, all]
 }
 
 fn of_the_judge(slowest: &judges::Slowest) -> [Limit; 3] {

@@ -24,6 +24,7 @@ fn main() {
         small: call::rows(&cases::small()),
         busy: call::rows(&cases::busy()),
         busy_with_room: call::rows(&cases::busy_with_room()),
+        busy_and_fast: call::rows(&cases::busy_and_fast()),
         clearings: clearing::clearings(),
         sheets: sheet::rows(),
         slowest: judges::slowest(),

@@ -2,16 +2,9 @@
 
 use koolvent_model::answer::Answer;
 use koolvent_model::layout::encode;
-use koolvent_model::store::message::Message;
+use koolvent_model::store::message::{Message, GET, GOT, PREPARE, PREPARED};
 use koolvent_model::store::tables::{Sizes, Tables, WIDEST_WRITE};
 use koolvent_model::store::Store;
-
-/// Kinds of messages.
-pub const PREPARE: u64 = 1;
-pub const PREPARED: u64 = 2;
-pub const COMMIT: u64 = 3;
-pub const GET: u64 = 4;
-pub const GOT: u64 = 5;
 
 /// A store in the middle of a session; every call on it is accepted.
 #[derive(Clone)]
@@ -38,6 +31,10 @@ impl Session {
 
     pub fn start_read(&mut self, client: u64, set: u64) {
         accepted(self.store.start_read(client, set));
+    }
+
+    pub fn start_fast_read(&mut self, client: u64, set: u64) {
+        accepted(self.store.start_fast_read(client, set));
     }
 
     pub fn start_write(&mut self, client: u64, set: u64) {

@@ -12,6 +12,7 @@ use crate::sqlite::Sheet;
 pub use calls::CALLS;
 use calls::{check_often, write_and_read, Life, Looked, CHECKS, SHEET};
 use koolvent_model::block::{Calls, Modelled};
+use koolvent_model::frames::log::Manner;
 use koolvent_model::proved::store::Proved;
 use std::cell::RefCell;
 
@@ -50,9 +51,10 @@ pub struct InSqlite {
     pub as_fast: Figure,
 }
 
-/// On a fresh sheet, and the mean over the life of one.
+/// On a fresh sheet, with an ordinary and with a fast read, and the mean over the life of one.
 pub struct Rows {
     pub fresh: Row,
+    pub fresh_fast: Row,
     /// From a fresh sheet to a full one.
     pub life: Row,
     /// With a clearing whenever 9 refuses a write.
@@ -62,15 +64,16 @@ pub struct Rows {
 }
 
 impl Rows {
-    pub fn all(&self) -> [&Row; 4] {
-        [&self.fresh, &self.life, &self.cleared, &self.cleared_sooner]
+    pub fn all(&self) -> [&Row; 5] {
+        [&self.fresh, &self.fresh_fast, &self.life, &self.cleared, &self.cleared_sooner]
     }
 }
 
 pub fn rows() -> Rows {
     let long = format!("the mean of {WRITES_OF_A_LONG_LIFE} from a fresh sheet on");
     Rows {
-        fresh: on_sheets(&[0]).remove(0),
+        fresh: on_sheets(&[0], Manner::Ordinary).remove(0),
+        fresh_fast: on_sheets(&[0], Manner::Fast).remove(0),
         life: mean(
             format!("the mean of {WRITES_OF_A_LIFE}, from a fresh sheet to a full one"),
             Life { writes: WRITES_OF_A_LIFE, cleared_after: None },
@@ -100,26 +103,33 @@ fn mean(name: String, life: Life) -> Row {
 
 /// Against the number of stored versions.
 pub fn growth() -> Vec<Row> {
-    on_sheets(&[0, 64, 128, 192, 256, 320, 384, 448, 508])
+    on_sheets(&[0, 64, 128, 192, 256, 320, 384, 448, 508], Manner::Ordinary)
 }
 
 /// On sheets with so many stored versions, all in the same rounds.
-fn on_sheets(versions: &[u64]) -> Vec<Row> {
+fn on_sheets(versions: &[u64], manner: Manner) -> Vec<Row> {
     let of_one = |versions: &u64| {
         let block = sheet_with(*versions);
-        assert_alike(&block);
+        assert_alike(&block, manner);
+        let [store, again] = [(); 2].map(|()| once(Proved, &block, manner));
+        let checked = once(Looked(check_often), &block, manner);
         beside_sqlite([
-            once(Proved, &block),
-            one_of(CHECKS, difference(once(Looked(check_often), &block), once(Proved, &block))),
-            once(Modelled::default(), &block),
-            passes(&block),
+            store,
+            one_of(CHECKS, difference(checked, again)),
+            once(Modelled::default(), &block, manner),
+            passes(&block, manner),
         ])
     };
     let of_each: Vec<Vec<Contender>> = versions.iter().map(of_one).collect();
     let each = of_each.first().map_or(0, Vec::len);
     let rounds = Rounds::run(ROUNDS, of_each.into_iter().flatten().collect());
+    let how = match manner {
+        Manner::Ordinary => "",
+        Manner::Fast => ", the read fast",
+    };
     let row_of_one = |(place, versions): (usize, &u64)| {
-        row(format!("on a sheet with {versions} stored versions"), *versions, &rounds, each * place)
+        let name = format!("on a sheet with {versions} stored versions{how}");
+        row(name, *versions, &rounds, each * place)
     };
     versions.iter().enumerate().map(row_of_one).collect()
 }
@@ -157,18 +167,18 @@ fn row(name: String, versions: u64, rounds: &Rounds, place: usize) -> Row {
 }
 
 /// The store and the model leave the same words and show the same.
-fn assert_alike(block: &[u64]) {
+fn assert_alike(block: &[u64], manner: Manner) {
     let [mut store, mut model] = [(); 2].map(|()| Lent::new(block, block));
-    write_and_read(&Proved, &mut store, 1);
-    write_and_read(&Modelled::default(), &mut model, 1);
+    write_and_read(&Proved, &mut store, 1, manner);
+    write_and_read(&Modelled::default(), &mut model, 1, manner);
     assert!(store.block == model.block && store.output == model.output);
 }
 
-fn once<'a>(served: impl Calls + 'a, block: &[u64]) -> Contender<'a> {
+fn once<'a>(served: impl Calls + 'a, block: &[u64], manner: Manner) -> Contender<'a> {
     let mut after = Lent::new(block, block);
-    write_and_read(&served, &mut after, 1);
+    write_and_read(&served, &mut after, 1, manner);
     let lent = Lent::new(block, &after.block);
-    let step = move |lent: &mut Lent| write_and_read(&served, lent, 1);
+    let step = move |lent: &mut Lent| write_and_read(&served, lent, 1, manner);
     steps_undone(lent, step, Lent::undo)
 }
 
@@ -183,10 +193,10 @@ fn fresh_sheet() -> Lent {
 }
 
 /// The floor of a write and a read.
-fn passes<'a>(block: &[u64]) -> Contender<'a> {
+fn passes<'a>(block: &[u64], manner: Manner) -> Contender<'a> {
     let mut lent = Lent::new(block, block);
     let before_each = RefCell::new(Vec::new());
-    write_and_read(&watched(&before_each), &mut lent, 1);
+    write_and_read(&watched(&before_each), &mut lent, 1, manner);
     let before_each = before_each.into_inner();
     assert_eq!(before_each.len(), CALLS);
     floor::passes(block, before_each)

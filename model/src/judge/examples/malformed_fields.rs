@@ -1,6 +1,6 @@
 //! Frames with a field that the judge won't take, beside the nearest that it takes.
 
-use super::{example, hand_over, read, write, Example, CLEAN, INITIAL};
+use super::{example, fast_read, hand_over, read, write, Example, CLEAN, INITIAL};
 
 const FIRST_LINE: &str = "0f0001";
 const SECOND_LINE: &str = "0f0002";
@@ -23,6 +23,12 @@ fn clients_and_sets() -> Vec<Example> {
         example("read by client 1", CLEAN, &[&read(1, 1, &[INITIAL])]),
         example("read by client 8", CLEAN, &[&read(8, 1, &[INITIAL])]),
         example("read by client 9", FIRST_LINE, &[&read(9, 1, &[INITIAL])]),
+        example("fast read by client 0", FIRST_LINE, &[&fast_read(0, 1, &[INITIAL])]),
+        example("fast read by client 1", CLEAN, &[&fast_read(1, 1, &[INITIAL])]),
+        example("fast read by client 8", CLEAN, &[&fast_read(8, 1, &[INITIAL])]),
+        example("fast read by client 9", FIRST_LINE, &[&fast_read(9, 1, &[INITIAL])]),
+        example("fast read of an empty set", FIRST_LINE, &[&fast_read(1, 0, &[])]),
+        example("fast read of all items", CLEAN, &[&fast_read(1, u64::MAX, &[INITIAL; 64])]),
         example("write of an empty set", FIRST_LINE, &[&write(1, 0, 1, &[])]),
         example("read of an empty set", FIRST_LINE, &[&read(1, 0, &[])]),
         example("write of all items", CLEAN, &[&write(1, u64::MAX, 1, &[7; 64])]),
@@ -112,6 +118,16 @@ fn stamps() -> Vec<Example> {
         example("shown number 1 of client 255", FIRST_LINE, &[&shows(1, 255)]),
         example("shown number 1 of client 8, unwritten", "00010001", &[&shows(1, 8)]),
         example("shown greatest number of client 1, unwritten", "00010001", &[&shows(u32::MAX, 1)]),
+        example(
+            "fast read with number 1 of client 0",
+            FIRST_LINE,
+            &[&fast_read(2, 1, &[(1, 0, 0)])],
+        ),
+        example(
+            "fast read with number 0 of client 1",
+            FIRST_LINE,
+            &[&fast_read(2, 1, &[(0, 1, 0)])],
+        ),
         example(
             "bad stamp in the last entry",
             FIRST_LINE,

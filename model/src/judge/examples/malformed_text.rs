@@ -48,7 +48,13 @@ fn characters() -> Vec<Example> {
 fn kinds_and_lengths() -> Vec<Example> {
     let one = |name, line: &str| example(name, FIRST_LINE, &[line, "\n"]);
     vec![
-        one("kind 23", "2301000000000000000100000001000000a9"),
+        one("kind 24", "2401000000000000000100000001000000a9"),
+        one("kind 25", "25010000000000000001000000000000000000"),
+        one("fast read of a write's length", "2301000000000000000100000001000000a9"),
+        one("fast read without entries", "23020000000000000001"),
+        one("fast read a byte short", "230200000000000000010000000000000000"),
+        one("fast read a byte long", "2302000000000000000100000000000000000000"),
+        example("fast read of one entry", CLEAN, &["23020000000000000001000000000000000000\n"]),
         one("kind 1f", "1f01000000000000000100000001000000a9"),
         one("kind 00", "0001000000000000000100000001000000a9"),
         one("kind alone", "20"),

@@ -18,14 +18,14 @@ pub(super) fn frames_of(lines: u64, doubtful: u64, random: &mut Random) -> Vec<L
     let mut frames = writes_and_empty_reads(lines, random);
     for place in 0..frames.len() {
         let doubtful = random.once_in(doubtful);
-        let Some(ReadPart { set, .. }) = frames[place].read else {
+        let Some(ReadPart { manner, set, .. }) = frames[place].read else {
             continue;
         };
         let shown = match doubtful {
             true => shown::random_entries(&frames, place, set, random),
-            false => shown::faultless_entries(&frames, place, set, random),
+            false => shown::faultless_entries(&frames, place, manner, set, random),
         };
-        frames[place].read = Some(ReadPart { set, shown });
+        frames[place].read = Some(ReadPart { manner, set, shown });
     }
     if random.once_in(6) {
         spoil_field(&mut frames, random);
@@ -56,7 +56,11 @@ fn writes_and_empty_reads(lines: u64, random: &mut Random) -> Vec<LogFrame> {
             }
             let set = subset(items, random);
             if random.once_in(2) {
-                return LogFrame::of_read(client as u8, set, Vec::new());
+                let of = match random.once_in(4) {
+                    true => LogFrame::of_fast_read,
+                    false => LogFrame::of_read,
+                };
+                return of(client as u8, set, Vec::new());
             }
             let number = next_number[client] + random.pick(&[0, 0, 0, 1, 2]);
             next_number[client] = number + 1;
@@ -102,7 +106,7 @@ fn spoil_field(frames: &mut [LogFrame], random: &mut Random) {
             _ => (*set, *values) = (0, Vec::new()),
         }
     }
-    if let Some(ReadPart { set, shown }) = read {
+    if let Some(ReadPart { set, shown, .. }) = read {
         match random.below(6) {
             0 => *client = bad_client,
             1 => shown.push(shown[0]),

@@ -1,6 +1,6 @@
 //! What a random read shows: entries of the log's writes, whole or not.
 
-use crate::frames::log::{LogFrame, Shown};
+use crate::frames::log::{LogFrame, Manner, Shown};
 use crate::random::Random;
 use crate::set::items;
 use crate::stamp::Stamp;
@@ -26,15 +26,19 @@ pub fn random_entries(log: &[LogFrame], place: usize, set: u64, random: &mut Ran
     entries
 }
 
-/// Entries without fault of a set's items for the read at this place.
+/// Entries without fault of a set's items for the read at this place. A fast read may miss what
+/// counts as the client's own.
 pub fn faultless_entries(
     log: &[LogFrame],
     place: usize,
+    manner: Manner,
     set: u64,
     random: &mut Random,
 ) -> Vec<Shown> {
     let mut seen = some_frames(log, random);
-    seen.extend(own_frames(log, place, log[place].client));
+    if manner == Manner::Ordinary {
+        seen.extend(own_frames(log, place, log[place].client));
+    }
     items(set).map(|item| latest_entry(&seen, item)).collect()
 }
 

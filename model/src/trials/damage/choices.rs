@@ -4,7 +4,7 @@ use crate::call::Call;
 use crate::layout::places;
 use crate::random::Random;
 use crate::set::size;
-use crate::store::tables::{Tables, IDLE, READ};
+use crate::store::tables::{Tables, IDLE, WRITE};
 
 pub(super) struct Chooser<'a> {
     pub(super) random: &'a mut Random,
@@ -27,6 +27,12 @@ impl Chooser<'_> {
         let client = self.client();
         let set = self.set();
         Call::Read { client, set }
+    }
+
+    pub(super) fn fast_read(&mut self) -> Call {
+        let client = self.client();
+        let set = self.set();
+        Call::FastRead { client, set }
     }
 
     pub(super) fn write(&mut self) -> Call {
@@ -62,8 +68,8 @@ impl Chooser<'_> {
             true => {
                 let last = &self.tables.client(client).last;
                 match last.kind {
-                    READ => 10 + 9 * size(last.set),
-                    _ => 14 + 4 * size(last.set),
+                    WRITE => 14 + 4 * size(last.set),
+                    _ => 10 + 9 * size(last.set),
                 }
             }
             false => 14,

@@ -2,10 +2,14 @@
 //! answers and outputs: what tables alone say, a client's count and views, is for tests/trials.
 
 mod answers;
+mod bounds;
 mod clearings;
 mod corrections;
 mod falls;
+mod fast_reads;
+mod freshest;
 mod hand_overs;
+mod last_replies;
 mod showings;
 mod unshown;
 
@@ -63,6 +67,7 @@ fn a_write_and_its_read_keep_every_clause() {
         gone: 0,
         served: 0,
         taken_over: 0,
+        ..Summary::default()
     };
     assert_eq!(check(&own_read()), Ok(expected));
 }

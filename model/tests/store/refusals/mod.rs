@@ -4,6 +4,7 @@
 mod capacities;
 mod clearings;
 mod deliveries;
+mod fast_reads;
 mod hand_overs;
 mod order;
 mod starts;

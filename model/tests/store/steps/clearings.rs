@@ -6,7 +6,9 @@ use koolvent_model::answer::Answer;
 use koolvent_model::call::Call;
 use koolvent_model::stamp::{Entry, Stamp};
 use koolvent_model::store::message::Message;
-use koolvent_model::store::tables::{Client, Ended, Tables, Version, READ, READING, WRITE};
+use koolvent_model::store::tables::{
+    Client, Ended, Tables, Version, FAST_READ, FIRST_PART, READ, READING, SECOND_PART, WRITE,
+};
 
 const STAMP: Stamp = Stamp { number: 2, client: 1 };
 
@@ -74,12 +76,15 @@ fn a_message_of_each_kind_spares_whatever_its_item() {
     for item in 0..3 {
         let prepare = Message::Prepare(version(item, 8, STAMP, &[0, 1, 2]));
         let initial = version(item, 0, Stamp::INITIAL, &[]);
+        let first_reply = |version, latest| Message::FirstReply { client: 2, version, latest };
         let messages = [
             prepare,
             Message::Prepared { item, stamp: STAMP },
             get(2, item, STAMP),
             got(2, version(item, 8, STAMP, &[0, 1]), Entry::INITIAL),
             got(2, initial, Entry::new(STAMP, set_of(&[0, 1]))),
+            first_reply(version(item, 8, STAMP, &[0, 1]), Entry::INITIAL),
+            first_reply(initial, Entry::new(STAMP, set_of(&[0, 1]))),
         ];
         for message in messages {
             let others = get(1, item, Stamp::INITIAL);
@@ -115,6 +120,8 @@ fn a_last_ended_transaction_spares_nothing() {
         shown.stamps[0] = STAMP;
         shown.stamps[1] = STAMP;
         spares_nothing(|tables| tables.client_mut(client).last = shown);
+        let fast = Ended { kind: FAST_READ, ..shown };
+        spares_nothing(|tables| tables.client_mut(client).last = fast);
         let wrote = Ended { kind: WRITE, set: set_of(&[0, 1]), stamp: STAMP, ..Ended::NONE };
         spares_nothing(|tables| tables.client_mut(client).last = wrote);
     }
@@ -129,6 +136,29 @@ fn a_stamp_asked_for_spares_nothing() {
     spares_nothing(|tables| *tables.client_mut(2) = asking);
     let reading = Client { mode: READING, awaited: set_of(&[1]), ..asking };
     spares_nothing(|tables| *tables.client_mut(2) = reading);
+}
+
+/// Until the read ends: in its first part those of items no longer awaited, in its second all, of
+/// items fetched again too.
+#[test]
+fn first_replies_that_a_fast_read_keeps_spare() {
+    let keeping = |mode, item: usize| {
+        let [set, awaited] = [set_of(&[0, 1, 2]), set_of(&[0])];
+        let mut client = Client { mode, set, awaited, ..Client::INITIAL };
+        client.firsts[item] = Entry::new(STAMP, set_of(&[0, 1]));
+        client
+    };
+    for client in 1..=2 {
+        for item in 0..3 {
+            spares(|tables| *tables.client_mut(client) = keeping(SECOND_PART, item));
+        }
+        for item in 1..3 {
+            spares(|tables| *tables.client_mut(client) = keeping(FIRST_PART, item));
+        }
+    }
+    let mut asking = keeping(SECOND_PART, 0);
+    (asking.firsts, asking.stamps[0]) = ([Entry::INITIAL; 64], STAMP);
+    spares_nothing(|tables| *tables.client_mut(2) = asking);
 }
 
 #[test]

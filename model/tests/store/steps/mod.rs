@@ -1,6 +1,7 @@
 //! Each step's tables, written down from documents 01 and 02.
 
 mod clearings;
+mod fast_reads;
 mod hand_overs;
 mod offers;
 mod reads;

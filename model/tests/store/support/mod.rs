@@ -63,6 +63,10 @@ pub fn read(client: u64, items: &[u64]) -> Call {
     Call::Read { client, set: set_of(items) }
 }
 
+pub fn fast_read(client: u64, items: &[u64]) -> Call {
+    start_fast_read(client, set_of(items))
+}
+
 /// A write of ascending items, each with its value.
 pub fn write(client: u64, items: &[(u64, u32)]) -> Call {
     let (items, values): (Vec<u64>, Vec<u32>) = items.iter().copied().unzip();
@@ -93,6 +97,10 @@ pub fn compare(first: u64, second: u64) -> Call {
 
 pub fn start_read(client: u64, set: u64) -> Call {
     Call::Read { client, set }
+}
+
+pub fn start_fast_read(client: u64, set: u64) -> Call {
+    Call::FastRead { client, set }
 }
 
 pub fn start_write(client: u64, set: u64, values: &[u8]) -> Call {

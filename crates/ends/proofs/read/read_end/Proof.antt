@@ -6,15 +6,18 @@ use Rattle.ends.proofs.read.read_end.Tie as tie
 
 returns : tie.Need-returns
 returns c =
-    read-row _ _ _ _ _
-    (c .before .before .before .before .before .before .before .before .set-of .ensures)
-    (c .before .before .before .before .before .before .keep-answers .ensures)
-    (c .before .before .end .ensures)
+    let end = c .before .before in
+    let kept = end .before .before .before .before in
+    let kind = kept .before .before in
+    read-row _ _ _ _ _ (kind .before .before .before .set-of .ensures) (kind .before .mode .ensures)
+    (kind .read-kind .ensures) (kept .keep-answers .ensures) (end .end .ensures)
 
 pub read-end-spec : {M : Type 1} → statement M
 read-end-spec =
     tie.close
     (tie.spec
+    (λ c κs. search needs)
+    (λ c κs. search needs)
     (λ c κs. search needs)
     (λ c κs. search needs)
     (λ c κs. search needs)

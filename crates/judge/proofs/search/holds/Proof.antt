@@ -35,6 +35,9 @@ returns-2 c =
     (c .before .if2 .taken)
     (c .before .before .before .shown-stamp .ensures)
 
+reads-own-requires : tie.Need-reads-own-requires
+reads-own-requires c κs = search needs
+
 client-requires : tie.Need-client-requires
 client-requires c κs = search needs
 
@@ -43,12 +46,13 @@ is-missed-requires c κs = search needs
 
 returns-3 : tie.Need-returns-3
 returns-3 c =
-    let s = c .before .before .before .before .before .before .before .before .before .before in
+    let l = c .before .before in
+    let k = l .before in
+    let s = k .before .before .before .before .before .before .before .before in
     finding-three _ _ (s .args .n) _ (s .args .item) _ (s .pre .2)
-    (c .before .before .before .before .before .frame .ensures) _ _ _ _ _ (c .is-missed .ensures)
-    (s .pre .1) (c .before .before .before .if1 .left) (c .before .before .if2 .left)
-    (c .before .client .ensures .0)
-    (c .before .before .before .before .shown-stamp .ensures)
+    (k .before .before .before .frame .ensures) _ _ _ _ _ _ (l .reads-own .ensures)
+    (c .is-missed .ensures) (s .pre .1) (k .before .if1 .left) (k .if2 .left)
+    (c .before .client .ensures .0) (k .before .before .shown-stamp .ensures)
 
 pub holds-spec : {M : Type 1} → statement M
 holds-spec =
@@ -61,6 +65,7 @@ holds-spec =
     returns
     is-fractured-requires
     returns-2
+    reads-own-requires
     client-requires
     is-missed-requires
     returns-3)

@@ -30,16 +30,19 @@ returns c =
     ∙ faults-equal _ (a .item) (a .stamp) (getD (a .owners .now) (a .write) 0) (a .of) (a .r .now)
     (sym (s .pre .3) ∙ c .before .before .if1 .taken)
 
-misses-at-requires : tie.Need-misses-at-requires
-misses-at-requires c κs = search needs
+reads-own-requires : tie.Need-reads-own-requires
+reads-own-requires c κs = search needs
+
+wrote-own-requires : tie.Need-wrote-own-requires
+wrote-own-requires c κs = search needs
 
 returns-2 : tie.Need-returns-2
 returns-2 c =
-    let s = c .before .before .before .before .before .before .before .before .before in
+    let s = c .before .before .before .before .before .before .before .before .before .before in
     let a = s .args in
     faults-later (frameIn (a .bytes .now) (a .starts .now) (a .write)) (a .item) (a .stamp)
-    (getD (a .owners .now) (a .write) 0) (a .of) (a .r .now) _ (c .misses-at .ensures)
-    (λ e. c .before .before .if1 .left (s .pre .3 ∙ e))
+    (getD (a .owners .now) (a .write) 0) (a .of) (a .r .now) _ _ (c .before .reads-own .ensures)
+    (c .wrote-own .ensures) (rw (← s .pre .3) (c .before .before .if2 .taken))
 
 returns-3 : tie.Need-returns-3
 returns-3 c =
@@ -57,6 +60,7 @@ faults-at-spec =
     frame-requires
     fractures-requires
     returns
-    misses-at-requires
+    reads-own-requires
+    wrote-own-requires
     returns-2
     returns-3)

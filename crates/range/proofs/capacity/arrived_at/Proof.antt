@@ -1,5 +1,5 @@
--- `range::capacity::arrived_at` meets its contract: of a writing client, the items of its set no
--- longer awaited.
+-- `range::capacity::arrived_at` meets its contract: of a write, and of the first part of a fast
+-- read, the items of its set no longer awaited.
 use borrow.Author.Needs.{needs}
 use mathlib.Core.Path.{_≡_, ap₂, _∙_}
 use Prim.Native.Nat.{_-_}
@@ -8,7 +8,7 @@ use Rattle.itemset.proofs.Counts.{count-le}
 use Rattle.protocol.specs.Range.{arrived}
 use Rattle.layout.specs.Layout.{mostItems}
 use Rattle.layout.specs.Decode.{clientIn}
-use Rattle.range.proofs.CapacityTests.{arrived-other, arrived-write}
+use Rattle.range.proofs.CapacityTests.{arrived-other, arrived-come}
 use Rattle.range.proofs.capacity.arrived_at.Statement.{statement}
 use Rattle.range.proofs.capacity.arrived_at.Tie as tie
 
@@ -18,7 +18,14 @@ mode-requires c κs = search needs
 returns : tie.Need-returns
 returns c = (
   arrived-other (c .before .before .before .args .b .now)
-      (c .before .before .before .args .d) (omega arith),
+      (c .before .before .before .args .d) (omega arith) (omega arith),
+  search needs,
+)
+
+returns-2 : tie.Need-returns-2
+returns-2 c = (
+  arrived-other (c .before .before .before .before .args .b .now)
+      (c .before .before .before .before .args .d) (omega arith) (omega arith),
   search needs,
 )
 
@@ -34,21 +41,21 @@ awaited-requires c κs = search needs
 count-requires-2 : tie.Need-count-requires-2
 count-requires-2 c κs = search needs
 
--- past the counts: those of a writing client
+-- past the counts: of such a client
 come : (a : tie.After-count2)
-    → a .before .before .count .result - a .count2 .result
-    ≡ arrived (clientIn (a .before .before .before .before .before .before .before .args .b .now)
-    (a .before .before .before .before .before .before .before .args .d))
+    → (let start = a .before .before .before .before .before .before .before .before in
+    a .before .before .count .result - a .count2 .result
+    ≡ arrived (clientIn (start .args .b .now) (start .args .d)))
 come a =
     ap₂ _-_ (a .before .before .count .ensures) (a .count2 .ensures)
-    ∙ arrived-write _ _ _ _ (a .before .before .before .set-of .ensures)
-    (a .before .awaited .ensures) (omega arith)
-
-returns-2 : tie.Need-returns-2
-returns-2 c = (omega (arith, come (c .before)), search needs)
+    ∙ arrived-come _ _ _ _ (a .before .before .before .set-of .ensures)
+    (a .before .awaited .ensures) (omega arith) (omega arith)
 
 returns-3 : tie.Need-returns-3
-returns-3 c = (
+returns-3 c = (omega (arith, come (c .before)), search needs)
+
+returns-4 : tie.Need-returns-4
+returns-4 c = (
   come (c .before),
   omega (
     arith,
@@ -63,9 +70,10 @@ arrived-at-spec =
     (tie.spec
     mode-requires
     returns
+    returns-2
     set-of-requires
     count-requires
     awaited-requires
     count-requires-2
-    returns-2
-    returns-3)
+    returns-3
+    returns-4)

@@ -5,7 +5,8 @@ use native.Mathlib.Omega.{arith}
 use Rattle.basics.specs.Lists.{every}
 use Rattle.protocol.specs.Range.{entryInRange}
 use Rattle.gather.specs.Sized.{sized}
-use Rattle.range.specs.Entries.{entryFrom}
+use Rattle.range_client.specs.Entries.{entryFrom}
+use Rattle.range.specs.Entries.{entriesAt}
 use Rattle.gather.proofs.Tested.{SoFar, tested-none, tested-next, tested-all}
 use Rattle.range.proofs.entry.views_in_range.Statement.{statement}
 use Rattle.range.proofs.entry.views_in_range.Tie as tie
@@ -13,13 +14,22 @@ use Rattle.range.proofs.entry.views_in_range.Tie as tie
 abbrev Inv-loop : tie.InvT-loop
 Inv-loop b clients items ok₀ i₀ ok i =
     SoFar (suc clients)
-    (λ i. every items (λ k. entryInRange (sized clients items) (entryFrom b i k))) i ok
+    (λ i. every items (λ k. entryInRange (sized clients items) (entryFrom b (entriesAt i) k))) i ok
 
 abbrev μ-loop : tie.MeasureT-loop
 μ-loop b clients items ok₀ i₀ ok i = suc clients - i
 
 loop-holds : tie.Need-loop-holds Inv-loop μ-loop
 loop-holds c = tested-none
+
+mul-start : tie.Need-mul-start Inv-loop μ-loop
+mul-start c = search needs
+
+mul-start-2 : tie.Need-mul-start-2 Inv-loop μ-loop
+mul-start-2 c = search needs
+
+add-start : tie.Need-add-start Inv-loop μ-loop
+add-start c = search needs
 
 entries-in-range-requires : tie.Need-entries-in-range-requires Inv-loop μ-loop
 entries-in-range-requires c κs = search needs
@@ -44,6 +54,9 @@ views-in-range-spec =
     Inv-loop
     μ-loop
     loop-holds
+    mul-start
+    mul-start-2
+    add-start
     entries-in-range-requires
     add-i
     loop-less

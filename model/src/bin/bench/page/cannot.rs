@@ -10,7 +10,8 @@ const COLUMNS: usize = 100;
 /// The page's two paragraphs on it.
 pub fn cannot(measured: &Measured) -> String {
     let sheets = &measured.sheets;
-    let in_sqlite = sheets.all().map(|row| row.sqlite);
+    let rows = [&sheets.fresh, &sheets.life, &sheets.cleared, &sheets.cleared_sooner];
+    let in_sqlite = rows.map(|row| row.sqlite);
     let [Some(fresh), Some(life), Some(cleared), Some(cleared_sooner)] = in_sqlite else {
         return "SQLite was not installed where this page was made.\n".to_owned();
     };

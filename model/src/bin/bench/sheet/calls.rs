@@ -3,6 +3,7 @@
 
 use crate::block::Lent;
 use koolvent_model::block::Calls;
+use koolvent_model::frames::log::Manner;
 use koolvent_model::proved::store::Proved;
 use std::hint::black_box;
 
@@ -12,9 +13,9 @@ pub const CALLS: usize = 22;
 /// The refusal of a write that would be over 512 versions.
 const FULL: u64 = 9;
 
-/// Client 1 writes the four items, client 2 reads them, and both are shown. A write that the sheet
-/// has no room for is made after a clearing.
-pub fn write_and_read(served: &impl Calls, lent: &mut Lent, value: u32) {
+/// Client 1 writes the four items, client 2 reads them in that manner, and both are shown. A write
+/// that the sheet has no room for is made after a clearing.
+pub fn write_and_read(served: &impl Calls, lent: &mut Lent, value: u32, manner: Manner) {
     let block = black_box(&mut lent.block[..]);
     let mut values = [0; 16];
     for (item, bytes) in values.chunks_mut(4).enumerate() {
@@ -26,8 +27,11 @@ pub fn write_and_read(served: &impl Calls, lent: &mut Lent, value: u32) {
         started = served.start_write(block, 1, SHEET, &values);
     }
     deliver_all(served, block, accepted(started) >> 8);
-    let started = accepted(served.start_read(block, 2, SHEET));
-    deliver_all(served, block, started >> 8);
+    let started = match manner {
+        Manner::Ordinary => served.start_read(block, 2, SHEET),
+        Manner::Fast => served.start_fast_read(block, 2, SHEET),
+    };
+    deliver_all(served, block, accepted(started) >> 8);
     accepted(served.show(block, 1, &mut lent.output));
     accepted(served.show(block, 2, &mut lent.output));
 }
@@ -56,7 +60,7 @@ impl Life {
     pub fn live(self, served: &impl Calls, lent: &mut Lent) {
         accepted(served.fresh(&mut lent.block, 2, 2, 4));
         for write in 1..=self.writes {
-            write_and_read(served, lent, write as u32);
+            write_and_read(served, lent, write as u32, Manner::Ordinary);
             if self.cleared_after.is_some_and(|writes| write % writes == 0) {
                 accepted(served.clear(black_box(&mut lent.block)));
             }
@@ -105,6 +109,11 @@ impl<Look: Fn(&[u64])> Calls for Looked<Look> {
     fn compare(&self, block: &[u64], first: u64, second: u64) -> u64 {
         self.0(block);
         Proved.compare(block, first, second)
+    }
+
+    fn start_fast_read(&self, block: &mut [u64], client: u64, set: u64) -> u64 {
+        self.0(block);
+        Proved.start_fast_read(block, client, set)
     }
 }
 

@@ -1,0 +1,112 @@
+-- Fast reads of lines from 32 on, over three cabinets (document 02, P7). Where it is computed, a
+-- count takes as many turns as its set's number says. So these are the steps of accepted calls
+-- alone, without the refusals, which count.
+use mathlib.Core.Bool.{Bool, not, _&&_}
+use mathlib.Core.List.{List, [], _∷_, _++_}
+use Prim.Native.Nat.{ℕ, _+_, _^_}
+use Prim.Native.String.{String}
+use lib.Count.{onesIn}
+use lib.Text.{eqt}
+use Rattle.basics.specs.Lists.{every, all, counted, without, dropped}
+use Rattle.hex.specs.Number.{bigEndian, numberAt}
+use Rattle.itemset.specs.Set.{has, upto, insert, remove, setOf}
+use Rattle.protocol.specs.declared.Entry.{Entry}
+use Rattle.protocol.specs.Tables.{Tables, Client, initial, isKind, fresh, put, stampOf}
+use Rattle.protocol.specs.Tables.{withClient, withVersions}
+use Rattle.protocol.specs.Range.{inRange, stampInRange, sizesInRange, entryInRange}
+use Rattle.protocol.specs.Range.{versionInRange, messageInRange, endedInRange, clientInRange}
+use Rattle.protocol.specs.Range.{hasFirst, readPartInRange, writePartInRange}
+use Rattle.protocol.specs.Steps.{greatestIn, choice, stored, found, delivered, joined}
+use Rattle.protocol.specs.Steps.{touches}
+use Rattle.protocol.specs.Clear.{mentions, unused}
+use Rattle.protocol.specs.LogFrame.{listed, readBytes, writeBytes, frame}
+use Rattle.protocol.specs.Calls.{Call, startFastRead, startWrite, deliver, clear, effect}
+use Rattle.protocol.proofs.Examples.Table.{value, digits, messagesAre, versionsAre, entryIs}
+use Rattle.protocol.proofs.Examples.Begin.{sizes, entry, version, firstPart, secondPart}
+
+-- the tables after these calls, each accepted
+unfoldable pub done : Tables → List Call → Tables
+unfolding effect delivered joined greatestIn choice stored found touches mentions unused hasFirst
+    every all counted without dropped has upto insert remove setOf onesIn bigEndian numberAt
+done t [] = t
+done t (c ∷ cs) = done (effect t c) cs
+
+-- the digits of what client d's last transaction shows
+unfoldable pub shows : Tables → ℕ → String
+unfolding listed readBytes writeBytes frame has upto onesIn bigEndian digits
+shows t d = digits (frame d (t .client d .last))
+
+unfoldable pub ranged : Tables → Bool
+unfolding inRange sizesInRange stampInRange entryInRange versionInRange messageInRange isKind
+    endedInRange clientInRange hasFirst readPartInRange writePartInRange every all has
+ranged t = inRange t
+
+-- ---- Lines 1, 32 and 63, of cabinets 1, 2 and 0
+
+abbrev three : ℕ
+three = 2 ^ 1 + 2 ^ 32 + 2 ^ 63
+
+-- Desk 1 has written them, and its commit of line 32 has come, the other two are in flight; the
+-- first replies of desk 2's fast read come in descending order.
+abbrev firstOver : Tables
+firstOver =
+    done (fresh (sizes 2 3 64))
+    (startWrite 1 three (value 5 ++ value 6 ++ value 7) ∷ deliver 0 ∷ deliver 0 ∷ deliver 0
+    ∷ deliver 0 ∷ deliver 0 ∷ deliver 0 ∷ deliver 2 ∷ startFastRead 2 three
+    ∷ deliver 2 ∷ deliver 2 ∷ deliver 2 ∷ deliver 4 ∷ deliver 3 ∷ deliver 2 ∷ [])
+
+-- Line 32's first reply has entered the view, and has lines 1 and 63 fetched again.
+abbrev farSibling : Bool
+farSibling =
+    messagesAre (firstOver .messages)
+    ((3 ∷ 0 ∷ 1 ∷ 1 ∷ []) ∷ (3 ∷ 1 ∷ 1 ∷ 1 ∷ []) ∷ (4 ∷ 2 ∷ 1 ∷ 1 ∷ 1 ∷ [])
+    ∷ (4 ∷ 2 ∷ 63 ∷ 1 ∷ 1 ∷ []) ∷ [])
+    && entryIs (firstOver .view 2 32) 1 1 three
+
+-- The read ends with their gots, and shows the write whole.
+abbrev ended : Tables
+ended = done firstOver (deliver 3 ∷ deliver 2 ∷ deliver 2 ∷ deliver 2 ∷ [])
+
+abbrev farShown : Bool
+farShown = eqt (shows ended 2)
+    "23028000000100000002000000010100000005000000010100000006000000010100000007"
+
+-- Then the commit of line 63 comes too, and of lines 1 and 63 its first reply has line 1 fetched
+-- again.
+abbrev farLast : Bool
+farLast =
+    let first = done ended (deliver 0 ∷ startFastRead 2 (2 ^ 1 + 2 ^ 63) ∷ deliver 1 ∷ deliver 1
+    ∷ deliver 1 ∷ deliver 1 ∷ []) in
+    messagesAre (first .messages) ((3 ∷ 1 ∷ 1 ∷ 1 ∷ []) ∷ (4 ∷ 2 ∷ 1 ∷ 1 ∷ 1 ∷ []) ∷ [])
+    && eqt (shows (done first (deliver 1 ∷ deliver 1 ∷ [])) 2)
+    "23028000000000000002000000010100000005000000010100000007"
+
+-- ---- What is kept
+
+-- line 32's first reply is of number 1, line 63's of number 2
+abbrev keeping : Client → Tables
+keeping c =
+    withVersions (withClient (fresh (sizes 2 3 64)) 2 c)
+    (version 32 6 1 1 (2 ^ 32) ∷ version 63 7 2 1 (2 ^ 63) ∷ version 63 8 4 1 (2 ^ 63) ∷ [])
+
+abbrev come : ℕ → Entry
+come = put (put (λ k. initial) 32 (entry 1 1 (2 ^ 32))) 63 (entry 2 1 (2 ^ 63))
+
+-- Both are spared, in either part, line 63's also where it is fetched again.
+abbrev farSpared : Bool
+farSpared =
+    all (λ c. versionsAre (done (keeping c) (clear ∷ []) .versions)
+    ((32 ∷ 6 ∷ 1 ∷ 1 ∷ 2 ^ 32 ∷ []) ∷ (63 ∷ 7 ∷ 2 ∷ 1 ∷ 2 ^ 63 ∷ []) ∷ []))
+    (firstPart three (2 ^ 1) come 7 ∷ secondPart three (2 ^ 63) (λ k. stampOf 4 1) come 7 ∷ [])
+
+-- And both have to be in range, in the first part once they have come.
+abbrev farRange : Bool
+farRange =
+    let wrong : ℕ → ℕ → Entry = λ k. put (λ j. initial) k (entry 1 3 0) in
+    ranged (keeping (firstPart three three (wrong 63) 7))
+    && all (λ k. not (ranged (keeping (firstPart three (2 ^ 1) (wrong k) 7)))
+    && not (ranged (keeping (secondPart three (2 ^ 63) (λ j. 0) (wrong k) 7))))
+    (32 ∷ 63 ∷ [])
+
+abbrev pub far : List Bool
+far = farSibling ∷ farShown ∷ farLast ∷ farSpared ∷ farRange ∷ []

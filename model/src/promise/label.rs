@@ -1,0 +1,45 @@
+//! What is known of a message without the store's tables.
+
+use crate::stamp::{Entry, Stamp};
+
+/// The kinds of message, with their numbers.
+#[derive(Clone, Copy, Debug, PartialEq, Eq)]
+pub(super) enum Kind {
+    Prepare = 1,
+    Prepared = 2,
+    Commit = 3,
+    Get = 4,
+    Got = 5,
+    FirstGet = 6,
+    FirstReply = 7,
+}
+
+/// What is known of a message.
+#[derive(Clone, Copy, Debug)]
+pub(super) struct Label {
+    pub(super) kind: Kind,
+    pub(super) client: u64,
+    /// The item; of a commit the partition.
+    pub(super) item: u64,
+    /// The transaction whose start it goes back to, by its place among them.
+    pub(super) transaction: usize,
+    /// Of a got or first reply, the event that delivered the get behind it.
+    pub(super) answered: usize,
+    /// Of a got or first reply, its item's latest committed write at that event.
+    pub(super) latest: Entry,
+    /// Of a get or reply of a fast read, the stamp asked for or brought. What an ordinary read asks
+    /// for is in its client's view alone.
+    pub(super) stamp: Option<Stamp>,
+}
+
+impl Label {
+    /// It is a request of a read: a get of either kind.
+    pub(super) fn is_request(&self) -> bool {
+        [Kind::Get, Kind::FirstGet].contains(&self.kind)
+    }
+
+    /// It is a reply to a read: a got or a first reply.
+    pub(super) fn is_reply(&self) -> bool {
+        [Kind::Got, Kind::FirstReply].contains(&self.kind)
+    }
+}

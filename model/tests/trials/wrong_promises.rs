@@ -1,0 +1,105 @@
+//! Wrong stores caught by condition 3's promises alone: by calls, answers and outputs, without the
+//! model's tables beside them.
+
+use koolvent_model::block::Modelled;
+use koolvent_model::promise::Clause;
+use koolvent_model::runs::Sort;
+use koolvent_model::store::fault::Fault;
+use koolvent_model::trials::promises::broken;
+use std::mem::discriminant;
+use std::ops::Range;
+
+/// The clauses that runs on the store break, of each run the first.
+fn broken_by(store: Modelled) -> Vec<Clause> {
+    let small = broken(&store, Sort::Small, 0..150);
+    [small, broken(&store, Sort::AnySize, 0..20)].concat()
+}
+
+/// Runs on the store with the fault break each of these clauses, of whatever item and client.
+fn breaks(fault: Fault, clauses: &[Clause]) {
+    are_among(&broken_by(Modelled { fault: Some(fault) }), fault, clauses);
+}
+
+/// So do these runs, where those that all stores have hardly come to it.
+fn breaks_in(sort: Sort, seeds: Range<u64>, fault: Fault, clauses: &[Clause]) {
+    are_among(&broken(&Modelled { fault: Some(fault) }, sort, seeds), fault, clauses);
+}
+
+fn are_among(found: &[Clause], fault: Fault, clauses: &[Clause]) {
+    for clause in clauses {
+        let is_found = found.iter().any(|broken| discriminant(broken) == discriminant(clause));
+        assert!(is_found, "{fault:?}: {clause:?} is not among {found:?}");
+    }
+}
+
+const BOUNDED: Clause = Clause::Bounded { client: 0, item: 0 };
+const TWO_ROUNDS: Clause = Clause::TwoRounds { client: 0 };
+const COMMITTED_MISSED: Clause = Clause::CommittedMissed { item: 0 };
+const STALE: Clause = Clause::Stale { item: 0 };
+const NOT_BROUGHT: Clause = Clause::NotBrought { item: 0 };
+const FRACTURED: Clause = Clause::Fractured { item: 0, older: 0 };
+const WENT_BACK: Clause = Clause::WentBack { item: 0 };
+
+#[test]
+fn the_model_breaks_no_clause() {
+    assert_eq!(broken_by(Modelled::default()), []);
+}
+
+#[test]
+fn first_gets_answered_with_another_version_than_the_latest_are_found() {
+    breaks(Fault::InitialFirst, &[COMMITTED_MISSED, STALE]);
+    breaks(Fault::OlderFirst, &[COMMITTED_MISSED, STALE]);
+    breaks(Fault::FirstFromTheView, &[COMMITTED_MISSED, STALE, NOT_BROUGHT]);
+    breaks(Fault::NewestFirst, &[NOT_BROUGHT]);
+    breaks(Fault::LateCommit, &[COMMITTED_MISSED, STALE]);
+}
+
+#[test]
+fn items_fetched_too_often_are_found() {
+    breaks(Fault::LatestFetchedToo, &[Clause::Length, Clause::ReadEnd]);
+    breaks(Fault::EveryItemAgain, &[Clause::Length, Clause::ReadEnd]);
+    breaks(Fault::OutsideTheSetAgain, &[Clause::Length, Clause::ReadEnd]);
+    breaks(Fault::FastReaderStarts, &[BOUNDED]);
+    breaks_in(Sort::Small, 0..1000, Fault::FastReaderReads, &[BOUNDED, TWO_ROUNDS]);
+}
+
+/// With the last first reply fewer messages lie there than the items fetched again ask for.
+#[test]
+fn second_gets_sent_one_after_another_are_found() {
+    breaks(Fault::SecondGetsInTurn, &[Clause::Length]);
+}
+
+#[test]
+fn second_parts_with_other_items_or_stamps_are_found() {
+    breaks(Fault::SiblingsOfTheView, &[Clause::ReadEnd]);
+    breaks(Fault::SecondStampsOfTheView, &[FRACTURED, NOT_BROUGHT]);
+    breaks(Fault::OwnLatestAgain, &[FRACTURED]);
+    breaks(Fault::EndsWithTheFirstPart, &[Clause::ReadEnd]);
+}
+
+#[test]
+fn fast_reads_shown_or_remembered_wrongly_are_found() {
+    breaks(Fault::FastIsOrdinary, &[Clause::Kind]);
+    breaks(Fault::FirstReplyByStamp, &[Clause::DeliveryWithinTheList]);
+    breaks(Fault::FirstReplyShown, &[FRACTURED]);
+    breaks_in(Sort::Crowded, 0..6, Fault::OlderReplyShown, &[NOT_BROUGHT]);
+    breaks(Fault::ShownAsOrdinary, &[Clause::Frame]);
+    breaks(Fault::FirstRepliesUnseen, &[WENT_BACK, Clause::OlderThanShown]);
+}
+
+/// Which message of a client lies where, what is spared, and what only damaged blocks hold shows in
+/// tables alone; so does a start that is refused for want of room.
+#[test]
+fn what_shows_in_tables_or_refusals_alone_breaks_no_clause() {
+    for fault in [
+        Fault::SecondGetsDescending,
+        Fault::SecondGetsByReply,
+        Fault::SecondGotsKept,
+        Fault::LatestsSetKept,
+        Fault::ThirdPart,
+        Fault::FirstsInTheSecondLoad,
+        Fault::FirstsSparedUnlessAwaited,
+    ] {
+        assert_eq!(broken_by(Modelled { fault: Some(fault) }), [], "{fault:?}");
+    }
+}
