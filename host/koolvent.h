@@ -208,12 +208,13 @@ uint64_t koolvent_deliver(uint64_t *block, size_t words, uint64_t place);
  * they are. Refused by 1, 3, 4, 13 and 14. */
 uint64_t koolvent_show(const uint64_t *block, size_t words, uint64_t client, uint8_t *output, size_t room);
 
-/* Takes away exactly those stored versions whose write, by number and client, no client has as the latest that it wrote
- * of any item, learnt by a reply for it or took over, no item has as its latest committed, no message in flight names,
- * which isn't under way, and of which no fast read under way has had a first reply. The others stay, in their order,
- * and the places freed serve the next writes. It may be called at any time: every read still ends after its own
- * replies, unfractured, no delivery is refused for it, and what a client ended last can still be shown. Refused by 1
- * alone. It takes some 44,000 bytes of stack. */
+/* Takes away exactly those stored versions whose write nothing names any more, by number and client. A write is named
+ * by a client that has it as the latest that it wrote of an item, learnt by a reply for the item, or took over. It is
+ * named by an item that has it as its latest committed, and by a message in flight. It is named while it is under way
+ * itself, and by a fast read under way that has had a first reply of it. Other versions stay, in their order, and the
+ * places freed serve the next writes. It may be called at any time: every read still ends after its own replies,
+ * unfractured, no delivery is refused for it, and what a client ended last can still be shown. Refused by 1 alone. It
+ * takes some 44,000 bytes of stack. */
 uint64_t koolvent_clear(uint64_t *block, size_t words);
 
 /* The receiver takes over what the giver has seen, as at a change of shift: of each item it has from then on the later
