@@ -10,10 +10,10 @@
  * must never be seen apart, while the afternoon client reads on, the second time fast. When all has arrived both read
  * again, and have the same sheet. At the change of shift the morning client notes the minutes done and hands over: the
  * afternoon client, which was behind, reads them at once, whatever of them is still in flight, and the log has a line
- * on it for the judge. Then the afternoon client, which has written nothing so far, corrects the curve that it has
- * read: its one write is later than all of the morning client's, and is what it reads from then on, and the morning
- * client once it has learnt of it. By then nobody knows of the first correction any more: it is cleared away, and both
- * read the sheet as it was.
+ * on it for the judge. Then the afternoon client, which has written nothing so far, corrects the curve in one
+ * transaction that also reads the old sheet: its one write is later than all of the morning client's, and is what it
+ * reads from then on, and the morning client once it has learnt of it. By then nobody knows of the first correction any
+ * more: it is cleared away, and both read the sheet as it was.
  */
 #include <inttypes.h>
 #include <stdio.h>
@@ -34,12 +34,12 @@ static const char *const kind_names[] = {"",    "prepare",   "prepared reply", "
 #define WHOLE_SHEET (SET(ITEMS) - 1)
 
 /* A transaction to come: a write with a value for each item of its set, ascending, or a read where there are none,
- * which may be fast. */
+ * which may be fast. A mixed one also reads the whole sheet beside its write. */
 struct plan {
     uint64_t set;
     uint32_t values[ITEMS];
     size_t value_count;
-    int fast;
+    enum { PLAIN, FAST, MIXED } manner;
 };
 
 /* What a client has still to do, one after another. */
@@ -110,7 +110,10 @@ static void say_start(const struct shift *shift, unsigned client, const struct p
 {
     size_t place = 0;
     printf("%s starts to %s", client_names[client],
-           plan->value_count > 0 ? "write" : plan->fast ? "read the sheet fast" : "read the sheet");
+           plan->manner == MIXED   ? "read the sheet and write"
+           : plan->value_count > 0 ? "write"
+           : plan->manner == FAST  ? "read the sheet fast"
+                                   : "read the sheet");
     for (unsigned item = 0; item < ITEMS && plan->value_count > 0; item++)
         if (plan->set & SET(item)) {
             printf("%s %s %" PRIu32, place > 0 ? "," : "", item_names[item], plan->values[place]);
@@ -130,6 +133,12 @@ static void say_sheet(const struct shift *shift, unsigned client)
         else
             printf("write number %" PRIu32 ", of %s\n", entry->number, client_names[entry->client]);
     }
+}
+
+static void say_written(const struct shift *shift, unsigned client, uint32_t number)
+{
+    if (shift->aloud)
+        printf("%s has written, with number %" PRIu32 "\n", client_names[client], number);
 }
 
 /* ---- The shift ---- */
@@ -156,10 +165,13 @@ static void start(struct shift *shift, unsigned client)
 
     for (size_t i = 0; i < plan->value_count; i++)
         koolvent_put_value(values + i * KOOLVENT_VALUE_BYTES, plan->values[i]);
-    if (plan->value_count > 0)
+    if (plan->manner == MIXED)
+        answer = koolvent_start_mixed(shift->block, KOOLVENT_WORDS, client, WHOLE_SHEET, plan->set, values,
+                                      plan->value_count * KOOLVENT_VALUE_BYTES);
+    else if (plan->value_count > 0)
         answer = koolvent_start_write(shift->block, KOOLVENT_WORDS, client, plan->set, values,
                                       plan->value_count * KOOLVENT_VALUE_BYTES);
-    else if (plan->fast)
+    else if (plan->manner == FAST)
         answer = koolvent_start_fast_read(shift->block, KOOLVENT_WORDS, client, plan->set);
     else
         answer = koolvent_start_read(shift->block, KOOLVENT_WORDS, client, plan->set);
@@ -210,10 +222,12 @@ static void show_ended(struct shift *shift, unsigned client)
         return;
     add_to_log(shift, frame, koolvent_shown_bytes(accepted(answer, "a showing")));
     shift->clients[client].busy = 0;
-    if (frame[0] == KOOLVENT_READ_FRAME || frame[0] == KOOLVENT_FAST_READ_FRAME)
+    if (frame[0] != KOOLVENT_WRITE_FRAME)
         keep_sheet(shift, client, frame);
-    else if (shift->aloud)
-        printf("%s has written, with number %" PRIu32 "\n", client_names[client], koolvent_frame_number(frame));
+    if (frame[0] == KOOLVENT_WRITE_FRAME)
+        say_written(shift, client, koolvent_frame_number(frame));
+    if (frame[0] == KOOLVENT_MIXED_FRAME)
+        say_written(shift, client, koolvent_frame_number(koolvent_frame_write_part(frame)));
 }
 
 static void deliver(struct shift *shift, size_t place)
@@ -330,14 +344,14 @@ static void compare_sheets(const struct shift *shift, unsigned writer)
 
 static void play(struct shift *shift, uint64_t seed, int aloud)
 {
-    static const struct plan fill_in = {WHOLE_SHEET, {190, 70, 320, 12}, ITEMS, 0};
-    static const struct plan correct = {SET(SPEED) | SET(CURVE), {381, 35}, 2, 0};
-    static const struct plan note_minutes = {SET(MINUTES), {47}, 1, 0};
-    static const struct plan correct_again = {SET(SPEED) | SET(CURVE), {381, 18}, 2, 0};
-    static const struct plan fast_read = {WHOLE_SHEET, {0}, 0, 1};
-    static const struct plan reads[2] = {{WHOLE_SHEET, {0}, 0, 0}, {WHOLE_SHEET, {0}, 0, 0}};
+    static const struct plan fill_in = {WHOLE_SHEET, {190, 70, 320, 12}, ITEMS, PLAIN};
+    static const struct plan correct = {SET(SPEED) | SET(CURVE), {381, 35}, 2, PLAIN};
+    static const struct plan note_minutes = {SET(MINUTES), {47}, 1, PLAIN};
+    static const struct plan correct_again = {SET(SPEED) | SET(CURVE), {381, 18}, 2, MIXED};
+    static const struct plan fast_read = {WHOLE_SHEET, {0}, 0, FAST};
+    static const struct plan reads[2] = {{WHOLE_SHEET, {0}, 0, PLAIN}, {WHOLE_SHEET, {0}, 0, PLAIN}};
     static const struct plan racing_reads[3] = {
-        {WHOLE_SHEET, {0}, 0, 0}, {WHOLE_SHEET, {0}, 0, 1}, {WHOLE_SHEET, {0}, 0, 0}};
+        {WHOLE_SHEET, {0}, 0, PLAIN}, {WHOLE_SHEET, {0}, 0, FAST}, {WHOLE_SHEET, {0}, 0, PLAIN}};
 
     memset(shift, 0, sizeof *shift);
     shift->random = seed;
@@ -374,9 +388,11 @@ static void play(struct shift *shift, uint64_t seed, int aloud)
     run(shift);
     if (shift->clients[AFTERNOON].sheet[MINUTES].value != note_minutes.values[0])
         fail("what was taken over is not read");
-    part(shift, "the afternoon client, which has written nothing so far, corrects the curve that it has read");
+    part(shift, "the afternoon client, which has written nothing so far, reads the sheet and corrects it in one");
     plan(shift, AFTERNOON, &correct_again, 1);
     run(shift);
+    if (shift->clients[AFTERNOON].sheet[CURVE].value != correct.values[1])
+        fail("a correction does not show what it corrects");
     part(shift, "its next read shows the correction, and so does the morning client's, once it has learnt of it");
     plan(shift, MORNING, reads, 2);
     plan(shift, AFTERNOON, reads, 1);

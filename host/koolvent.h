@@ -16,6 +16,10 @@
  * read started. It may miss any other write, also where its client wrote that or an earlier read of its client showed
  * it. No ordinary read that starts after a fast read of its client shows an item older than the fast read did.
  *
+ * A mixed transaction reads one set of items and writes another in one, as a correction does that follows the old
+ * entries. What it reads is what a read started then would show, also of items that it writes itself. Its write is one
+ * like any other. It ends with the last reply, after one for each item read and one for each item written.
+ *
  * The host owns all memory and moves all messages. It lends a block of words to each call, and the store keeps
  * everything there: nothing is allocated, no thread is started, no clock is read, nothing is kept elsewhere.
  *
@@ -29,10 +33,11 @@
  *         answer = koolvent_deliver(block, KOOLVENT_WORDS, 0);        any message in flight, in any order
  *     answer = koolvent_show(block, KOOLVENT_WORDS, 1, frame, sizeof frame);
  *
- * A start puts messages in flight, one for each item, by ascending item; a delivery takes one out, does what it says,
- * and may put others in flight. They are numbered 0, 1, .. by their place: the one delivered is taken out, those after
- * it move up by one, and new ones join at the end. On a block that only the calls have written since a fresh start, a
- * delivery at any place below the number in flight is accepted. example.c plays a whole session.
+ * A start puts messages in flight, one for each item, by ascending item. Those of a mixed transaction are first for
+ * the items read and then for the items written. A delivery takes one out, does what it says, and may put others in
+ * flight. They are numbered 0, 1, .. by their place: the one delivered is taken out, those after it move up by one,
+ * and new ones join at the end. On a block that only the calls have written since a fresh start, a delivery at any
+ * place below the number in flight is accepted. example.c plays a whole session.
  *
  * What is proved. Each call's answer, and every word and byte that was lent as the call leaves it, are fixed by what
  * it was given, for all numbers, lengths and contents of the block, damaged ones included; a refused call changes
@@ -45,7 +50,7 @@
  *   - a length is no more than what is there: words for a block, bytes for the others;
  *   - no pointer is null, even where the length is 0;
  *   - block, values and output do not overlap;
- *   - there is stack enough: some 44,000 bytes for koolvent_clear, 24,000 for koolvent_judge, 1,200 for any other call;
+ *   - there is stack enough: some 44,000 bytes for koolvent_clear, 28,000 for koolvent_judge, 1,400 for any other call;
  *   - one caller at a time: while a call runs, nobody else reads or writes what was lent to it. Two threads may work on
  *     two blocks, and on the judge beside them: nothing is shared;
  *   - between calls the host leaves the block's words as they are. It may copy them: a copy of all KOOLVENT_WORDS
@@ -75,13 +80,14 @@ extern "C" {
 #define KOOLVENT_MOST_PARTITIONS 8
 #define KOOLVENT_MOST_ITEMS 64
 
-/* The most items of a write; a read may be of all. A block in which an older store left wider writes stays valid. */
+/* The most items of a write, alone or of a mixed transaction; a read may be of all. A block in which an older store
+ * left wider writes stays valid. */
 #define KOOLVENT_MOST_WRITE_ITEMS 12
 
-/* The greatest load: messages in flight (the pile), for each write under way the items whose prepared reply has come,
- * and for each fast read that still awaits a first reply the items whose first reply has. And the most stored versions,
- * prepares in flight counted with them: koolvent_clear takes away those that nothing names any more, and but for
- * koolvent_fresh nothing else takes one away. */
+/* The greatest load: messages in flight (the pile), and replies that have come. For each write or mixed transaction
+ * under way these are the items whose prepared reply has come. For each fast read that still awaits a first reply they
+ * are the items whose first reply has. And the most stored versions, prepares in flight counted with them.
+ * koolvent_clear takes away those that nothing names any more. But for koolvent_fresh nothing else takes one away. */
 #define KOOLVENT_MOST_LOAD 128
 #define KOOLVENT_MOST_VERSIONS 512
 
@@ -101,6 +107,9 @@ extern "C" {
  *                   (4), the client that wrote it (1), and the value (4); all three are 0 where nobody's write is shown
  *     a hand-over   kind 22 (1 byte), giver (1), receiver (1)
  *     a fast read   kind 23, and then as a read
+ *     a mixed transaction
+ *                   kind 24 (1 byte), client (1), then as a read from its set on, of the items read, and after that
+ *                   as a write from its set on, of the items written
  *
  * A log is a text: each frame as lowercase hexadecimal digits, two a byte, and then the byte 0a. Its lines are in the
  * order in which transactions ended and hand-overs were made: what the receiver has ended before a hand-over is logged
@@ -109,13 +118,16 @@ extern "C" {
 #define KOOLVENT_READ_FRAME 0x21
 #define KOOLVENT_HAND_OVER_FRAME 0x22
 #define KOOLVENT_FAST_READ_FRAME 0x23
+#define KOOLVENT_MIXED_FRAME 0x24
 
-/* The bytes of a frame of so many items (a fast read's has those of a read's), those of a hand-over's, and room enough
- * for any frame. */
+/* The bytes of a frame of so many items (a fast read's has those of a read's; a mixed transaction's goes by the items
+ * read and those written), those of a hand-over's, and room enough for any frame. The store's own calls fill at most
+ * 646 bytes of that; only a block that they did not make may need it all. */
 #define KOOLVENT_WRITE_FRAME_BYTES(items) (14 + 4 * (items))
 #define KOOLVENT_READ_FRAME_BYTES(items) (10 + 9 * (items))
 #define KOOLVENT_HAND_OVER_FRAME_BYTES 3
-#define KOOLVENT_FRAME_ROOM 586
+#define KOOLVENT_MIXED_FRAME_BYTES(read, written) (22 + 9 * (read) + 4 * (written))
+#define KOOLVENT_FRAME_ROOM 854
 
 /* ---- Refusals: the lowest byte of an answer; 0 is accepted ---- */
 
@@ -131,19 +143,20 @@ enum koolvent_refusal {
     KOOLVENT_REFUSED_CLIENT = 3,
     /* A start, or koolvent_show: the client has a transaction under way. koolvent_hand_over: either client has. */
     KOOLVENT_REFUSED_BUSY = 4,
-    /* A start: the set is empty, or holds an item that does not exist. */
+    /* A start: the set is empty, or holds an item that does not exist; of a mixed transaction either set. */
     KOOLVENT_REFUSED_SET = 5,
-    /* koolvent_start_write: there are not 4 value bytes for each item of the set. */
+    /* koolvent_start_write, koolvent_start_mixed: there are not 4 value bytes for each item written. */
     KOOLVENT_REFUSED_VALUES = 6,
-    /* koolvent_start_write: the client has written, or knows of, a write with the number 4,294,967,295. */
+    /* koolvent_start_write, koolvent_start_mixed: the client has written, or knows of, a write with the number
+     * 4,294,967,295. */
     KOOLVENT_REFUSED_COUNT = 7,
     /* A start: the load would exceed KOOLVENT_MOST_LOAD. Deliver, and try again. */
     KOOLVENT_REFUSED_LOAD = 8,
-    /* koolvent_start_write: versions would exceed KOOLVENT_MOST_VERSIONS. Clear old ones away with koolvent_clear, and
-     * try again. If that frees too few, the others are in use: deliver what is in flight and let every client read all
-     * items, so that each learns of later writes, and clear again. What they have learnt stays, and if that is too
-     * much, copy the sheet to a fresh block, in several writes if it has more than KOOLVENT_MOST_WRITE_ITEMS items:
-     * reads between them show it in part. Reads go on meanwhile. */
+    /* koolvent_start_write, koolvent_start_mixed: versions would exceed KOOLVENT_MOST_VERSIONS. Clear old ones away
+     * with koolvent_clear, and try again. If that frees too few, the others are in use: deliver what is in flight and
+     * let every client read all items, so that each learns of later writes, and clear again. What they have learnt
+     * stays. If that is too much, copy the sheet to a fresh block, in several writes if it has more than
+     * KOOLVENT_MOST_WRITE_ITEMS items: reads between them show it in part. Reads go on meanwhile. */
     KOOLVENT_REFUSED_VERSIONS = 9,
     /* koolvent_deliver: no message lies at that place. */
     KOOLVENT_REFUSED_PLACE = 10,
@@ -161,7 +174,7 @@ enum koolvent_refusal {
     KOOLVENT_REFUSED_MALFORMED = 15,
     /* koolvent_judge: the log is longer than the judge takes. */
     KOOLVENT_REFUSED_LOG_TOO_LONG = 16,
-    /* koolvent_start_write: the set has more than KOOLVENT_MOST_WRITE_ITEMS items. */
+    /* koolvent_start_write, koolvent_start_mixed: more than KOOLVENT_MOST_WRITE_ITEMS items would be written. */
     KOOLVENT_REFUSED_WRITE_TOO_WIDE = 17,
     /* koolvent_hand_over: giver and receiver are one client. */
     KOOLVENT_REFUSED_SAME_CLIENT = 18
@@ -177,8 +190,8 @@ static inline unsigned koolvent_refusal(uint64_t answer)
 /* ---- The calls on a block ----
  *
  * A set holds item k as the bit worth 2 to the power k. Of several refusals that apply to a call the lowest is given,
- * but for koolvent_fresh, where 2 goes before 1, koolvent_start_write, where 17 goes between 6 and 7, and
- * koolvent_hand_over, where 18 goes between 3 and 4. */
+ * but for koolvent_fresh, where 2 goes before 1, koolvent_start_write and koolvent_start_mixed, where 17 goes between 6
+ * and 7, and koolvent_hand_over, where 18 goes between 3 and 4. */
 
 /* Makes a store of so many clients, partitions and items, nothing written, every value 0. What the block held is lost;
  * it may hold anything. Refused by 1 and 2. */
@@ -200,6 +213,14 @@ uint64_t koolvent_start_fast_read(uint64_t *block, size_t words, uint64_t client
  * by 1, 3 to 9 and 17. */
 uint64_t koolvent_start_write(uint64_t *block, size_t words, uint64_t client, uint64_t set, const uint8_t *values,
                               size_t value_bytes);
+
+/* Starts a mixed transaction, which reads the items of one set and writes those of another, with values as of a write.
+ * The sets may share items; of such an item it shows what was there before. It asks for what a read would ask for, and
+ * its number is a write's. When its last reply has come, of either kind, it has ended as a write: its client knows of
+ * it from then on, and its commits are in flight. An item in both sets counts twice in the load. Refused by 1, 3 to 9
+ * and 17. */
+uint64_t koolvent_start_mixed(uint64_t *block, size_t words, uint64_t client, uint64_t read_set, uint64_t write_set,
+                              const uint8_t *values, size_t value_bytes);
 
 /* Delivers the message at a place, from 0. Refused by 1, 10, 11 and 12. */
 uint64_t koolvent_deliver(uint64_t *block, size_t words, uint64_t place);
@@ -250,8 +271,9 @@ enum koolvent_kind {
     KOOLVENT_FIRST_REPLY = 7
 };
 
-/* What a delivery ended, a fast read being a read. The answer does not name the client: of those with a transaction
- * under way it is the one to whom koolvent_show is no longer refused by KOOLVENT_REFUSED_BUSY. */
+/* What a delivery ended, a fast read being a read, and a mixed transaction a write, also where a got ends it. The
+ * answer does not name the client: of those with a transaction under way it is the one to whom koolvent_show is no
+ * longer refused by KOOLVENT_REFUSED_BUSY. */
 enum koolvent_outcome {
     KOOLVENT_NONE_ENDED = 0,
     KOOLVENT_READ_ENDED = 1,
@@ -326,8 +348,9 @@ enum koolvent_finding {
 };
 
 /* Judges a log, whoever wrote it: the first read at fault, and there the lowest of the findings above. Refused by 15
- * and 16, the latter tested first. It takes some 24,000 bytes of stack; the calls on a block, but for koolvent_clear,
- * take less than 1,200, of which 512 are a stamp for each item when a read starts or a fast read's first part ends. */
+ * and 16, the latter tested first. It takes some 28,000 bytes of stack; the calls on a block, but for koolvent_clear,
+ * take less than 1,400, of which 512 are a stamp for each item when a read or a mixed transaction starts or a fast
+ * read's first part ends. */
 uint64_t koolvent_judge(const uint8_t *log, size_t length);
 
 /* After an accepted judging: an enum koolvent_finding. */
@@ -373,6 +396,22 @@ static inline uint64_t koolvent_frame_set(const uint8_t *frame)
     return (uint64_t)koolvent_number(frame + 2) << 32 | koolvent_number(frame + 6);
 }
 
+/* How many items a set holds. */
+static inline unsigned koolvent_set_items(uint64_t set)
+{
+    unsigned items = 0;
+    for (; set != 0; set &= set - 1)
+        items++;
+    return items;
+}
+
+/* The write part of a mixed transaction's frame, to be asked for its set, number and values as a write's frame is. (The
+ * frame itself answers for its read part as a read's frame does.) */
+static inline const uint8_t *koolvent_frame_write_part(const uint8_t *frame)
+{
+    return frame + KOOLVENT_READ_FRAME_BYTES((size_t)koolvent_set_items(koolvent_frame_set(frame))) - 2;
+}
+
 /* The number of a write's frame, and the value at a place, from 0, among its items. */
 static inline uint32_t koolvent_frame_number(const uint8_t *frame)
 {
@@ -391,7 +430,7 @@ struct koolvent_entry {
     uint32_t value;
 };
 
-/* The entry at a place, from 0, among the items of a read's frame, of a fast one too. */
+/* The entry at a place, from 0, among the items of a read's frame, of a fast one and a mixed transaction's too. */
 static inline struct koolvent_entry koolvent_frame_entry(const uint8_t *frame, unsigned place)
 {
     const uint8_t *bytes = frame + KOOLVENT_READ_FRAME_BYTES((size_t)place);

@@ -13,7 +13,7 @@ ROOT = os.path.dirname(os.path.dirname(os.path.abspath(__file__)))
 # section: its words' title, colour, what repeats, where one unit starts, the unit's words
 SECTIONS = {
     'header': ('Header', '#c9ced6', 'once', [], 'clients|partitions|items|versions stored|messages in flight'),
-    'scalars': ('Clients', '#f3c98b', 'for each client d', ['scalarAt'], 'mode|count|set|awaited|stamp|last kind|last set|last stamp'),
+    'scalars': ('Clients', '#f3c98b', 'for each client d', ['scalarAt'], 'mode|count|set|awaited|stamp|last kind|last set|last stamp|write set|write awaited|last write set'),
     'latest': ('Latest', '#a9d3b4', 'for each item k', ['latestAt'], 'stamp|set'),
     'views': ('Views', '#9cc7e6', 'for each client d, item k', ['viewAt'], 'stamp|set'),
     'asked': ('Asked stamps', '#f0b3a6', 'for each client d, item k', ['itemAt'], 'stamp'),
@@ -25,8 +25,17 @@ SECTIONS = {
     'messages': ('Messages in flight', '#dfd98f', 'for each message i', ['messageAt'], 'kind|client or partition|item|value|stamp|set|latest stamp|latest set'),
 }
 
+# what stands behind the unit's words
+NOTES = {
+    'values': 'of a mixed transaction: the answer in the low 32 bits, the value written in the high 32',
+    'lastValues': 'of a mixed transaction: the answer in the low 32 bits, the value written in the high 32',
+}
+
 WIDTH, MARGIN, ROW, TOP = 1180, 24, 62, 190
 CELL_X, CELL_END = 470, WIDTH - MARGIN
+
+# the width of a letter in a cell, about
+LETTER = 7.8
 
 
 class Layout:
@@ -127,15 +136,18 @@ def row(y, name, layout):
     room = f', +{len(cells)} to +{words - 1} unused' if names and words > len(cells) else ''
     yield text(MARGIN + 236, y + 16, repeat + room, 13)
     yield text(MARGIN + 236, y + 34, formula(base, names, layout), 12, fill='#5b6675')
-    width = (CELL_END - CELL_X) / 8
+    across = max(8, len(cells))
+    width = (CELL_END - CELL_X) / across
+    if name in NOTES:
+        yield text(CELL_X + len(cells) * width + 12, y + 24, NOTES[name], 12, fill='#5b6675')
     if not names:
         cells.append(f'{words - len(cells)} words unused')
     for i, field in enumerate(cells):
         x = CELL_X + i * width
         unused = field.endswith('unused')
-        wide = width * (8 - i if unused else 1)
+        wide = width * (across - i if unused else 1)
         yield box(x, y, wide, 40, '#ffffff' if unused else colour)
-        lines = wrapped(field, round(11 * wide / width))
+        lines = wrapped(field, round(wide / LETTER))
         for j, line in enumerate(lines):
             yield text(x + wide / 2, y + 24 + (j - (len(lines) - 1) / 2) * 14, line, 12, anchor='middle')
         if not unused:

@@ -47,6 +47,11 @@ static uint64_t write_items(uint64_t client, uint64_t set, size_t value_bytes)
     return koolvent_start_write(block, WORDS, client, set, values, value_bytes);
 }
 
+static uint64_t mix_items(uint64_t client, uint64_t read_set, uint64_t write_set, size_t value_bytes)
+{
+    return koolvent_start_mixed(block, WORDS, client, read_set, write_set, values, value_bytes);
+}
+
 static uint64_t deliver(uint64_t place)
 {
     return koolvent_deliver(block, WORDS, place);
@@ -153,6 +158,66 @@ static void fast_reads(void)
     SAME(koolvent_started_messages(fast_read_items(1, first(64))), 64);
     SAME(koolvent_started_messages(fast_read_items(2, first(64))), KOOLVENT_MOST_LOAD);
     SAME(fast_read_items(3, 1), KOOLVENT_REFUSED_LOAD);
+}
+
+/* Client 1 reads item 0 and writes items 0 and 2; a got ends it. Client 2 corrects item 2, and a prepared reply ends
+ * that. */
+static void mixed(void)
+{
+    static const struct {
+        unsigned place, kind, messages, outcome;
+    } mixed[] = {
+        {1, KOOLVENT_PREPARE, 3, KOOLVENT_NONE_ENDED},  {1, KOOLVENT_PREPARE, 3, KOOLVENT_NONE_ENDED},
+        {1, KOOLVENT_PREPARED, 2, KOOLVENT_NONE_ENDED}, {1, KOOLVENT_PREPARED, 1, KOOLVENT_NONE_ENDED},
+        {0, KOOLVENT_GET, 1, KOOLVENT_NONE_ENDED},      {0, KOOLVENT_GOT, 1, KOOLVENT_WRITE_ENDED},
+    };
+
+    fresh(2, 2, 3);
+    koolvent_put_value(values, 7);
+    koolvent_put_value(values + 4, 8);
+    SAME(koolvent_started_messages(mix_items(1, 1, 5, 8)), 3);
+    SAME(mix_items(1, 1, 1, 4), KOOLVENT_REFUSED_BUSY);
+    SAME(show(1, ROOM), KOOLVENT_REFUSED_BUSY);
+    for (size_t i = 0; i < sizeof mixed / sizeof *mixed; i++) {
+        uint64_t answer = deliver(mixed[i].place);
+        SAME(koolvent_delivered_kind(answer), mixed[i].kind);
+        SAME(koolvent_delivered_messages(answer), mixed[i].messages);
+        SAME(koolvent_delivered_outcome(answer), mixed[i].outcome);
+    }
+    SAME(koolvent_shown_bytes(show(1, ROOM)), KOOLVENT_MIXED_FRAME_BYTES(1, 2));
+    SAME(output[0], KOOLVENT_MIXED_FRAME);
+    SAME(koolvent_frame_set(output), 1);
+    SAME(koolvent_frame_entry(output, 0).number, 0);
+    SAME(koolvent_frame_set(koolvent_frame_write_part(output)), 5);
+    SAME(koolvent_frame_number(koolvent_frame_write_part(output)), 1);
+    SAME(koolvent_frame_value(koolvent_frame_write_part(output), 1), 8);
+    deliver_all();
+
+    read_items(2, 4);
+    deliver_all();
+    mix_items(2, 5, 4, 4);
+    for (unsigned i = 0; i < 2; i++)
+        deliver(0);
+    for (unsigned i = 0; i < 2; i++)
+        SAME(koolvent_delivered_outcome(deliver(1)), KOOLVENT_NONE_ENDED);
+    deliver(0);
+    SAME(koolvent_delivered_outcome(deliver(0)), KOOLVENT_WRITE_ENDED);
+    show(2, ROOM);
+    SAME(koolvent_frame_entry(output, 1).number, 1);
+    SAME(koolvent_frame_entry(output, 1).client, 1);
+    SAME(koolvent_frame_entry(output, 1).value, 8);
+    SAME(koolvent_frame_number(koolvent_frame_write_part(output)), 2);
+
+    SAME(mix_items(3, 1, 1, 4), KOOLVENT_REFUSED_CLIENT);
+    SAME(mix_items(1, 0, 1, 4), KOOLVENT_REFUSED_SET);
+    SAME(mix_items(1, 1, 8, 4), KOOLVENT_REFUSED_SET);
+    SAME(mix_items(1, 3, 1, 8), KOOLVENT_REFUSED_VALUES);
+    SAME(koolvent_start_mixed(block, KOOLVENT_WORDS - 1, 1, 1, 1, values, 4), KOOLVENT_REFUSED_BLOCK);
+    fresh(3, 1, 64);
+    SAME(mix_items(1, 1, first(13), 52), KOOLVENT_REFUSED_WRITE_TOO_WIDE);
+    SAME(koolvent_started_messages(mix_items(1, first(64), first(12), 48)), 76);
+    SAME(mix_items(2, first(41), first(12), 48), KOOLVENT_REFUSED_LOAD);
+    SAME(koolvent_started_messages(mix_items(2, first(40), first(12), 48)), KOOLVENT_MOST_LOAD);
 }
 
 static void sizes(void)
@@ -316,6 +381,7 @@ static void damaged_blocks(void)
 /* Frames of items with other bytes everywhere, and the longest. */
 static void frames(void)
 {
+    enum { LAST_WRITE_SET = 26 };
     const uint64_t set = UINT64_C(0x8040201008040201);
     uint64_t answer;
     size_t room = 0;
@@ -349,10 +415,17 @@ static void frames(void)
 
     read_items(1, first(64));
     deliver_all();
+    SAME(koolvent_shown_bytes(show(1, ROOM)), KOOLVENT_READ_FRAME_BYTES(64));
+    mix_items(1, first(64), first(12), 48);
+    deliver_all();
+    SAME(koolvent_shown_bytes(show(1, ROOM)), KOOLVENT_MIXED_FRAME_BYTES(64, 12));
+
+    /* In range, of all items, though no call leaves it so. The words are those of docs/LAYOUT.md. */
+    block[LAST_WRITE_SET] = first(64);
     while (room < ROOM && show(1, room) == KOOLVENT_REFUSED_ROOM)
         room++;
     SAME(room, KOOLVENT_FRAME_ROOM);
-    SAME(koolvent_shown_bytes(show(1, room)), KOOLVENT_READ_FRAME_BYTES(64));
+    SAME(koolvent_shown_bytes(show(1, room)), KOOLVENT_MIXED_FRAME_BYTES(64, 64));
 }
 
 /* A copy of a block goes on elsewhere, and the first goes on without it. */
@@ -398,6 +471,7 @@ static size_t longest(int byte)
 #define HALF_READ_BY(client) "21" client "0000000000000003000000010100000007000000000000000000\n"
 #define HAND_OVER "220102\n"
 #define INITIAL_READ_BY(client) "21" client "0000000000000001000000000000000000\n"
+#define MIXED_BY_1 "24010000000000000001000000000000000000000000000000000100000001000000a9\n"
 #define INITIAL_FAST_READ_BY(client) "23" client "0000000000000001000000000000000000\n"
 
 static void verdicts(void)
@@ -423,6 +497,11 @@ static void verdicts(void)
     verdict = judge(WRITE_BY_1 INITIAL_FAST_READ_BY("01"));
     SAME(koolvent_refusal(verdict), KOOLVENT_ACCEPTED);
     SAME(koolvent_verdict_finding(verdict), KOOLVENT_CLEAN);
+    verdict = judge(MIXED_BY_1 INITIAL_READ_BY("01"));
+    SAME(koolvent_verdict_finding(verdict), KOOLVENT_OWN_WRITE_MISSED);
+    SAME(koolvent_verdict_line(verdict), 2);
+    SAME(koolvent_verdict_finding(judge(MIXED_BY_1)), KOOLVENT_CLEAN);
+    SAME(strlen(MIXED_BY_1), 2 * KOOLVENT_MIXED_FRAME_BYTES(1, 1) + 1);
     SAME(strlen(HAND_OVER), 2 * KOOLVENT_HAND_OVER_FRAME_BYTES + 1);
     for (int line = 1; line < 256; line++)
         strcat(long_log, INITIAL_READ_BY("02"));
@@ -437,6 +516,7 @@ int main(void)
 {
     session();
     fast_reads();
+    mixed();
     sizes();
     starts();
     hand_overs();

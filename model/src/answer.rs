@@ -6,6 +6,7 @@ use crate::frames::log::LogFrame;
 /// What a delivery reports.
 pub const NONE_ENDED: u64 = 0;
 pub const READ_ENDED: u64 = 1;
+/// A write, or a mixed transaction.
 pub const WRITE_ENDED: u64 = 2;
 
 /// How one view stands to another, by stamps alone.
@@ -71,7 +72,7 @@ impl Answer {
         let answer = match call {
             _ if number & 0xff != 0 => Answer::Refused(number & 0xff),
             Call::Fresh { .. } => Answer::Fresh,
-            Call::Read { .. } | Call::FastRead { .. } | Call::Write { .. } => {
+            Call::Read { .. } | Call::FastRead { .. } | Call::Write { .. } | Call::Mixed { .. } => {
                 Answer::Started { messages: number >> 8 & 0xffff }
             }
             Call::Deliver { .. } => Answer::Delivered {
@@ -91,7 +92,7 @@ impl Answer {
             (Call::HandOver { .. }, refusal) => [0, 1, 3, 4, 18].contains(&refusal),
             (Call::Compare { .. }, 0) => number >> 8 <= NEITHER,
             (Call::Compare { .. }, refusal) => [1, 3].contains(&refusal),
-            (call, 17) => matches!(call, Call::Write { .. }),
+            (call, 17) => matches!(call, Call::Write { .. } | Call::Mixed { .. }),
             (_, refusal) => refusal <= 14,
         };
         (answer.number() == number && is_given).then_some(answer)

@@ -13,6 +13,14 @@ pub trait Calls {
     fn start_read(&self, block: &mut [u64], client: u64, set: u64) -> u64;
     fn start_fast_read(&self, block: &mut [u64], client: u64, set: u64) -> u64;
     fn start_write(&self, block: &mut [u64], client: u64, set: u64, values: &[u8]) -> u64;
+    fn start_mixed(
+        &self,
+        block: &mut [u64],
+        client: u64,
+        read: u64,
+        write: u64,
+        values: &[u8],
+    ) -> u64;
     fn deliver(&self, block: &mut [u64], place: u64) -> u64;
     fn show(&self, block: &[u64], client: u64, output: &mut [u8]) -> u64;
     fn clear(&self, block: &mut [u64]) -> u64;
@@ -29,6 +37,9 @@ pub trait Calls {
             Call::Read { client, set } => self.start_read(block, *client, *set),
             Call::FastRead { client, set } => self.start_fast_read(block, *client, *set),
             Call::Write { client, set, values } => self.start_write(block, *client, *set, values),
+            Call::Mixed { client, read, write, values } => {
+                self.start_mixed(block, *client, *read, *write, values)
+            }
             Call::Deliver { place } => self.deliver(block, *place),
             Call::Show { client, .. } => self.show(block, *client, output),
             Call::Clear => self.clear(block),
@@ -105,6 +116,17 @@ impl Calls for Modelled {
 
     fn start_write(&self, block: &mut [u64], client: u64, set: u64, values: &[u8]) -> u64 {
         self.step(block, None, |store| store.start_write(client, set, values))
+    }
+
+    fn start_mixed(
+        &self,
+        block: &mut [u64],
+        client: u64,
+        read: u64,
+        write: u64,
+        values: &[u8],
+    ) -> u64 {
+        self.step(block, None, |store| store.start_mixed(client, read, write, values))
     }
 
     fn deliver(&self, block: &mut [u64], place: u64) -> u64 {

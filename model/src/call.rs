@@ -25,6 +25,13 @@ pub enum Call {
         set: u64,
         values: Vec<u8>,
     },
+    /// Reads one set and writes another, with the values as of a write.
+    Mixed {
+        client: u64,
+        read: u64,
+        write: u64,
+        values: Vec<u8>,
+    },
     Deliver {
         place: u64,
     },

@@ -17,6 +17,19 @@ pub use sort::Sort;
 
 use crate::stamp::Stamp;
 
+/// The half of a word that a mixed transaction has its answer in, and the half with what it writes.
+const READ_HALF: u64 = u32::MAX as u64;
+const WRITTEN_HALF: u64 = !READ_HALF;
+
+fn halves_word(read: u64, written: u64) -> u64 {
+    written << 32 | read
+}
+
+/// The answer and the value written.
+fn halves_of(word: u64) -> (u64, u64) {
+    (word & READ_HALF, word >> 32)
+}
+
 fn stamp_word(stamp: Stamp) -> u64 {
     stamp.number * 16 + stamp.client
 }

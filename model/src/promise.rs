@@ -2,14 +2,13 @@
 //! and outputs alone.
 //!
 //! The checker runs a list of labels beside the calls, as the steps say which messages join and
-//! leave, and never sees the store's tables. By the labels it knows which numbers each client has
-//! learnt of, and so each write's stamp from its start on, shown or not: every clause goes by whole
-//! stamps. By the commits that were delivered it knows each item's latest write, and so what the
-//! replies to a fast read bring. It keeps no views, and a capacity for its summary alone, so it
-//! doesn't see which of the entries that the clauses allow an ordinary read has to show, nor
-//! whether a start has to be refused. Each clause is one function and one `Clause`. That answers,
-//! outputs and tables are those of the steps and the refusal table is for whoever holds the list
-//! against the model's store.
+//! leave, and never sees the store's tables. By the labels it follows what each client has seen,
+//! its view. So it knows each write's stamp from its start on, shown or not, and which write each
+//! get asks for: every clause goes by whole stamps. By the commits that were delivered it knows each
+//! item's latest write, and so what the replies to a fast read bring. It keeps a capacity for its
+//! summary alone, so it doesn't see whether a start has to be refused. Each clause is one function
+//! and one `Clause`; the three about ends share theirs. That answers, outputs and tables are those
+//! of the steps and the refusal table is for whoever holds the list against the model's store.
 
 mod checker;
 mod clauses;
@@ -18,6 +17,7 @@ mod label;
 mod showings;
 mod summing;
 mod transaction;
+mod view;
 
 use crate::call::Event;
 use checker::Checker;
@@ -53,10 +53,13 @@ pub enum Clause {
     ReadEnd,
     /// A write is reported ended by the delivery of its last prepared reply and no other.
     WriteEnd,
+    /// A mixed transaction that reads n items is reported ended, as a write is, by the delivery
+    /// with which all replies of both kinds are in and no other, after n requests and n replies.
+    MixedEnd,
     /// A showing with room enough after an end and before the client's next start is accepted.
     ShowingAfterAnEnd,
-    /// The frame shown is one of the transaction that ended last, of a write with its number, of a
-    /// fast read with its kind.
+    /// The frame shown is one of the transaction that ended last, of a write with its set, number
+    /// and values, of a fast read with its kind, of a mixed transaction with both parts.
     Frame,
     /// A shown entry is initial or of an accepted write with that stamp, item and value.
     Unwritten { item: u64 },
@@ -68,19 +71,24 @@ pub enum Clause {
     /// No entry of a fast read is older than what was committed last of that item when the first
     /// get behind its first reply was delivered.
     Stale { item: u64 },
-    /// Each entry, an initial one too, is what the last of the read's replies for its item brought.
+    /// Each entry of a fast read, an initial one too, is what the last of its replies for the item
+    /// brought.
     NotBrought { item: u64 },
     /// An entry's write was stored at all its partitions before the get behind the reply that
     /// brought it was delivered.
     AnsweredBeforeStored { item: u64 },
-    /// No entry of an ordinary read is older than a write of that item which the client had ended
-    /// before the read's start, or taken over from another that had ended it or taken it over.
+    /// No entry of an ordinary or mixed read is older than a write of that item which the client
+    /// had ended before the read's start, or taken over from another that had ended it or taken it
+    /// over.
     OwnWriteMissed { item: u64 },
     /// A write is later than every entry that its client was shown before it started.
     OlderThanShown,
-    /// No entry of an ordinary read is older than what a read of the client, ordinary or fast, that
-    /// ended before this one's start showed for that item.
+    /// No entry of an ordinary or mixed read is older than what a read of the client, of any sort,
+    /// that ended before this one's start showed for that item.
     WentBack { item: u64 },
+    /// Each entry of an ordinary or mixed read has the stamp chosen at its start: the latest among
+    /// the client's view entry for the item and all its view entries whose write set contains it.
+    NotChosen { item: u64 },
     /// A clearing is accepted, and no more versions go than are stored.
     Clearing,
     /// A write isn't refused by 9 if it has no more items than are left of the places that a
@@ -135,6 +143,13 @@ pub struct Summary {
     /// Entries that a fast read shows of items whose latest write was committed after its start and
     /// before the item's first get was delivered.
     pub committed_meanwhile: usize,
+    pub mixed_shown: usize,
+    /// Mixed transactions that a got ended.
+    pub ended_by_a_got: usize,
+    /// Entries that a mixed transaction shows of items that it also writes.
+    pub read_and_written: usize,
+    /// Entries shown that a mixed transaction wrote.
+    pub mixed_entries_shown: usize,
 }
 
 /// Whether the events keep every clause of condition 3. The first is an accepted fresh; another

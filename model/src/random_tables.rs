@@ -6,8 +6,8 @@ use crate::set::{has, items};
 use crate::stamp::{Entry, Stamp};
 use crate::store::message::Message;
 use crate::store::tables::{
-    Client, Ended, Sizes, Tables, Version, FAST_READ, FIRST_PART, IDLE, NONE, READ, READING,
-    SECOND_PART, WRITE, WRITING,
+    Client, Ended, Sizes, Tables, Version, FAST_READ, FIRST_PART, IDLE, MIXED, MIXING, NONE, READ,
+    READING, SECOND_PART, WRITE, WRITING,
 };
 
 /// The tables that a seed gives.
@@ -70,9 +70,9 @@ impl Maker {
     }
 
     fn record(&mut self, client: u64) -> Client {
-        let modes =
-            [IDLE, IDLE, IDLE, READING, WRITING, WRITING, FIRST_PART, FIRST_PART, SECOND_PART];
-        let mode = self.random.pick(&modes);
+        let idle = [IDLE; 3];
+        let busy = [READING, WRITING, WRITING, FIRST_PART, FIRST_PART, SECOND_PART, MIXING, MIXING];
+        let mode = self.random.pick(&[&idle[..], &busy].concat());
         let mut one = self.stamp();
         if self.random.percent(70) {
             one = Stamp::new(self.random.between(1, 2), client);
@@ -101,12 +101,40 @@ impl Maker {
         for item in items(record.first_replied()) {
             record.firsts[item as usize] = self.entry();
         }
+        if mode == MIXING {
+            self.mix(&mut record, one);
+        }
         record
+    }
+
+    /// A write part of this stamp joins the read part; either may have all its replies.
+    fn mix(&mut self, record: &mut Client, stamp: Stamp) {
+        let set = self.set() | 1 << self.item();
+        let write = &mut record.write;
+        (write.set, write.stamp) = (set, stamp);
+        for item in items(set) {
+            write.values[item as usize] = self.random.below(5);
+        }
+        match self.random.below(4) {
+            // A reply may be the last.
+            0 => {
+                write.awaited = 0;
+                record.awaited = 1 << record.set.trailing_zeros();
+            }
+            1 => {
+                write.awaited = 1 << set.trailing_zeros();
+                record.awaited = 0;
+            }
+            _ => write.awaited = set & self.random.number(),
+        }
+        if record.awaits_none() {
+            record.awaited = record.set;
+        }
     }
 
     fn ended(&mut self) -> Ended {
         let mut ended =
-            Ended { kind: self.random.pick(&[NONE, READ, WRITE, FAST_READ]), ..Ended::NONE };
+            Ended { kind: self.random.pick(&[NONE, READ, WRITE, FAST_READ, MIXED]), ..Ended::NONE };
         if ended.kind == NONE {
             return ended;
         }
@@ -119,8 +147,14 @@ impl Maker {
                 }
             }
         }
-        if ended.kind == WRITE {
+        if [WRITE, MIXED].contains(&ended.kind) {
             ended.stamp = self.stamp();
+        }
+        if ended.kind == MIXED {
+            ended.write_set = self.set();
+            for item in items(ended.write_set) {
+                ended.write_values[item as usize] = self.random.below(5);
+            }
         }
         ended
     }
@@ -140,10 +174,16 @@ impl Maker {
         }
     }
 
-    /// A prepared reply, mostly one that a writing client awaits.
+    /// A prepared reply, mostly one that a writing client awaits, in a mixed transaction or not.
     fn prepared(&mut self, tables: &Tables) -> Message {
-        let (client, item) = self.awaited(tables, &[WRITING]);
-        let awaited = tables.client(client).stamps[item as usize];
+        let (client, item) = self.awaited(tables, &[WRITING, MIXING], |record| match record.mode {
+            MIXING => record.write.awaited,
+            _ => record.awaited,
+        });
+        let awaited = match tables.client(client) {
+            Client { mode: MIXING, write, .. } => write.stamp,
+            record => record.stamps[item as usize],
+        };
         let stamp = match awaited == Stamp::INITIAL || self.random.once_in(4) {
             true => self.written_stamp(),
             false => awaited,
@@ -154,7 +194,8 @@ impl Maker {
     /// A got, mostly one that a reading client awaits. Its set may lack its item, and the initial
     /// version may have one.
     fn got(&mut self, tables: &Tables) -> Message {
-        let (client, item) = self.awaited(tables, &[READING, SECOND_PART]);
+        let modes = [READING, SECOND_PART, MIXING];
+        let (client, item) = self.awaited(tables, &modes, |record| record.awaited);
         let stamp = tables.client(client).stamps[item as usize];
         let version = Version { item, value: self.random.below(5), stamp, set: self.set() };
         Message::Got { client, version, latest: self.entry() }
@@ -163,7 +204,8 @@ impl Maker {
     /// A first reply, mostly one that a fast read awaits, now and then of any item to that read.
     /// Its latest may be another write's.
     fn first_reply(&mut self, tables: &Tables) -> Message {
-        let (client, awaited) = self.awaited(tables, &[FIRST_PART]);
+        let modes: &[u64] = if self.random.once_in(8) { &[MIXING] } else { &[FIRST_PART] };
+        let (client, awaited) = self.awaited(tables, modes, |record| record.awaited);
         let item = if self.random.once_in(4) { self.item() } else { awaited };
         let Entry { stamp, set } = self.entry();
         let version = Version { item, value: self.random.below(5), stamp, set };
@@ -171,11 +213,16 @@ impl Maker {
     }
 
     /// A client and an item, mostly one that it awaits in one of these modes.
-    fn awaited(&mut self, tables: &Tables, modes: &[u64]) -> (u64, u64) {
+    fn awaited(
+        &mut self,
+        tables: &Tables,
+        modes: &[u64],
+        awaited: fn(&Client) -> u64,
+    ) -> (u64, u64) {
         let (mut client, mut item) = (self.client(), self.item());
         for _ in 0..8 {
             let record = tables.client(client);
-            if modes.contains(&record.mode) && has(record.awaited, item) {
+            if modes.contains(&record.mode) && has(awaited(record), item) {
                 break;
             }
             (client, item) = (self.client(), self.item());

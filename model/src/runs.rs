@@ -5,6 +5,7 @@ mod choices;
 use crate::answer::{Answer, NONE_ENDED};
 use crate::call::{Call, Event};
 use crate::frames::hex::to_hex;
+use crate::frames::log::MOST_BYTES;
 use crate::random::Random;
 use crate::store::tables::{Sizes, Tables};
 use crate::store::Store;
@@ -66,6 +67,8 @@ struct Runner<'a, 'b> {
     hand_overs: u64,
     /// So many reads in a hundred are fast.
     fast_reads: u64,
+    /// So many starts in a hundred are of mixed transactions.
+    mixed: u64,
     log_lines: usize,
     run: Run,
     watch: &'a mut Watch<'b>,
@@ -136,6 +139,7 @@ impl<'a, 'b> Runner<'a, 'b> {
         let clears_when_full = random.percent(50);
         let hand_overs = random.pick(&[0, 1, 5, 15]);
         let fast_reads = random.pick(&[0, 50, 50, 100]);
+        let mixed = random.pick(&[0, 0, 20, 50]);
         Runner {
             random,
             sort,
@@ -145,6 +149,7 @@ impl<'a, 'b> Runner<'a, 'b> {
             clears_when_full,
             hand_overs,
             fast_reads,
+            mixed,
             log_lines: 0,
             run: Run {
                 events: Vec::new(),
@@ -183,6 +188,7 @@ impl<'a, 'b> Runner<'a, 'b> {
         self.call(fresh(false, clients));
         self.call(Call::Read { client: 1, set: 1 });
         self.call(Call::FastRead { client: 1, set: 1 });
+        self.call(Call::Mixed { client: 1, read: 1, write: 1, values: vec![0; 4] });
         self.call(Call::Clear);
         self.call(Call::HandOver { giver: 1, receiver: 2 });
         self.call(Call::Compare { first: 1, second: 1 });
@@ -221,7 +227,7 @@ impl<'a, 'b> Runner<'a, 'b> {
     }
 
     fn show_and_log(&mut self, client: u64) {
-        let room = 586 + self.random.below(20) as usize;
+        let room = MOST_BYTES + self.random.below(20) as usize;
         let output = self.random.bytes(room);
         let Answer::Shown { length } = self.call(Call::Show { client, output }) else {
             panic!("a showing after an end was refused");

@@ -6,6 +6,7 @@ mod fast_read;
 pub mod fault;
 mod hand_over;
 pub mod message;
+mod mixed;
 pub mod range;
 mod refusals;
 mod shown;

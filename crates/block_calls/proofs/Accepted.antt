@@ -17,7 +17,7 @@ use Rattle.encoding.proofs.Encoded.{encodes-tables}
 use Rattle.encoding.proofs.MaskedTables.{masked-tables}
 use Rattle.block_calls.specs.Calls.{refusalOn, answerOn, outputOn, tablesAfter, changed, blockAfter}
 use Rattle.block_calls.proofs.Changed.{encodes-changed}
-use Rattle.block_calls.proofs.Holds.{Holds, tables-are, holds-after}
+use Rattle.block_calls.proofs.Holds.{Holds, tables-next}
 
 -- ---- a block that isn't valid
 
@@ -105,5 +105,5 @@ pub tables-after : (b : List ℕ) (c : Call) → tablesOf (blockAfter b c) ≡ t
 unfolding tablesAfter
 tables-after b c =
     by-test (validBlock b)
-    (λ v. rw v (tables-are (blockAfter b c) _ (holds-after b (tablesOf b) (holds-tables b v) c)))
+    (λ v. rw v (tables-next b (tablesOf b) (holds-tables b v) c))
     (λ v. rw v (ap tablesOf (block-refused b c 0 (refused-invalid b c v))))

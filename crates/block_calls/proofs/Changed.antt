@@ -4,15 +4,18 @@ use mathlib.Core.Path.{_≡_}
 use Prim.Native.Nat.{ℕ}
 use Rattle.protocol.specs.Tables.{Tables}
 use Rattle.protocol.specs.Range.{capacities}
-use Rattle.protocol.specs.Calls.{Call, startRead, startFastRead, startWrite, deliver, show, clear}
+use Rattle.protocol.specs.Calls.{Call, startRead, startFastRead, startWrite, startMixed, deliver}
+use Rattle.protocol.specs.Calls.{show, clear}
 use Rattle.protocol.specs.Calls.{handOver, compare, refusal, effect}
 use Rattle.protocol.proofs.Refusals.{accepted-read, accepted-fast-read, accepted-write}
+use Rattle.protocol.proofs.Refusals.{accepted-mixed}
 use Rattle.protocol.proofs.Refusals.{accepted-deliver, accepted-clear, accepted-hand-over}
 use Rattle.layout.specs.Decode.{tablesOf}
 use Rattle.layout.specs.Encodes.{Encodes}
 use Rattle.layout.proofs.Room.{room-valid}
 use Rattle.start.proofs.EncodesRead.{encodes-read, encodes-fast-read}
 use Rattle.start.proofs.EncodesWrite.{encodes-write}
+use Rattle.start.proofs.EncodesMixed.{encodes-mixed}
 use Rattle.deliver.proofs.Delivered.{encodes-deliver}
 use Rattle.clear.proofs.Cleared.{encodes-clear}
 use Rattle.hand_over.proofs.HandedOver.{encodes-handed-over}
@@ -28,6 +31,8 @@ encodes-changed b t (startFastRead d s) same h e =
     encodes-fast-read b t d s h (accepted-fast-read capacities t d s .0 e)
 encodes-changed b t (startWrite d s bytes) same h e =
     encodes-write b t d s bytes h (accepted-write capacities t d s bytes .0 e)
+encodes-changed b t (startMixed d r s bytes) same h e =
+    encodes-mixed b t d r s bytes h (accepted-mixed capacities t d r s bytes .0 e)
 encodes-changed b t (deliver i) same h e =
     encodes-deliver i h (accepted-deliver capacities t i .0 e)
 encodes-changed b t (show d output) same h e = h

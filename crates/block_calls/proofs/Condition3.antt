@@ -7,6 +7,8 @@ use Prim.Native.Nat.{ℕ}
 use Rattle.protocol.specs.Tables.{Sizes, Tables, fresh}
 use Rattle.protocol.specs.Range.{capacities, sizesInRange}
 use Rattle.protocol.specs.Calls.{Call, step}
+use Rattle.protocol.proofs.Ranges.Tables.{Stamps}
+use Rattle.protocol.proofs.Valid.{valid-next, stamps-fresh}
 use Rattle.condition3.specs.World.{World, begin, after}
 use Rattle.condition3.proofs.Condition3.{condition-3}
 use Rattle.block_calls.specs.Calls.{freshRefusalOn, freshAfter, blockAfter}
@@ -16,12 +18,13 @@ use Rattle.block_calls.proofs.Holds.{Holds, tables-are, answer-is, outp
 
 -- ---- from a block that holds tables
 
-pub holds-run : (b : List ℕ) (t : Tables) → Holds b t → (calls : List Call)
+pub holds-run : (b : List ℕ) (t : Tables) → Holds b t → Stamps t → (calls : List Call)
     → Holds (blocksAfter b calls) (ran t calls)
 unfolding blocksAfter ran
-holds-run b t h [] = h
-holds-run b t h (c ∷ cs) = holds-run (blockAfter b c) (step capacities t c .tables)
-    (holds-after b t h c) cs
+holds-run b t h stamps [] = h
+holds-run b t h stamps (c ∷ cs) =
+    holds-run (blockAfter b c) (step capacities t c .tables) (holds-after b t h stamps c)
+    (valid-next capacities t c (h .isValid) stamps .1) cs
 
 -- ---- the protocol's run on the calls alone is its world's
 
@@ -54,7 +57,7 @@ block-condition-3 b z e calls =
     let ok : sizesInRange z ≡ true = fresh-accepted b z e .0 in
     let holds : (before : List Call)
     → Holds (blocksAfter (freshAfter b z) before) (ran (fresh z) before) =
-    holds-run (freshAfter b z) (fresh z) (fresh-holds b z e) in
+    holds-run (freshAfter b z) (fresh z) (fresh-holds b z e) (stamps-fresh z) in
     record {
       answers =
           λ before rest c s. answer-is (blocksAfter (freshAfter b z) before) (ran (fresh z) before) (holds before) c;

@@ -1,23 +1,27 @@
 -- The parts of every answer fit the bits that tell them.
-use mathlib.Core.Bool.{Bool, true, false}
+use mathlib.Core.Bool.{Bool, true, false, _||_}
 use mathlib.Core.List.{List, [], _∷_}
 use mathlib.Core.Path.{_≡_, refl, ap, _∙_, subst}
-use Prim.Native.Nat.{ℕ, zero, suc, _%_, _≤_, _<_, _^_}
+use Prim.Native.Nat.{ℕ, zero, suc, _+_, _%_, _≤_, _<_, _^_}
 use native.Mathlib.Omega.{arith}
+use lib.ListN.{length}
 use Rattle.basics.proofs.Cases.{by-test}
+use Rattle.itemset.specs.Set.{count}
 use Rattle.protocol.specs.declared.Answer.{Answer}
 use Rattle.protocol.specs.declared.Answer.the-variants.{Refused, Made, Started, Delivered, Shown}
 use Rattle.protocol.specs.declared.Answer.the-variants.{Cleared, HandedOver, Compared}
 use Rattle.protocol.specs.Tables.{Tables, Sizes}
 use Rattle.protocol.specs.Steps.{messageAt}
-use Rattle.protocol.specs.Calls.{Call, startRead, startFastRead, startWrite, deliver, show, clear}
+use Rattle.protocol.specs.Calls.{Call, startRead, startFastRead, startWrite, startMixed, deliver}
+use Rattle.protocol.specs.Calls.{show, clear}
 use Rattle.protocol.specs.Calls.{handOver, compare, Test, test, first, refusal, effect, reply, step}
-use Rattle.protocol.specs.Calls.{pick, readTests, numberOfAnswer}
+use Rattle.protocol.specs.Calls.{pick, badSet, readTests, writeTests, numberOfAnswer}
 use Rattle.protocol.proofs.MessageKinds.{kind-within}
 use Rattle.protocol.proofs.Delivered.{outcome-most}
 use Rattle.protocol.proofs.Refusals.{accepted-clear, accepted-hand-over}
 use Rattle.protocol.proofs.Cleared.{length-cleared}
-use Rattle.protocol.proofs.Valid.{valid-kept}
+use Rattle.protocol.proofs.Ranges.Tables.{valid-within}
+use Rattle.protocol.proofs.Valid.{within-kept}
 use Rattle.protocol.specs.Range.{capacities}
 use Rattle.layout.specs.Decode.{tablesOf, validBlock}
 use Rattle.encoding.proofs.Decoded.{few-versions, few-messages}
@@ -43,18 +47,24 @@ read-le t d s =
     more 1 _ _ (omega arith) (more 3 _ _ (omega arith)
     (more 4 _ _ (omega arith) (more 5 _ _ (omega arith) (more 8 _ _ (omega arith) none))))
 
--- one of the refusal table's numbers, or 0
-pub refusal-le : (t : Tables) (c : Call) → refusal capacities t c ≤ 18
-unfolding refusal
-refusal-le t (startRead d s) = read-le t d s
-refusal-le t (startFastRead d s) = read-le t d s
-refusal-le t (startWrite d s bytes) =
+write-le : (t : Tables) (d : ℕ) (bad : Bool) (s : ℕ) (bytes : List ℕ) (joining : ℕ)
+    → first (writeTests capacities t d bad s bytes joining) ≤ 18
+write-le t d bad s bytes joining =
     more 1 _ _ (omega arith)
     (more 3 _ _ (omega arith)
     (more 4 _ _ (omega arith)
     (more 5 _ _ (omega arith)
     (more 6 _ _ (omega arith) (more 17 _ _ (omega arith) (more 7 _ _ (omega arith)
     (more 8 _ _ (omega arith) (more 9 _ _ (omega arith) none))))))))
+
+-- one of the refusal table's numbers, or 0
+pub refusal-le : (t : Tables) (c : Call) → refusal capacities t c ≤ 18
+unfolding refusal
+refusal-le t (startRead d s) = read-le t d s
+refusal-le t (startFastRead d s) = read-le t d s
+refusal-le t (startWrite d s bytes) = write-le t d (badSet t s) s bytes (count s)
+refusal-le t (startMixed d r s bytes) =
+    write-le t d (badSet t r || badSet t s) s bytes (count r + count s)
 refusal-le t (deliver i) = more 1 _ _ (omega arith)
     (more 10 _ _ (omega arith) (more 11 _ _ (omega arith) (more 12 _ _ (omega arith) none)))
 refusal-le t (show d output) =
@@ -82,29 +92,26 @@ refusalOf (Cleared n) = 0
 refusalOf (HandedOver giver receiver) = 0
 refusalOf (Compared n) = 0
 
+-- the messages after an accepted call
+few : (t : Tables) (c : Call) → refusal capacities t c ≡ 0
+    → length (effect t c .messages) < 2 ^ 16
+few t c e = omega (arith, few-messages (effect t c) (within-kept capacities t c e))
+
 reply-fits : (t : Tables) (c : Call) → refusal capacities t c ≡ 0 → Fits (reply t c)
 unfolding reply effect
-reply-fits t (startRead d s) e = omega
-    (arith, few-messages (effect t (startRead d s)) (valid-kept capacities t (startRead d s) e))
-reply-fits t (startFastRead d s) e = omega (
-  arith,
-  few-messages (effect t (startFastRead d s)) (valid-kept capacities t (startFastRead d s) e),
-)
-reply-fits t (startWrite d s bytes) e =
-    omega (
-      arith,
-      few-messages (effect t (startWrite d s bytes))
-          (valid-kept capacities t (startWrite d s bytes) e),
-    )
+reply-fits t (startRead d s) e = few t (startRead d s) e
+reply-fits t (startFastRead d s) e = few t (startFastRead d s) e
+reply-fits t (startWrite d s bytes) e = few t (startWrite d s bytes) e
+reply-fits t (startMixed d r s bytes) e = few t (startMixed d r s bytes) e
 reply-fits t (deliver i) e = (
   omega (arith, kind-within (messageAt t i)),
-  omega
-      (arith, few-messages (effect t (deliver i)) (valid-kept capacities t (deliver i) e)),
+  few t (deliver i) e,
   omega (arith, outcome-most t (messageAt t i)),
 )
 reply-fits t (show d output) e = omega (arith, length-frame-le d (t .client d .last))
 reply-fits t clear e =
-    omega (arith, length-cleared t, few-versions t (accepted-clear capacities t .0 e))
+    let few = few-versions t (valid-within capacities t (accepted-clear capacities t .0 e)) in
+    omega (arith, length-cleared t, few)
 reply-fits t (handOver d e) h =
     let a = accepted-hand-over capacities t d e .0 h in
     let most = a .valid .inRange .sizes .clients in
@@ -150,6 +157,7 @@ unfolding refusalOf reply
 reply-accepts t (startRead d s) = refl
 reply-accepts t (startFastRead d s) = refl
 reply-accepts t (startWrite d s bytes) = refl
+reply-accepts t (startMixed d r s bytes) = refl
 reply-accepts t (deliver i) = refl
 reply-accepts t (show d output) = refl
 reply-accepts t clear = refl

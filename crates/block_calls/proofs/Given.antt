@@ -15,17 +15,18 @@ use Rattle.protocol.specs.Tables.{Sizes, Tables}
 use Rattle.protocol.specs.Range.{capacities, isClient, load, occupied}
 use Rattle.protocol.specs.Clear.{gone}
 use Rattle.protocol.specs.HandOver.{standing}
-use Rattle.protocol.specs.Calls.{Call, startRead, startWrite, show, clear, handOver, compare}
+use Rattle.protocol.specs.Calls.{Call, startRead, startWrite, startMixed, show, clear, handOver}
+use Rattle.protocol.specs.Calls.{compare}
 use Rattle.protocol.specs.Calls.{effect, reply, written, lent, pick, shownFrame, refusal, first}
 use Rattle.protocol.proofs.Ranges.Tables.{Valid, valid-facts}
 use Rattle.protocol.proofs.Refusals.{AcceptedStart, accepted-read, accepted-fast-read}
-use Rattle.protocol.proofs.Refusals.{accepted-write, accepted-show}
+use Rattle.protocol.proofs.Refusals.{accepted-write, accepted-mixed, accepted-show}
 use Rattle.protocol.proofs.Refusals.{accepted-hand-over, accepted-compare}
 use Rattle.layout.specs.Layout.{mostVersions, mostMessages, header, at, clientsAt, itemsAt}
 use Rattle.layout.specs.Layout.{messagesAt, needed}
 use Rattle.layout.specs.Decode.{sizesIn, tablesOf, validBlock}
-use Rattle.start.specs.Start.{greatestOn, writeStarted}
-use Rattle.start.proofs.Ready.{ready-start, ready-write}
+use Rattle.start.specs.Start.{greatestOn, writeStarted, mixedStarted}
+use Rattle.start.proofs.Ready.{ReadyWrite, ready-start, ready-write}
 use Rattle.show.specs.Show.{frameIn}
 use Rattle.show.proofs.LogFrames.{shownFrame-tablesOf}
 use Rattle.clear.specs.Clear.{clearedBlock}
@@ -133,24 +134,31 @@ module _ (b : List ℕ) (fast : Bool) (d s : ℕ) (e : refusalOn b (readCall fas
         block-given b call e after whole,
       )
 
+-- what the code of a start that writes requires, with as many items as the block has
+abbrev WriteReady : List ℕ → ℕ → ℕ → List ℕ → ℕ → Type 0
+WriteReady b d s bytes items =
+    (1 ≤ d) × (d ≤ 8) × (items ≤ 64) × (items ≡ at b header itemsAt)
+    × (greatestOn b d items < 2 ^ 32) × (needed ≤ length b) × (4 * count s ≤ length bytes)
+
+ready-items : {b : List ℕ} {d s items : ℕ} {bytes : List ℕ} → ReadyWrite b d s bytes
+    → items ≡ at b header itemsAt → WriteReady b d s bytes items
+ready-items w i = (
+  w .start .first,
+  w .start .last,
+  omega (arith, w .start .items),
+  i,
+  rw i (w .numberFits),
+  w .long,
+  w .values,
+)
+
 module _ (b : List ℕ) (d s : ℕ) (bytes : List ℕ) (e : refusalOn b (startWrite d s bytes) ≡ 0) where
-  pub write-ready : (items : ℕ) → items ≡ at b header itemsAt
-      → (1 ≤ d) × (d ≤ 8) × (items ≤ 64) × (items ≡ at b header itemsAt)
-      × (greatestOn b d items < 2 ^ 32) × (needed ≤ length b) × (4 * count s ≤ length bytes)
+  pub write-ready : (items : ℕ) → items ≡ at b header itemsAt → WriteReady b d s bytes items
   write-ready items i =
-      let w =
-      ready-write b (tablesOf b) d s bytes (accepted-holds b (startWrite d s bytes) e .encodes)
+      ready-items
+      (ready-write b (tablesOf b) d s bytes (accepted-holds b (startWrite d s bytes) e .encodes)
       (accepted-write capacities (tablesOf b) d s
-      bytes .0 (accepted-tables b (startWrite d s bytes) e)) in
-      let r = w .start in (
-        r .first,
-        r .last,
-        omega (arith, r .items),
-        i,
-        rw i (w .numberFits),
-        w .long,
-        w .values,
-      )
+      bytes .0 (accepted-tables b (startWrite d s bytes) e))) i
 
   pub write-given : (after : List ℕ) (n : ℕ) → after ≡ writeStarted b d s bytes
       → n ≡ at after header messagesAt
@@ -162,6 +170,26 @@ module _ (b : List ℕ) (d s : ℕ) (bytes : List ℕ) (e : refusalOn b (startWr
         ∙ sym (answer-accepted b (startWrite d s bytes) e),
     block-given b
         (startWrite d s bytes) e after a,
+  )
+
+module _ (b : List ℕ) (d r s : ℕ) (bytes : List ℕ)
+    (e : refusalOn b (startMixed d r s bytes) ≡ 0) where
+  pub mixed-ready : (items : ℕ) → items ≡ at b header itemsAt → WriteReady b d s bytes items
+  mixed-ready items i =
+      ready-items
+      (ready-write b (tablesOf b) d s bytes (accepted-holds b (startMixed d r s bytes) e .encodes)
+      (accepted-mixed capacities (tablesOf b) d r s
+      bytes .0 (accepted-tables b (startMixed d r s bytes) e) .write)) i
+
+  pub mixed-given : (after : List ℕ) (n : ℕ) → after ≡ mixedStarted b d r s bytes
+      → n ≡ at after header messagesAt
+      → (Started n ≡ answerOn b (startMixed d r s bytes))
+      × (after ≡ blockAfter b (startMixed d r s bytes))
+  unfolding changed reply effect
+  mixed-given after n a m = (
+    ap Started (count-given b (startMixed d r s bytes) e after a n m)
+        ∙ sym (answer-accepted b (startMixed d r s bytes) e),
+    block-given b (startMixed d r s bytes) e after a,
   )
 
 -- ---- a valid block's clients, views, load and versions

@@ -4,17 +4,16 @@ use mathlib.Core.Bool.{true}
 use mathlib.Core.List.{List}
 use mathlib.Core.Path.{_≡_, refl, sym, ap, subst}
 use Prim.Native.Nat.{ℕ, zero, suc}
-use native.Mathlib.Omega.{arith}
 use Rattle.protocol.specs.Tables.{Tables}
-use Rattle.protocol.specs.Range.{capacities, valid, load, occupied}
+use Rattle.protocol.specs.Range.{capacities, valid}
 use Rattle.protocol.specs.Calls.{Call, refusal, effect, step, pick}
-use Rattle.protocol.proofs.Ranges.Tables.{Valid, valid-facts}
-use Rattle.protocol.proofs.Valid.{valid-step}
+use Rattle.protocol.proofs.Ranges.Tables.{Valid, Within, valid-within, Stamps, valid-facts}
+use Rattle.protocol.proofs.Valid.{valid-step, within-kept}
 use Rattle.layout.specs.Decode.{tablesOf, validBlock}
 use Rattle.layout.specs.Encodes.{Encodes}
 use Rattle.layout.proofs.Masked.{Masked}
 use Rattle.encoding.proofs.ValidIff.{valid-iff}
-use Rattle.encoding.proofs.Decoded.{tables-of}
+use Rattle.encoding.proofs.Decoded.{tables-of, few-versions, few-messages}
 use Rattle.encoding.proofs.MaskedStep.{masked-step}
 use Rattle.block_calls.proofs.Changed.{encodes-changed}
 use Rattle.block_calls.specs.Calls.{refusalOn, answerOn, outputOn, changed, blockAfter}
@@ -24,6 +23,10 @@ pub record Holds (b : List ℕ) (t : Tables) : Type 0 where
   pub masked : Masked t
   pub isValid : valid capacities t ≡ true
 
+tables-within : (b : List ℕ) (t : Tables) → Encodes b t → Masked t → Within capacities t
+    → tablesOf b ≡ t
+tables-within b t e m w = tables-of b t e m (w .client) (few-versions t w) (few-messages t w)
+
 module _ (b : List ℕ) (t : Tables) (h : Holds b t) where
   pub valid-block : validBlock b ≡ true
   valid-block = valid-iff b .1 (t, h .encodes, h .isValid)
@@ -32,9 +35,7 @@ module _ (b : List ℕ) (t : Tables) (h : Holds b t) where
   facts = valid-facts capacities t (h .isValid)
 
   pub tables-are : tablesOf b ≡ t
-  unfolding load occupied
-  tables-are = tables-of b t (h .encodes) (h .masked) (facts .inRange)
-      (omega (arith, facts .occupied)) (omega (arith, facts .load))
+  tables-are = tables-within b t (h .encodes) (h .masked) (valid-within capacities t facts)
 
   -- what the calls give on the block is what the steps give on the tables
   refusal-is : (c : Call) → refusalOn b c ≡ refusal capacities t c
@@ -49,22 +50,39 @@ module _ (b : List ℕ) (t : Tables) (h : Holds b t) where
   unfolding outputOn
   output-is c = rw valid-block (ap (λ (u : Tables). step capacities u c .output) tables-are)
 
-  accepted-holds : (c : Call) → refusal capacities t c ≡ 0 → Holds (changed b c) (effect t c)
-  accepted-holds c e =
+  -- the tables after the call are read from the block after it, also where they aren't valid
+  -- because a transaction that reads and writes has the initial stamp
+  pub tables-next : (c : Call) → tablesOf (blockAfter b c) ≡ step capacities t c .tables
+  unfolding blockAfter step
+  tables-next c =
+      subst (λ (r : ℕ). tablesOf (pick r (changed b c) b)
+      ≡ pick (refusal capacities t c) (effect t c) t) (sym (refusal-is c))
+      (by-refusal (refusal capacities t c) refl)
+    where
+      by-refusal : (r : ℕ) → refusal capacities t c ≡ r
+          → tablesOf (pick r (changed b c) b) ≡ pick r (effect t c) t
+      by-refusal zero e =
+          tables-within (changed b c) (effect t c) (encodes-changed b t c tables-are (h .encodes) e)
+          (masked-step capacities t c e (h .masked)) (within-kept capacities t c e)
+      by-refusal (suc r) e = tables-are
+
+  accepted-holds : (c : Call) → refusal capacities t c ≡ 0 → Stamps t
+      → Holds (changed b c) (effect t c)
+  accepted-holds c e stamps =
       record {
         encodes = encodes-changed b t c tables-are (h .encodes) e;
         masked = masked-step capacities t c e (h .masked);
-        isValid = valid-step capacities t c e;
+        isValid = valid-step capacities t c e stamps;
       }
 
-  pub holds-after : (c : Call) → Holds (blockAfter b c) (step capacities t c .tables)
+  pub holds-after : Stamps t → (c : Call) → Holds (blockAfter b c) (step capacities t c .tables)
   unfolding blockAfter step
-  holds-after c =
+  holds-after stamps c =
       subst (λ (r : ℕ). Holds (pick r (changed b c) b)
       (pick (refusal capacities t c) (effect t c) t)) (sym (refusal-is c))
       (by-refusal (refusal capacities t c) refl)
     where
       by-refusal : (r : ℕ) → refusal capacities t c ≡ r
           → Holds (pick r (changed b c) b) (pick r (effect t c) t)
-      by-refusal zero e = accepted-holds c e
+      by-refusal zero e = accepted-holds c e stamps
       by-refusal (suc r) e = h

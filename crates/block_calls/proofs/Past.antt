@@ -3,14 +3,15 @@ use mathlib.Core.List.{List}
 use mathlib.Core.Path.{_≡_, refl}
 use Prim.Native.Nat.{ℕ, zero, suc}
 use Rattle.protocol.specs.Range.{capacities}
-use Rattle.protocol.specs.Calls.{Call, startRead, startFastRead, startWrite, deliver, show, clear}
+use Rattle.protocol.specs.Calls.{Call, startRead, startFastRead, startWrite, startMixed, deliver}
+use Rattle.protocol.specs.Calls.{show, clear}
 use Rattle.protocol.specs.Calls.{handOver, compare, pick}
 use Rattle.protocol.proofs.Refusals.{accepted-read, accepted-fast-read, accepted-write}
-use Rattle.protocol.proofs.Refusals.{accepted-clear}
+use Rattle.protocol.proofs.Refusals.{accepted-mixed, accepted-clear}
 use Rattle.layout.specs.Layout.{header, at, partitionsAt, itemsAt, versionsAt, messagesAt}
 use Rattle.layout.specs.Decode.{messageIn, tablesOf}
 use Rattle.layout.proofs.Past.{SamePast, past-none}
-use Rattle.start.proofs.Beyond.{beyond-read, beyond-fast-read, beyond-write}
+use Rattle.start.proofs.Beyond.{beyond-read, beyond-fast-read, beyond-write, beyond-mixed}
 use Rattle.deliver_tests.specs.Tests.{testedIn}
 use Rattle.deliver.specs.Deliver.{countsIn, deliveredBlock}
 use Rattle.deliver.proofs.Past.{past-deliver}
@@ -33,6 +34,10 @@ past-changed b (startWrite d s bytes) e =
     beyond-write b (tablesOf b) d s bytes (accepted-holds b (startWrite d s bytes) e .encodes)
     (accepted-write capacities (tablesOf b) d s bytes .0
     (accepted-tables b (startWrite d s bytes) e))
+past-changed b (startMixed d r s bytes) e =
+    beyond-mixed b (tablesOf b) d r s bytes (accepted-holds b (startMixed d r s bytes) e .encodes)
+    (accepted-mixed capacities (tablesOf b) d r s bytes .0
+    (accepted-tables b (startMixed d r s bytes) e))
 past-changed b (deliver i) e =
     let n = at b header messagesAt in
     let m = messageIn b i in

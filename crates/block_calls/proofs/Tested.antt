@@ -5,15 +5,16 @@ use mathlib.Core.Path.{_≡_, refl, sym, _∙_}
 use Prim.Native.Nat.{ℕ, _+_, _*_}
 use lib.Dec.{eqb, ltb}
 use lib.ListN.{length}
+use borrow.Author.Tests.{eqb-true}
 use Rattle.basics.proofs.Cases.{by-test, between, and-left, and-right}
 use Rattle.itemset.specs.Set.{allBelow, count}
 use Rattle.protocol.specs.Range.{capacities, isClient, isIdle, load, occupied}
 use Rattle.protocol.specs.Steps.{greatestOf}
-use Rattle.protocol.specs.Calls.{startRead, startWrite, show, handOver, compare, refusal, first}
-use Rattle.protocol.specs.Calls.{isNothing}
+use Rattle.protocol.specs.Calls.{startRead, startWrite, startMixed, show, handOver, compare}
+use Rattle.protocol.specs.Calls.{writeTests, refusal, first, isNothing}
 use Rattle.layout.specs.Layout.{mostVersions, mostMessages, mostWriteItems, header, scalars, at}
-use Rattle.layout.specs.Layout.{itemsAt, modeAt, awaitedAt, lastKindAt, isWriteMode}
-use Rattle.layout.specs.Decode.{sizesIn, clientIn, tablesOf, validBlock}
+use Rattle.layout.specs.Layout.{itemsAt, modeAt, awaitedAt, lastKindAt, isWriteMode, isMixedMode}
+use Rattle.layout.specs.Decode.{sizesIn, clientIn, tablesOf, awaitsNone, validBlock}
 use Rattle.encoding.proofs.WellFormed.{tells-valid-block}
 use Rattle.show.specs.Show.{frameIn}
 use Rattle.show.proofs.LogFrames.{isNothing-last, shownFrame-tablesOf}
@@ -28,11 +29,13 @@ unfolding tablesOf
 sizes-read b = refl
 
 -- a client is idle exactly if its words await no item
-idle-words : (b : List ℕ) (d : ℕ) → isIdle (clientIn b d) ≡ eqb (at b scalars (awaitedAt d)) 0
+idle-words : (b : List ℕ) (d : ℕ) → isIdle (clientIn b d) ≡ awaitsNone b d
 unfolding clientIn
 idle-words b d =
-    by-test (isWriteMode (at b scalars (modeAt d))) (λ e. rw e refl)
-    (λ e. rw e (and-true (eqb (at b scalars (awaitedAt d)) 0)))
+    let mode = at b scalars (modeAt d) in
+    by-test (isWriteMode mode)
+    (λ e. rw (eqb-true mode 2 e) (sym (and-true (eqb (at b scalars (awaitedAt d)) 0))))
+    (λ e. by-test (isMixedMode mode) (λ m. rw (e, m) refl) (λ m. rw (e, m) refl))
 
 module _ (b : List ℕ) (d : ℕ) (c : isClient (sizesIn b) d ≡ true) where
   client-read : tablesOf b .client d ≡ clientIn b d
@@ -84,19 +87,40 @@ module _ (b : List ℕ) (d : ℕ) (v : validBlock b ≡ true) where
   unfolding refusal first
   read-tests s c = rw (valid-tables b v, idle-read b d c v, sizes-read b, c) refl
 
-  pub write-tests : (s : ℕ) (bytes : List ℕ) → isClient (sizesIn b) d ≡ true
-      → refusal capacities (tablesOf b) (startWrite d s bytes)
+  -- a write of s, alone or in a mixed transaction
+  pub writing-tests : (wrong : Bool) (s : ℕ) (bytes : List ℕ) (joining : ℕ)
+      → isClient (sizesIn b) d ≡ true
+      → first (writeTests capacities (tablesOf b) d wrong s bytes joining)
       ≡ cond busy 4
-      (cond (bad s) 5
+      (cond wrong 5
       (cond (not (eqb (length bytes) (4 * count s))) 6
       (cond (ltb mostWriteItems (count s)) 17
       (cond (eqb (greatestOn b d (at b header itemsAt)) 4294967295) 7
-      (cond (ltb mostMessages (load (tablesOf b) + count s)) 8
+      (cond (ltb mostMessages (load (tablesOf b) + joining)) 8
       (cond (ltb mostVersions (occupied (tablesOf b) + count s)) 9 0))))))
-  unfolding refusal first
-  write-tests s bytes c =
+  unfolding first
+  writing-tests wrong s bytes joining c =
       rw (valid-tables b v, idle-read b d c v, greatest-read b d c v, sizes-read b, c)
       refl
+
+  pub write-refusal : (s : ℕ) (bytes : List ℕ) {wrong : Bool} {joining : ℕ} → wrong ≡ bad s
+      → joining ≡ count s
+      → first (writeTests capacities (tablesOf b) d wrong s bytes joining)
+      ≡ refusal capacities (tablesOf b) (startWrite d s bytes)
+  unfolding refusal tablesOf
+  write-refusal s bytes w n = rw (w, n) refl
+
+  pub mixed-refusal : (r s : ℕ) (bytes : List ℕ) {unread unwritten : Bool} {m n : ℕ}
+      → unread ≡ bad r → unwritten ≡ bad s → m ≡ count r → n ≡ count s
+      → first (writeTests capacities (tablesOf b) d (unread || unwritten) s bytes (m + n))
+      ≡ refusal capacities (tablesOf b) (startMixed d r s bytes)
+  unfolding refusal tablesOf
+  mixed-refusal r s bytes u w m n = rw (u, w, m, n) refl
+
+  pub mixed-nobody : (r s : ℕ) (bytes : List ℕ) → isClient (sizesIn b) d ≡ false
+      → refusal capacities (tablesOf b) (startMixed d r s bytes) ≡ 3
+  unfolding refusal first
+  mixed-nobody r s bytes c = rw (valid-tables b v, sizes-read b, c) refl
 
   pub show-tests : (output : List ℕ) → isClient (sizesIn b) d ≡ true
       → refusal capacities (tablesOf b) (show d output)

@@ -11,12 +11,13 @@ use Rattle.protocol.specs.declared.Answer.the-variants.{Refused, Made, Started,
 use Rattle.protocol.specs.declared.Answer.the-variants.{Cleared, HandedOver, Compared}
 use Rattle.protocol.specs.Tables.{Sizes, Tables, fresh}
 use Rattle.protocol.specs.Range.{capacities, sizesInRange}
-use Rattle.protocol.specs.Calls.{Call, startRead, startFastRead, startWrite, deliver, show, clear}
+use Rattle.protocol.specs.Calls.{Call, startRead, startFastRead, startWrite, startMixed, deliver}
+use Rattle.protocol.specs.Calls.{show, clear}
 use Rattle.protocol.specs.Calls.{handOver, compare, test, first, pick, refusal, step, lent}
 use Rattle.layout.specs.Layout.{needed, header, at, itemsAt}
 use Rattle.layout.specs.Decode.{tablesOf, validBlock}
 use Rattle.layout.specs.Store.{freshBlock}
-use Rattle.start.specs.Start.{readStarted, fastReadStarted, writeStarted}
+use Rattle.start.specs.Start.{readStarted, fastReadStarted, writeStarted, mixedStarted}
 use Rattle.deliver.specs.Deliver.{deliveredBlock}
 use Rattle.clear.specs.Clear.{clearedBlock}
 use Rattle.hand_over.specs.HandOver.{handedOverBlock}
@@ -56,6 +57,7 @@ unfoldable pub changed : List ℕ → Call → List ℕ
 changed b (startRead d s) = readStarted b d s
 changed b (startFastRead d s) = fastReadStarted b d s
 changed b (startWrite d s bytes) = writeStarted b d s bytes
+changed b (startMixed d r s bytes) = mixedStarted b d r s bytes
 changed b (deliver i) = deliveredBlock b i
 changed b (show d output) = b
 changed b clear = clearedBlock b

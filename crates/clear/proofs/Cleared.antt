@@ -16,7 +16,7 @@ use Rattle.protocol.specs.Range.{capacities}
 use Rattle.protocol.specs.Clear.{goes, cleared, gone}
 use Rattle.protocol.proofs.Cleared.{length-cleared}
 use Rattle.protocol.proofs.Ranges.Values.{initial-not}
-use Rattle.protocol.proofs.Ranges.Tables.{Valid}
+use Rattle.protocol.proofs.Ranges.Tables.{Valid, valid-within}
 use Rattle.layout.specs.Layout.{mostClients, mostVersions, versionWords, header, versions, messages}
 use Rattle.layout.specs.Layout.{base, needed, at, store, clientsAt, versionsAt, messagesAt}
 use Rattle.layout.specs.Layout.{versionAt, messageAt}
@@ -141,7 +141,7 @@ module _ (b : List ℕ) (t : Tables) (same : tablesOf b ≡ t) (h : Encodes b t)
   ws = wordsOfVersions kept
 
   kept-few : length kept ≤ mostVersions
-  kept-few = omega (arith, length-cleared t, few-versions t v)
+  kept-few = omega (arith, length-cleared t, few-versions t (valid-within capacities t v))
 
   is-cleared : clearedBlock b ≡ set (sets b (base versions) ws) versionsAt (length kept)
   unfolding clearedBlock

@@ -1,6 +1,6 @@
 -- The stamps that the code gathers are those in use: of a stamp other than the initial one, that it
 -- is none of them is that it is unused.
-use mathlib.Core.Bool.{Bool, true, false, cond, not, _&&_}
+use mathlib.Core.Bool.{Bool, true, false, cond, not, _&&_, _||_}
 use mathlib.Core.List.{List}
 use mathlib.Core.Logic.{_↔_, _≢_, ⊎-elim}
 use mathlib.Core.Path.{_≡_, refl, sym, ap, _∙_, subst}
@@ -26,10 +26,11 @@ use Rattle.protocol.proofs.Ranges.Values.{IsClient}
 use Rattle.protocol.proofs.Cleared.{Covers, tells-unused}
 use Rattle.layout.specs.Layout.{mostClients, mostItems, mostMessages, entryWords, header, scalars}
 use Rattle.layout.specs.Layout.{latest, views, firsts, base, at, clientsAt, itemsAt, messagesAt}
-use Rattle.layout.specs.Layout.{modeAt, latestAt, viewAt, firstAt, isWriteMode}
+use Rattle.layout.specs.Layout.{modeAt, latestAt, viewAt, firstAt, isWriteMode, isMixedMode}
+use Rattle.layout.specs.Layout.{stageOf}
 use Rattle.layout.specs.Decode.{sizesIn, firstIn, readIn, clientIn, kindIn, messageOf, messageIn}
 use Rattle.layout.specs.Decode.{tablesOf}
-use Rattle.layout.proofs.FirstWords.{write-stage, no-fast, come-none, reply-come}
+use Rattle.layout.proofs.FirstWords.{write-stage, come-none, reply-come}
 use Rattle.encoding.proofs.Folds.{all-table, each-table}
 use Rattle.encoding.proofs.WellFormed.{client-test}
 use Rattle.clear.specs.Stamps.{entryStamp, messageStamp, writeStamp, firstStamp}
@@ -209,7 +210,8 @@ module _ (b : List ℕ) where
   unfolding writeStamp tablesOf clientIn
   write-stamp i l =
       let c : IsClient z (i + 1) = (omega arith, omega arith) in
-      by-test (isWriteMode (at b scalars (modeAt (i + 1))))
+      let mode = at b scalars (modeAt (i + 1)) in
+      by-test (isWriteMode mode || isMixedMode mode)
       (λ e. rw (lt-ltb i (z .clients) l, client-test z (i + 1) c, e) refl)
       (λ e. rw (lt-ltb i (z .clients) l, client-test z (i + 1) c, e) refl)
 
@@ -268,11 +270,9 @@ module _ (b : List ℕ) where
   none-come e d k c =
       let client : d - 1 + 1 ≡ d = omega arith in
       let few : d - 1 < z .clients = omega arith in
-      let low : at b scalars (modeAt d) < 3 =
-      subst (λ (x : ℕ). at b scalars (modeAt x) < 3) client
-      (ltb-true _ 3 (every-at (z .clients) (λ i. ltb (at b scalars (modeAt (i + 1))) 3) e
-      (d - 1) few)) in
-      come-none b d k (no-fast (at b scalars (modeAt d)) (omega arith) (omega arith))
+      come-none b d k (subst (λ (x : ℕ). stageOf (at b scalars (modeAt x)) ≡ 0) client
+      (eqb-true _ 0 (every-at (z .clients)
+      (λ i. eqb (stageOf (at b scalars (modeAt (i + 1)))) 0) e (d - 1) few)))
 
   -- how many are gathered
   pub count-few : {quiet : Bool} → quiet ≡ noneFast b → quiet ≡ true → stampCount b ≡ firstStamps

@@ -11,16 +11,18 @@ use lib.ListN.{length, getD, set, take}
 use lib.Seq.{take-suc, take-suc-set, take-all}
 use borrow.Author.Tests.{eq-eqb, ne-eqb}
 use Rattle.basics.specs.Lists.{table}
+use Rattle.basics.proofs.Cases.{by-test}
 use Rattle.itemset.specs.Set.{has}
 use Rattle.protocol.specs.Range.{hasFirst}
 use Rattle.layout.specs.Layout.{mostItems, entryWords, header, scalars, latest, firsts, at}
 use Rattle.layout.specs.Layout.{clientsAt, itemsAt, messagesAt, modeAt, setAt, awaitedAt, stampAt}
+use Rattle.layout.specs.Layout.{inFirstPart, inSecondPart, isWriteMode, isMixedMode, stageOf}
 use Rattle.layout.specs.Decode.{readIn, kindIn}
 use Rattle.layout.specs.Encodes.{word}
 use Rattle.layout.proofs.FirstWords.{stage-first, stage-second}
 use Rattle.slots.proofs.Chosen.{when, unless}
 use Rattle.clear.specs.Stamps.{entryStamp, messageStamp, writeStamp, firstStamp, slotOf}
-use Rattle.clear.specs.Stamps.{marked, Marks}
+use Rattle.clear.specs.Stamps.{writtenBy, marked, Marks}
 use Rattle.clear.proofs.Slots.{marks-next}
 
 -- ---- a stamp, if there is one
@@ -52,15 +54,25 @@ module _ (b : List ℕ) (kind f i : ℕ) {messages own : ℕ} (c : messages ≡ 
   message-none e = unless _ _ _ _ (rw (c, o) at e) refl
 
 module _ (b : List ℕ) (i : ℕ) {clients mode s : ℕ} (c : clients ≡ at b header clientsAt)
-    (m : mode ≡ at b scalars (modeAt (i + 1))) (o : s ≡ at b scalars (setAt (i + 1))) where
-  pub write-some : {r : ℕ} → (ltb i clients && eqb mode 2 && not (eqb s 0)) ≡ true
-      → r ≡ at b scalars (stampAt (i + 1)) → r ≡ writeStamp b i
-  unfolding writeStamp
-  write-some e h = when _ _ _ _ (rw (c, m, o) at e) h
+    (m : mode ≡ at b scalars (modeAt (i + 1))) (o : s ≡ writtenBy b (i + 1) mode) where
+  abbrev writes : Bool
+  writes = ltb i clients && (isWriteMode mode || isMixedMode mode) && not (eqb s 0)
 
-  pub write-none : (ltb i clients && eqb mode 2 && not (eqb s 0)) ≡ false → 0 ≡ writeStamp b i
+  pub write-some : {r : ℕ} → writes ≡ true → r ≡ at b scalars (stampAt (i + 1))
+      → r ≡ writeStamp b i
   unfolding writeStamp
-  write-none e = unless _ _ _ _ (rw (c, m, o) at e) refl
+  write-some e h = when _ _ _ _ (rw (o, c, m) at e) h
+
+  pub write-none : writes ≡ false → 0 ≡ writeStamp b i
+  unfolding writeStamp
+  write-none e = unless _ _ _ _ (rw (o, c, m) at e) refl
+
+-- a client that is in neither part of a fast read
+pub stage-none : (mode : ℕ)
+    → (not (eqb mode inFirstPart) && not (eqb mode inSecondPart)) ≡ eqb (stageOf mode) 0
+stage-none mode =
+    by-test (eqb mode inFirstPart) (λ e. rw e refl)
+    (λ e. by-test (eqb mode inSecondPart) (λ f. rw (e, f) refl) (λ f. rw (e, f) refl))
 
 pub come-read : (b : List ℕ) (d k : ℕ) {mode s a : ℕ} {own left : Bool}
     → mode ≡ at b scalars (modeAt d) → s ≡ at b scalars (setAt d) → a ≡ at b scalars (awaitedAt d)

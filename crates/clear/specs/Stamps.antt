@@ -1,7 +1,7 @@
 -- The stamps in use as the code gathers them: one for each entry, message, message's latest, client
 -- and first reply that there are words for, 0 where there is none; and a table of slots that tells
 -- of most stamps at one look whether they are among them.
-use mathlib.Core.Bool.{Bool, cond, not, _&&_}
+use mathlib.Core.Bool.{Bool, cond, not, _&&_, _||_}
 use mathlib.Core.List.{List}
 use mathlib.Core.Logic.{_≢_}
 use mathlib.Core.Path.{_≡_}
@@ -14,7 +14,7 @@ use Rattle.protocol.specs.Tables.{numberOf, writerOf}
 use Rattle.protocol.specs.Range.{hasFirst}
 use Rattle.layout.specs.Layout.{mostClients, mostItems, mostMessages, entryWords, header, scalars}
 use Rattle.layout.specs.Layout.{latest, firsts, at, clientsAt, itemsAt, messagesAt, modeAt, setAt}
-use Rattle.layout.specs.Layout.{stampAt, inFirstPart, isWriteMode}
+use Rattle.layout.specs.Layout.{stampAt, writeSetAt, isWriteMode, isMixedMode, stageOf}
 use Rattle.layout.specs.Decode.{readIn, versionIn, kindIn}
 use Rattle.layout.specs.Encodes.{word}
 
@@ -36,11 +36,17 @@ messageStamp b kind f i =
     cond (ltb i (at b header messagesAt) && leb kind (kindIn b i) && not (eqb (kindIn b i) 6))
     (word b i f) 0
 
--- the stamp of a write under way of client i + 1
+-- the items that client d writes in this mode, if it does
+abbrev pub writtenBy : List ℕ → ℕ → ℕ → ℕ
+writtenBy b d mode =
+    cond (isMixedMode mode) (at b scalars (writeSetAt d)) (at b scalars (setAt d))
+
+-- the stamp of a write, or of a mixed transaction, under way of client i + 1
 unfoldable pub writeStamp : List ℕ → ℕ → ℕ
 writeStamp b i =
-    cond (ltb i (at b header clientsAt) && isWriteMode (at b scalars (modeAt (i + 1)))
-    && not (eqb (at b scalars (setAt (i + 1))) 0))
+    let mode = at b scalars (modeAt (i + 1)) in
+    cond (ltb i (at b header clientsAt) && (isWriteMode mode || isMixedMode mode)
+    && not (eqb (writtenBy b (i + 1) mode) 0))
     (at b scalars (stampAt (i + 1))) 0
 
 -- the stamp of first reply p, if it has come: those of each client's items, one client behind the
@@ -81,7 +87,7 @@ stampIn b p =
 
 -- where no client is in a fast read, first replies aren't looked at
 unfoldable pub noneFast : List ℕ → Bool
-noneFast b = every (at b header clientsAt) (λ i. ltb (at b scalars (modeAt (i + 1))) inFirstPart)
+noneFast b = every (at b header clientsAt) (λ i. eqb (stageOf (at b scalars (modeAt (i + 1)))) 0)
 
 abbrev pub stampCount : List ℕ → ℕ
 stampCount b = cond (noneFast b) firstStamps mostStamps

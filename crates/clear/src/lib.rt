@@ -18,8 +18,8 @@ ghost use Rattle.layout.specs.Decode.{readIn, versionIn, tablesOf, validBlock};
 ghost use Rattle.layout.specs.Store.{storeVersion};
 ghost use Rattle.clear.specs.Clear.{wordsOfVersions, clearedBlock};
 ghost use Rattle.clear.specs.Stamps.{mostEntries, entryStamp, messageStamp, writeStamp};
-ghost use Rattle.clear.specs.Stamps.{firstStamp, messageStamps, mostStamps, stampIn};
-ghost use Rattle.clear.specs.Stamps.{stampCount, noneFast};
+ghost use Rattle.clear.specs.Stamps.{writtenBy, firstStamp, messageStamps, mostStamps};
+ghost use Rattle.clear.specs.Stamps.{stampIn, stampCount, noneFast};
 ghost use Rattle.clear.specs.Stamps.{absent, mostSlots, slotOf, marked, Marks, staying};
 ghost use Rattle.clear.specs.Stamps.{NoneInitial};
 use gather::lacks;
@@ -27,6 +27,7 @@ use layout::ENTRY_WORDS;
 use layout::FIRST_PART;
 use layout::FIRSTS;
 use layout::LATEST;
+use layout::MIXING;
 use layout::MOST_CLIENTS;
 use layout::MOST_ITEMS;
 use layout::MOST_MESSAGES;
@@ -86,7 +87,20 @@ fn message_stamp(b: &[u64], kind: u64, f: u64, i: u64) -> u64
     }
 }
 
-// The stamp of client `i + 1`, if it is writing: a field only where its set isn't empty.
+// The items that client `d` writes in this mode, if it does.
+fn written_by(b: &[u64], d: u64, mode: u64) -> u64
+    requires { ⌜ (1 ≤ d) × (d ≤ mostClients) ⌝ }
+    ensures { λ r. ⌜ r ≡ writtenBy (now (b .entry)) d mode ⌝ }
+{
+    if mode == MIXING {
+        client_fields::write_set(b, d)
+    } else {
+        client_fields::set_of(b, d)
+    }
+}
+
+// The stamp of client `i + 1`, if it is writing, in a mixed transaction too: a field only where its
+// write set isn't empty.
 fn write_stamp(b: &[u64], i: u64) -> u64
     requires { ⌜ i < mostClients ⌝ }
     ensures { λ r. ⌜ r ≡ writeStamp (now (b .entry)) i ⌝ }
@@ -94,8 +108,8 @@ fn write_stamp(b: &[u64], i: u64) -> u64
     let d = i + 1;
     let clients = layout::clients(b);
     let mode = client_fields::mode(b, d);
-    let set = client_fields::set_of(b, d);
-    if (i < clients) & (mode == WRITING) & (set != 0) {
+    let set = written_by(b, d, mode);
+    if (i < clients) & ((mode == WRITING) | (mode == MIXING)) & (set != 0) {
         client_fields::stamp(b, d)
     } else {
         0
@@ -300,7 +314,8 @@ fn none_fast(b: &[u64]) -> bool
     let mut ok = true;
     let mut i = 0;
     while i < clients {
-        ok = ok & (client_fields::mode(b, i + 1) < FIRST_PART);
+        let mode = client_fields::mode(b, i + 1);
+        ok = ok & ((mode != FIRST_PART) & (mode != SECOND_PART));
         i += 1;
     }
     ok

@@ -13,11 +13,14 @@ use Rattle.basics.specs.Lists.{In, counted}
 use Rattle.basics.proofs.Lists.{counted-append}
 use Rattle.itemset.specs.Set.{has, remove, upto, only, members}
 use Rattle.itemset.proofs.Laws.{has-empty, has-above}
+use Rattle.protocol.specs.declared.Version.{Version}
 use Rattle.protocol.specs.declared.Message.{Message}
+use Rattle.protocol.specs.declared.Message.the-variants.{Prepare, Get}
 use Rattle.protocol.specs.Tables.{Tables, Client, Side, ofRead, ofWrite, writerOf}
-use Rattle.protocol.specs.Message.{kindOf, isCommit, isGot, isFirstReply, isAnyGot, itemOf}
-use Rattle.protocol.specs.Message.{namesClient, ownerOf}
-use Rattle.protocol.specs.Steps.{joined, isLast}
+use Rattle.protocol.specs.Message.{kindOf, isPrepared, isCommit, isGot, isFirstReply, isAnyGot}
+use Rattle.protocol.specs.Message.{itemOf, namesClient, ownerOf}
+use Rattle.protocol.specs.Steps.{asks, gets, version, valueOf, nextStamp, prepares, joined, isLast}
+use Rattle.protocol.proofs.Each.{Each, each-upto}
 use Rattle.protocol.proofs.Delivered.{joined-each}
 use Rattle.condition3.specs.World.{Write, labelled}
 
@@ -115,6 +118,12 @@ got-names m e =
     ⊎-elim (λ f. rw (eqb-true (kindOf m) 5 f) refl) (λ f. rw (eqb-true (kindOf m) 7 f) refl)
     (or-cases (isGot m) (isFirstReply m) e)
 
+-- and is no prepared reply
+pub got-unprepared : (m : Message) → isAnyGot m ≡ true → isPrepared m ≡ false
+got-unprepared m e =
+    ⊎-elim (λ f. rw (eqb-true (kindOf m) 5 f) refl) (λ f. rw (eqb-true (kindOf m) 7 f) refl)
+    (or-cases (isGot m) (isFirstReply m) e)
+
 -- ---- one message to an item
 
 only-counted : (b : Bool) (n j : ℕ) → counted (λ k. eqb k j) (only b n) ≡ cond (b && eqb n j) 1 0
@@ -166,3 +175,18 @@ origin = record { start = 0; stamp = 0; set = 0; values = λ k. 0 }
 
 abbrev pub known : List Write → List Write
 known writes = origin ∷ writes
+
+-- ---- the messages of a start are gets and prepares
+
+pub gets-none : (q : Message → Bool) (t : Tables) (d s : ℕ)
+    → ((k stamp : ℕ) → q (Get d k stamp) ≡ false) → Each (λ m. q m ≡ false) (gets t d s)
+gets-none q t d s none =
+    each-upto (λ m. q m ≡ false) (λ k. Get d k (asks t d k)) (t .sizes .items) (has s)
+    (λ k l h. none k (asks t d k))
+
+pub prepares-none : (q : Message → Bool) (t : Tables) (d s : ℕ) (bytes : List ℕ)
+    → ((u : Version) → q (Prepare u) ≡ false) → Each (λ m. q m ≡ false) (prepares t d s bytes)
+prepares-none q t d s bytes none =
+    each-upto (λ m. q m ≡ false)
+    (λ k. Prepare (version k (valueOf s bytes k) (nextStamp t d) s)) (t .sizes .items) (has s)
+    (λ k l h. none (version k (valueOf s bytes k) (nextStamp t d) s))

@@ -2,3 +2,4 @@
 pub mod Spans
 pub mod Own
 pub mod Fast
+pub mod Mixed

@@ -4,16 +4,18 @@
 use mathlib.Core.Bool.{Bool, true, false, not}
 use mathlib.Core.List.{List, [], _∷_}
 use mathlib.Core.Path.{_≡_, refl}
-use Prim.Native.Nat.{ℕ, _≤_}
+use Prim.Native.Nat.{ℕ, _+_, _≤_}
 use native.Mathlib.Omega.{arith}
 use lib.Dec.{leb}
 use lib.ListN.{length}
 use borrow.Author.Tests.{leb-false}
 use Rattle.basics.proofs.Cases.{by-test}
+use Rattle.itemset.specs.Set.{count}
 use Rattle.protocol.specs.Tables.{Sizes}
 use Rattle.protocol.specs.Range.{Capacities, sizesInRange, valid, load, occupied}
-use Rattle.protocol.specs.Calls.{Call, startRead, startFastRead, startWrite, deliver, show, clear}
-use Rattle.protocol.specs.Calls.{handOver, compare, Test, test, first, readTests, refusal}
+use Rattle.protocol.specs.Calls.{Call, startRead, startFastRead, startWrite, startMixed, deliver}
+use Rattle.protocol.specs.Calls.{show, clear, handOver, compare, Test, test, first, readTests}
+use Rattle.protocol.specs.Calls.{writeTests, refusal}
 use Rattle.condition3.specs.World.{World, begin, after}
 use Rattle.protocol.proofs.Ranges.Tables.{facts-valid}
 use Rattle.condition3.proofs.Link.{Inv}
@@ -67,17 +69,22 @@ module _ (caps : Capacities) (w : World) (inv : Inv caps w) where
       (mild-test 4 _ _ (omega arith)
       (mild-test 5 _ _ (omega arith) (mild-test 8 _ _ (omega arith) mild-none))))
 
-  pub mild : (c : Call) → Mild (refusal caps (w .tables) c)
-  unfolding refusal
-  mild (startRead d s) = mild-read d s
-  mild (startFastRead d s) = mild-read d s
-  mild (startWrite d s bytes) =
+  mild-write : (d : ℕ) (bad : Bool) (s : ℕ) (bytes : List ℕ) (joining : ℕ)
+      → Mild (first (writeTests caps (w .tables) d bad s bytes joining))
+  mild-write d bad s bytes joining =
       passes 1 _ _ is-valid
       (mild-test 3 _ _ (omega arith)
       (mild-test 4 _ _ (omega arith)
       (mild-test 5 _ _ (omega arith) (mild-test 6 _ _ (omega arith)
       (mild-test 17 _ _ (omega arith) (mild-test 7 _ _ (omega arith)
       (mild-test 8 _ _ (omega arith) (mild-test 9 _ _ (omega arith) mild-none))))))))
+
+  pub mild : (c : Call) → Mild (refusal caps (w .tables) c)
+  unfolding refusal
+  mild (startRead d s) = mild-read d s
+  mild (startFastRead d s) = mild-read d s
+  mild (startWrite d s bytes) = mild-write d _ s bytes (count s)
+  mild (startMixed d r s bytes) = mild-write d _ s bytes (count r + count s)
   mild (deliver i) =
       by-test (leb (length (w .tables .messages)) i)
       (λ e. passes 1 _ _ is-valid (applies 10 _ _ e (omega arith)))

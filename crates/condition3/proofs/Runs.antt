@@ -10,6 +10,7 @@ pub mod Spans
 pub mod WriteSpan
 pub mod Rising
 pub mod WriteShows
+pub mod Sends
 pub mod Own
 pub mod Provenance
 pub mod Deliverable
@@ -24,5 +25,6 @@ pub mod FastCounts
 pub mod Fresh
 pub mod Shows
 pub mod ReadShows
+pub mod Chosen
 pub mod Falls
 pub mod Freed

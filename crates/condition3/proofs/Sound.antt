@@ -12,6 +12,7 @@ pub mod Start
 pub mod StartRead
 pub mod StartFast
 pub mod StartWrite
+pub mod StartMixed
 pub mod Step
 pub mod DeliverPrepare
 pub mod DeliverPrepared

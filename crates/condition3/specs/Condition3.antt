@@ -3,7 +3,7 @@
 -- of the condition is one field, with the clause's own words above it; document 01's line is an
 -- item here, its desk a client, its cabinet a partition. It is proved for all capacities, all sizes
 -- that refusal 2 allows and all lists: `condition-3`, proofs/Condition3.antt.
-use mathlib.Core.Bool.{true, cond}
+use mathlib.Core.Bool.{Bool, true, false, cond}
 use mathlib.Core.List.{List, [], _∷_, _++_, map}
 use mathlib.Core.Logic.{_⊎_, _↔_}
 use mathlib.Core.Path.{_≡_}
@@ -18,27 +18,74 @@ use Rattle.protocol.specs.declared.Answer.the-variants.{Shown, Cleared}
 use Rattle.protocol.specs.Tables.{numberOf, writerOf, partitionOf}
 use Rattle.protocol.specs.Message.{partsOf, isPrepare, ownerOf}
 use Rattle.protocol.specs.Range.{Capacities}
-use Rattle.protocol.specs.Steps.{nextStamp}
-use Rattle.protocol.specs.Calls.{Call, startRead, startFastRead, startWrite, deliver, show, clear}
-use Rattle.protocol.specs.Calls.{handOver, refusal, step}
+use Rattle.protocol.specs.Steps.{asks, nextStamp, commits, valueOf}
+use Rattle.protocol.specs.Calls.{Call, startRead, startFastRead, startWrite, startMixed, deliver}
+use Rattle.protocol.specs.Calls.{show, clear, handOver, refusal, step}
 use Rattle.condition3.specs.World.{World, Labelled, Write, Store, placed, begun, storing}
-use Rattle.condition3.specs.World.{after, joiningOver, leavingOver, isRequest, isReply}
-use Rattle.condition3.specs.World.{isRequestFor, isReplyFor, isFirstReplyFor, isGotFor}
-use Rattle.condition3.specs.World.{isReadMessage, outcomeIn, endsFor, stays, rests}
+use Rattle.condition3.specs.World.{joining, after, joiningOver, leavingOver, isRequest}
+use Rattle.condition3.specs.World.{isReply, isPreparedReply, isPrepareOf, isCommitOf}
+use Rattle.condition3.specs.World.{isRequestFor, isReplyFor, isPreparedReplyFor, isPrepareFor}
+use Rattle.condition3.specs.World.{isFirstReplyFor, isGotFor, isReadMessage, outcomeIn}
+use Rattle.condition3.specs.World.{endsFor, stays, rests}
 
--- ---- How a read is made: as an ordinary one, or as a fast one (document 02, P7)
+-- ---- How a read is made
+
+-- as an ordinary one, as a fast one (document 02, P7), or as the read part of a mixed transaction,
+-- beside a write of a set with these value bytes (P8)
 
 pub data Manner : Type 0 where
   ordinary fast : Manner
+  writing : (set : ℕ) (values : List ℕ) → Manner
 
--- its start, and its log frame's first byte
+-- its start, its log frame's first byte and length
 abbrev pub startOf : Manner → ℕ → ℕ → Call
 startOf ordinary d s = startRead d s
 startOf fast d s = startFastRead d s
+startOf (writing z bytes) d s = startMixed d s z bytes
 
 abbrev pub byteOf : Manner → ℕ
 byteOf ordinary = 0x21
 byteOf fast = 0x23
+byteOf (writing z bytes) = 0x24
+
+abbrev pub lengthOf : Manner → ℕ → ℕ
+lengthOf ordinary s = 10 + 9 * count s
+lengthOf fast s = 10 + 9 * count s
+lengthOf (writing z bytes) s = 22 + 9 * count s + 4 * count z
+
+-- it asks for stamps that its client's view shows: 'the read part [of a mixed transaction] keeps an
+-- ordinary read's promises' (P8)
+abbrev pub byView : Manner → Bool
+byView ordinary = true
+byView fast = false
+byView (writing z bytes) = true
+
+-- ---- How a write is made: alone, or as the write part of a mixed transaction that reads a set
+
+pub data Company : Type 0 where
+  alone : Company
+  reading : (set : ℕ) → Company
+
+-- its start, its log frame's head and length, and where in it the write's set and number stand
+abbrev pub startWith : Company → ℕ → ℕ → List ℕ → Call
+startWith alone d z bytes = startWrite d z bytes
+startWith (reading s) d z bytes = startMixed d s z bytes
+
+abbrev pub headWith : Company → ℕ → ℕ → List ℕ
+headWith alone d z = 0x20 ∷ d ∷ bigEndian 8 z
+headWith (reading s) d z = 0x24 ∷ d ∷ bigEndian 8 s
+
+abbrev pub lengthWith : Company → ℕ → ℕ
+lengthWith alone z = 14 + 4 * count z
+lengthWith (reading s) z = 22 + 9 * count s + 4 * count z
+
+abbrev pub setWith : Company → ℕ
+setWith alone = 2
+setWith (reading s) = 10 + 9 * count s
+
+abbrev pub numberWith : Company → ℕ
+numberWith alone = 10
+numberWith (reading s) = 18 + 9 * count s
 
 -- ---- What a showing tells, in its output bytes: of a read of s, of each item k
 
@@ -53,9 +100,16 @@ shownWriter s output k = numberAt 1 output (14 + 9 * rank s k)
 abbrev pub shownValue : ℕ → List ℕ → ℕ → ℕ
 shownValue s output k = numberAt 4 output (15 + 9 * rank s k)
 
--- of a write: its number, behind kind, client and set
-abbrev pub shownOwnNumber : List ℕ → ℕ
-shownOwnNumber output = numberAt 4 output 10
+-- of a write: its set and number, behind kind and client, and in a mixed transaction what it read
+abbrev pub shownOwnSet : Company → List ℕ → ℕ
+shownOwnSet κ output = numberAt 8 output (setWith κ)
+
+abbrev pub shownOwnNumber : Company → List ℕ → ℕ
+shownOwnNumber κ output = numberAt 4 output (numberWith κ)
+
+-- and behind the number the values (4 each), of a write of z that of item k at its rank
+abbrev pub shownOwnValue : Company → ℕ → List ℕ → ℕ → ℕ
+shownOwnValue κ z output k = numberAt 4 output (numberWith κ + 4 + 4 * rank z k)
 
 -- 'An entry shown with number, desk and value 0 is initial'
 abbrev pub Initial : ℕ → List ℕ → ℕ → Type 0
@@ -113,9 +167,9 @@ module _ (caps : Capacities) (w : World) where
   -- hand-over to that client, and it counted as the giver's own before that ('writes the giver had
   -- ended or inherited before the handover count as the receiver's own', document 02, P6)
   pub data Own (e v : ℕ) (bytes : List ℕ) (earlier : List Call) : ℕ → List Call → Type 0 where
-    own : (before meanwhile : List Call) (finish : Call) (later : List Call)
-        → before ≡ earlier ++ startWrite e v bytes ∷ meanwhile ++ finish ∷ later
-        → EndedBy e (startWrite e v bytes) earlier meanwhile finish
+    own : (κ : Company) (before meanwhile : List Call) (finish : Call) (later : List Call)
+        → before ≡ earlier ++ startWith κ e v bytes ∷ meanwhile ++ finish ∷ later
+        → EndedBy e (startWith κ e v bytes) earlier meanwhile finish
         → Own e v bytes earlier e before
     inherited : (giver client : ℕ) (before above below : List Call)
         → before ≡ above ++ handOver giver client ∷ below
@@ -181,10 +235,10 @@ module _ (caps : Capacities) (w : World) where
   pub record Shows (calls : List Call) (μ : Manner) (d s : ℕ) (before during : List Call)
       (end : Call) (until : List Call) (room : List ℕ) : Type 0 where
     -- 'A read shows what a showing of its desk with room enough gives after its end and before the
-    -- desk's next start': it is accepted, and the frame's head is `21`, or `23` of a fast read,
-    -- client, set
+    -- desk's next start': it is accepted, and the frame's head is `21`, `23` of a fast read or `24`
+    -- of a mixed transaction, client, set
     pub shown : step caps (shownAt (startOf μ d s) before during end until .tables)
-        (show d room) .answer ≡ Shown (10 + 9 * count s)
+        (show d room) .answer ≡ Shown (lengthOf μ s)
     pub head : take 10 (outputOfRead μ d s before during end until room)
         ≡ byteOf μ ∷ d ∷ bigEndian 8 s
     -- 'wherever it shows an entry of a write that also wrote another line it shows, that other line
@@ -213,7 +267,7 @@ module _ (caps : Capacities) (w : World) where
     -- 'no entry is older than a write of that line which the desk itself had ended before starting
     -- the read', with those that count as its own after a hand-over 'for reads started after it'; a
     -- fast read 'may miss the desk's own uncommitted write' (document 02, P7)
-    pub own : μ ≡ ordinary
+    pub own : byView μ ≡ true
         → (e v : ℕ) (bytes : List ℕ) (earlier : List Call) → Own e v bytes earlier d before
         → (k : ℕ) → has s k ≡ true → has v k ≡ true
         → ShownOlder s (outputOfRead μ d s before during end until room) k
@@ -254,13 +308,14 @@ module _ (caps : Capacities) (w : World) where
         ↔ (In a (w .writes) ⊎ AddedBy begun calls a)
     pub preparations : (σ : Store) → In σ (after caps w calls .stores)
         ↔ (In σ (w .stores) ⊎ AddedBy storing calls σ)
-    -- 'after it every read of n lines has exactly one message in the pile for each line it awaits'
-    pub oneMessage : (before during rest : List Call) (d s : ℕ)
-        → calls ≡ before ++ startRead d s ∷ during ++ rest
-        → UnderWay d (startRead d s) before during
+    -- 'after it every read of n lines has exactly one message in the pile for each line it awaits',
+    -- the read part of a mixed transaction too
+    pub oneMessage : (μ : Manner) → byView μ ≡ true → (before during rest : List Call) (d s : ℕ)
+        → calls ≡ before ++ startOf μ d s ∷ during ++ rest
+        → UnderWay d (startOf μ d s) before during
         → (k : ℕ) → has s k ≡ true
-        → counted (isReplyFor d k) (came (startRead d s) before during) ≡ 0
-        → counted (isReadMessage d k) (now (startRead d s) before during .inFlight) ≡ 1
+        → counted (isReplyFor d k) (came (startOf μ d s) before during) ≡ 0
+        → counted (isReadMessage d k) (now (startOf μ d s) before during .inFlight) ≡ 1
     -- and a fast read for each line it awaits, in either part
     pub oneMessageFast : (before during rest : List Call) (d s : ℕ)
         → calls ≡ before ++ startFastRead d s ∷ during ++ rest
@@ -284,6 +339,18 @@ module _ (caps : Capacities) (w : World) where
         < counted (isRequest d) (sent (startFastRead d s) before during))
         × (counted (isReply d) (came (startFastRead d s) before (during ++ c ∷ []))
         ≡ counted (isRequest d) (sent (startFastRead d s) before (during ++ c ∷ []))))
+    -- of a mixed transaction the delivery of the last reply of either kind: it 'ends with the last
+    -- reply of either kind' (document 02, P8)
+    pub endsMixed : (before during rest : List Call) (d s z : ℕ) (bytes : List ℕ) (c : Call)
+        → calls ≡ before ++ startMixed d s z bytes ∷ during ++ c ∷ rest
+        → UnderWay d (startMixed d s z bytes) before during
+        → (endsFor caps (now (startMixed d s z bytes) before during) d c ≡ true)
+        ↔ ((counted (isReply d) (came (startMixed d s z bytes) before during)
+        + counted (isPreparedReply d) (came (startMixed d s z bytes) before during)
+        < count s + count z)
+        × (counted (isReply d) (came (startMixed d s z bytes) before (during ++ c ∷ [])) ≡ count s)
+        × (counted (isPreparedReply d) (came (startMixed d s z bytes) before (during ++ c ∷ []))
+        ≡ count z))
     -- and none after it, up to the client's next accepted start
     pub silent : (μ : Manner) (before during until rest : List Call) (d s : ℕ) (end : Call)
         → calls ≡ before ++ startOf μ d s ∷ during ++ end ∷ until ++ rest
@@ -336,72 +403,128 @@ module _ (caps : Capacities) (w : World) where
         ≤ cond (has s k) 2 0)
         × (counted (isFirstReplyFor d k) (came (startFastRead d s) before (during ++ c ∷ [])) ≤ 1)
         × (counted (isGotFor d k) (came (startFastRead d s) before (during ++ c ∷ [])) ≤ 1)
+    -- of a mixed transaction as of a read, with as many prepared replies as lines written, one for
+    -- each; its outcome is 02
+    pub countsMixed : (before during rest : List Call) (d s z : ℕ) (bytes : List ℕ) (end : Call)
+        → calls ≡ before ++ startMixed d s z bytes ∷ during ++ end ∷ rest
+        → EndedBy d (startMixed d s z bytes) before during end
+        → (counted (isRequest d) (sent (startMixed d s z bytes) before (during ++ end ∷ []))
+        ≡ count s)
+        × (counted (isReply d) (came (startMixed d s z bytes) before (during ++ end ∷ []))
+        ≡ count s)
+        × ((k : ℕ) → has s k ≡ true
+        → counted (isReplyFor d k) (came (startMixed d s z bytes) before (during ++ end ∷ [])) ≡ 1)
+        × (counted (isPreparedReply d) (came (startMixed d s z bytes) before (during ++ end ∷ []))
+        ≡ count z)
+        × ((k : ℕ) → has z k ≡ true → counted (isPreparedReplyFor d k)
+        (came (startMixed d s z bytes) before (during ++ end ∷ [])) ≡ 1)
+        × (outcomeIn (step caps (now (startMixed d s z bytes) before during .tables) end .answer)
+        ≡ 2)
+    -- of a write, alone or in a mixed transaction: with its start it sends as many prepares as
+    -- lines written, one for each. Until its end it sends no other, and no commit. 'Written lines
+    -- enter the view and commits go then' (document 02, P8): one to each cabinet touched, and the
+    -- view has that write or a later one on each line
+    pub commitsThen : (κ : Company) (before during rest : List Call) (d z : ℕ)
+        (written : List ℕ) (c : Call)
+        → calls ≡ before ++ startWith κ d z written ∷ during ++ c ∷ rest
+        → UnderWay d (startWith κ d z written) before during
+        → (counted (isPrepareOf d) (sent (startWith κ d z written) before during) ≡ count z)
+        × ((k : ℕ) → has z k ≡ true
+        → counted (isPrepareFor d k) (sent (startWith κ d z written) before during) ≡ 1)
+        × (counted (isCommitOf d) (sent (startWith κ d z written) before during) ≡ 0)
+        × (endsFor caps (now (startWith κ d z written) before during) d c ≡ true
+        → (map (λ l. l .message) (joining (now (startWith κ d z written) before during) c)
+        ≡ commits (now (startWith κ d z written) before during .tables) z
+        (nextStamp (after caps w before .tables) d))
+        × ((k : ℕ) → has z k ≡ true → nextStamp (after caps w before .tables) d
+        ≤ now (startWith κ d z written) before (during ++ c ∷ []) .tables .view d k .stamp))
     -- what the read shows
     pub shows : (μ : Manner) (before during until rest : List Call) (d s : ℕ) (end : Call)
         (room : List ℕ)
         → calls ≡ before ++ startOf μ d s ∷ during ++ end ∷ until ++ show d room ∷ rest
         → EndedBy d (startOf μ d s) before during end
         → rests caps (shownAt (startOf μ d s) before during end []) d until ≡ true
-        → 10 + 9 * count s ≤ length room
+        → lengthOf μ s ≤ length room
         → Shows calls μ d s before during end until room
+    -- 'Its reads show the entries chosen at the start, also for lines it writes' (document 02, P8):
+    -- a mixed transaction shows each line it reads with the stamp that its start asks for. That is
+    -- older than its own write: it means 'reading the old entry and writing the new'
+    pub showsChosen : (before during until rest : List Call) (d s z : ℕ) (bytes : List ℕ)
+        (end : Call) (room : List ℕ)
+        → calls ≡ before ++ startMixed d s z bytes ∷ during ++ end ∷ until ++ show d room ∷ rest
+        → EndedBy d (startMixed d s z bytes) before during end
+        → rests caps (shownAt (startMixed d s z bytes) before during end []) d until ≡ true
+        → lengthOf (writing z bytes) s ≤ length room
+        → (k : ℕ) → has s k ≡ true
+        → ShownWith s (outputOfRead (writing z bytes) d s before during end until room) k
+        (asks (after caps w before .tables) d k)
+        × (shownNumber s (outputOfRead (writing z bytes) d s before during end until room) k
+        < shownOwnNumber (reading s)
+        (outputOfRead (writing z bytes) d s before during end until room))
     -- 'Each write is later than every entry its desk was shown before' (document 02, P1): whatever
     -- a read showed is older than each write that its client starts after the showing
     pub wins : (μ : Manner) (before during until between rest : List Call) (d s : ℕ) (end : Call)
-        (room : List ℕ) (v : ℕ) (bytes : List ℕ)
+        (room : List ℕ) (κ : Company) (v : ℕ) (bytes : List ℕ)
         → calls ≡ before ++ startOf μ d s ∷ during ++ end ∷ until ++ show d room ∷ between
-        ++ startWrite d v bytes ∷ rest
+        ++ startWith κ d v bytes ∷ rest
         → EndedBy d (startOf μ d s) before during end
         → rests caps (shownAt (startOf μ d s) before during end []) d until ≡ true
-        → 10 + 9 * count s ≤ length room
+        → lengthOf μ s ≤ length room
         → refusal caps (later d (startOf μ d s) before during end until room between .tables)
-        (startWrite d v bytes) ≡ 0
+        (startWith κ d v bytes) ≡ 0
         → (k : ℕ) → has s k ≡ true
         → ShownOlder s (outputOfRead μ d s before during end until room) k
         (nextStamp (later d (startOf μ d s) before during end until room between .tables) d)
-    -- what a write shows: a frame of head `20`, client, set, with the write's own number behind it
-    pub showsOwn : (before during until rest : List Call) (d z : ℕ) (written : List ℕ)
-        (end : Call) (room : List ℕ)
-        → calls ≡ before ++ startWrite d z written ∷ during ++ end ∷ until ++ show d room ∷ rest
-        → EndedBy d (startWrite d z written) before during end
-        → rests caps (shownAt (startWrite d z written) before during end []) d until ≡ true
-        → 14 + 4 * count z ≤ length room
-        → (step caps (shownAt (startWrite d z written) before during end until .tables)
-        (show d room) .answer ≡ Shown (14 + 4 * count z))
-        × (take 10 (output d (startWrite d z written) before during end until room)
-        ≡ 0x20 ∷ d ∷ bigEndian 8 z)
-        × (shownOwnNumber (output d (startWrite d z written) before during end until room)
+    -- what a write shows: a frame of head `20`, client, set, with the write's own number behind it.
+    -- Then comes each line's value, as its start brought it. In a mixed transaction set, number and
+    -- values stand in the frame `24` behind what was read
+    pub showsOwn : (κ : Company) (before during until rest : List Call) (d z : ℕ)
+        (written : List ℕ) (end : Call) (room : List ℕ)
+        → calls ≡ before ++ startWith κ d z written ∷ during ++ end ∷ until ++ show d room ∷ rest
+        → EndedBy d (startWith κ d z written) before during end
+        → rests caps (shownAt (startWith κ d z written) before during end []) d until ≡ true
+        → lengthWith κ z ≤ length room
+        → (step caps (shownAt (startWith κ d z written) before during end until .tables)
+        (show d room) .answer ≡ Shown (lengthWith κ z))
+        × (take 10 (output d (startWith κ d z written) before during end until room)
+        ≡ headWith κ d z)
+        × (shownOwnSet κ (output d (startWith κ d z written) before during end until room) ≡ z)
+        × (shownOwnNumber κ (output d (startWith κ d z written) before during end until room)
         ≡ numberOf (nextStamp (after caps w before .tables) d))
+        × ((k : ℕ) → has z k ≡ true
+        → shownOwnValue κ z (output d (startWith κ d z written) before during end until room) k
+        ≡ valueOf z written k)
     -- and that number is smaller than each that a later write of its client takes
-    pub winsOwn : (before during until between rest : List Call) (d z : ℕ) (written : List ℕ)
-        (end : Call) (room : List ℕ) (v : ℕ) (bytes : List ℕ)
-        → calls ≡ before ++ startWrite d z written ∷ during ++ end ∷ until ++ show d room ∷ between
-        ++ startWrite d v bytes ∷ rest
-        → EndedBy d (startWrite d z written) before during end
-        → rests caps (shownAt (startWrite d z written) before during end []) d until ≡ true
-        → 14 + 4 * count z ≤ length room
-        → refusal caps (later d (startWrite d z written) before during end until room
-        between .tables) (startWrite d v bytes) ≡ 0
-        → shownOwnNumber (output d (startWrite d z written) before during end until room)
-        < numberOf (nextStamp (later d (startWrite d z written) before during end until room
+    pub winsOwn : (κ κ′ : Company) (before during until between rest : List Call) (d z : ℕ)
+        (written : List ℕ) (end : Call) (room : List ℕ) (v : ℕ) (bytes : List ℕ)
+        → calls ≡ before ++ startWith κ d z written ∷ during ++ end ∷ until ++ show d room
+        ∷ between ++ startWith κ′ d v bytes ∷ rest
+        → EndedBy d (startWith κ d z written) before during end
+        → rests caps (shownAt (startWith κ d z written) before during end []) d until ≡ true
+        → lengthWith κ z ≤ length room
+        → refusal caps (later d (startWith κ d z written) before during end until room
+        between .tables) (startWith κ′ d v bytes) ≡ 0
+        → shownOwnNumber κ (output d (startWith κ d z written) before during end until room)
+        < numberOf (nextStamp (later d (startWith κ d z written) before during end until room
         between .tables) d)
     -- 'Two reads of one line by one desk, the second started after the first ended, then show
     -- stamps that never fall' (document 02, P2). The first shows before its client's next start, so
     -- before the second's. The first may be a fast read, the second not: a fast read's 'stamps may
-    -- fall against earlier reads' (P7).
-    pub neverFalls : (μ : Manner)
-        (before during until between before′ during′ until′ rest : List Call)
+    -- fall against earlier reads' (P7). Either may be the read part of a mixed transaction (P8).
+    pub neverFalls : (μ μ′ : Manner) → byView μ′ ≡ true
+        → (before during until between before′ during′ until′ rest : List Call)
         (d s s′ : ℕ) (end end′ : Call) (room room′ : List ℕ)
         → before′ ≡ before ++ startOf μ d s ∷ during ++ end ∷ until ++ show d room ∷ between
-        → calls ≡ before′ ++ startRead d s′ ∷ during′ ++ end′ ∷ until′ ++ show d room′ ∷ rest
+        → calls ≡ before′ ++ startOf μ′ d s′ ∷ during′ ++ end′ ∷ until′ ++ show d room′ ∷ rest
         → EndedBy d (startOf μ d s) before during end
         → rests caps (shownAt (startOf μ d s) before during end []) d until ≡ true
-        → 10 + 9 * count s ≤ length room
-        → EndedBy d (startRead d s′) before′ during′ end′
-        → rests caps (shownAt (startRead d s′) before′ during′ end′ []) d until′ ≡ true
-        → 10 + 9 * count s′ ≤ length room′
+        → lengthOf μ s ≤ length room
+        → EndedBy d (startOf μ′ d s′) before′ during′ end′
+        → rests caps (shownAt (startOf μ′ d s′) before′ during′ end′ []) d until′ ≡ true
+        → lengthOf μ′ s′ ≤ length room′
         → (k : ℕ) → has s k ≡ true → has s′ k ≡ true
         → Falls s (outputOfRead μ d s before during end until room) s′
-        (outputOfRead ordinary d s′ before′ during′ end′ until′ room′) k → ⊥
+        (outputOfRead μ′ d s′ before′ during′ end′ until′ room′) k → ⊥
     -- what is latest of a line: no older than a write of the line whose commit its cabinet has got,
     -- and what such a commit brought, where it isn't w's own still (in freshly made tables initial)
     pub latestCommitted : (before rest : List Call) → calls ≡ before ++ rest → (k : ℕ)
@@ -419,13 +542,13 @@ module _ (caps : Capacities) (w : World) where
         ≡ length (after caps w before .tables .versions))
     -- 'The freed places serve the next writes': a write isn't refused by 9 as long as its items and
     -- the prepares that have joined since are no more than the versions that went
-    pub serves : (before between rest : List Call) (n d s : ℕ) (bytes : List ℕ)
-        → calls ≡ before ++ clear ∷ between ++ startWrite d s bytes ∷ rest
+    pub serves : (κ : Company) (before between rest : List Call) (n d s : ℕ) (bytes : List ℕ)
+        → calls ≡ before ++ clear ∷ between ++ startWith κ d s bytes ∷ rest
         → step caps (after caps w before .tables) clear .answer ≡ Cleared n
         → counted (λ l. isPrepare (l .message)) (joiningOver caps
         (after caps w (before ++ clear ∷ [])) between) + count s ≤ n
         → refusal caps (after caps w (before ++ clear ∷ between) .tables)
-        (startWrite d s bytes) ≡ 9 → ⊥
+        (startWith κ d s bytes) ≡ 9 → ⊥
     -- 'a delivery at any place within the pile is accepted'
     -- and so, 'with clearings among the calls', a read 'meets no 12' (document 02, P5)
     pub deliverable : (before rest : List Call) → calls ≡ before ++ rest

@@ -13,7 +13,8 @@ use Rattle.protocol.specs.declared.Answer.{Answer}
 use Rattle.protocol.specs.declared.Answer.the-variants.{Refused, Made, Started, Delivered, Shown}
 use Rattle.protocol.specs.declared.Answer.the-variants.{Cleared, HandedOver, Compared}
 use Rattle.protocol.specs.Tables.{Tables, Sizes, WritePart, fresh}
-use Rattle.protocol.specs.Message.{isGot, isFirstReply, isAnyGet, isAnyGot, itemOf}
+use Rattle.protocol.specs.Message.{isPrepare, isPrepared, isCommit, isGot, isFirstReply, isAnyGet}
+use Rattle.protocol.specs.Message.{isAnyGot, itemOf}
 use Rattle.protocol.specs.Range.{Capacities}
 use Rattle.protocol.specs.Calls.{isStart, Call, refusal, Origin, nobody, starts, follows, Effects}
 use Rattle.protocol.specs.Calls.{effects, effect, step}
@@ -157,6 +158,18 @@ isRequest d l = eqb (l .label .client) d && isAnyGet (l .message)
 abbrev pub isReply : ℕ → Labelled → Bool
 isReply d l = eqb (l .label .client) d && isAnyGot (l .message)
 
+-- a prepared reply of client d: with the gots, one of the replies 'of either kind' that a mixed
+-- transaction awaits (document 02, P8)
+abbrev pub isPreparedReply : ℕ → Labelled → Bool
+isPreparedReply d l = eqb (l .label .client) d && isPrepared (l .message)
+
+-- a prepare and a commit of client d
+abbrev pub isPrepareOf : ℕ → Labelled → Bool
+isPrepareOf d l = eqb (l .label .client) d && isPrepare (l .message)
+
+abbrev pub isCommitOf : ℕ → Labelled → Bool
+isCommitOf d l = eqb (l .label .client) d && isCommit (l .message)
+
 -- of client d for item k: a request, a reply, and either of the two
 abbrev pub isRequestFor : ℕ → ℕ → Labelled → Bool
 isRequestFor d k l = isRequest d l && eqb (itemOf (l .message)) k
@@ -164,15 +177,23 @@ isRequestFor d k l = isRequest d l && eqb (itemOf (l .message)) k
 abbrev pub isReplyFor : ℕ → ℕ → Labelled → Bool
 isReplyFor d k l = isReply d l && eqb (itemOf (l .message)) k
 
+abbrev pub isReadMessage : ℕ → ℕ → Labelled → Bool
+isReadMessage d k l = (isRequest d l || isReply d l) && eqb (itemOf (l .message)) k
+
+-- a prepared reply
+abbrev pub isPreparedReplyFor : ℕ → ℕ → Labelled → Bool
+isPreparedReplyFor d k l = isPreparedReply d l && eqb (itemOf (l .message)) k
+
+-- a prepare
+abbrev pub isPrepareFor : ℕ → ℕ → Labelled → Bool
+isPrepareFor d k l = isPrepareOf d l && eqb (itemOf (l .message)) k
+
 -- a reply of one kind: a first reply, a got
 abbrev pub isFirstReplyFor : ℕ → ℕ → Labelled → Bool
 isFirstReplyFor d k l = isReplyFor d k l && isFirstReply (l .message)
 
 abbrev pub isGotFor : ℕ → ℕ → Labelled → Bool
 isGotFor d k l = isReplyFor d k l && isGot (l .message)
-
-abbrev pub isReadMessage : ℕ → ℕ → Labelled → Bool
-isReadMessage d k l = (isRequest d l || isReply d l) && eqb (itemOf (l .message)) k
 
 -- ---- Ends
 

@@ -10,16 +10,18 @@ use Rattle.protocol.specs.declared.Version.{Version}
 use Rattle.protocol.specs.declared.Message.{Message}
 use Rattle.protocol.specs.declared.Message.the-variants.{Commit}
 use Rattle.protocol.specs.Tables.{Tables, withMessages}
-use Rattle.protocol.specs.Steps.{messageAt, deliveredAt}
-use Rattle.protocol.specs.Calls.{deliver, effect}
-use Rattle.protocol.proofs.Refusals.{AcceptedDeliver, accepted-deliver, accepted-message}
-use Rattle.protocol.proofs.Valid.{valid-kept}
-use Rattle.protocol.specs.Range.{capacities}
+use Rattle.protocol.specs.Steps.{messageAt, delivered, deliveredAt}
+use Rattle.protocol.specs.Calls.{effect}
+use Rattle.protocol.proofs.Refusals.{AcceptedDeliver, accepted-message}
+use Rattle.protocol.proofs.Load.{load-deliver}
+use Rattle.protocol.proofs.Occupied.{occupied-deliver}
+use Rattle.protocol.proofs.Kept.Deliveries.{range-delivered}
+use Rattle.protocol.specs.Range.{capacities, load, occupied}
 use Rattle.layout.specs.Layout.{header, at, messagesAt, versionsAt}
 use Rattle.layout.specs.Decode.{messageIn}
 use Rattle.layout.specs.Store.{takeOut}
 use Rattle.layout.specs.Encodes.{Encodes}
-use Rattle.layout.proofs.Room.{HasRoom, room-valid}
+use Rattle.layout.proofs.Room.{HasRoom, narrow-client, room-valid}
 use Rattle.layout.proofs.Held.{message-held}
 use Rattle.messages.proofs.EncodesTakeOut.{encodes-take-out}
 use Rattle.deliver.specs.declared.Counts.{Counts}
@@ -30,9 +32,20 @@ use Rattle.deliver_tests.proofs.TestedTables.{answerOf, tested-tables}
 
 -- room for what an accepted delivery leaves
 room-after : (t : Tables) (i : ℕ) → AcceptedDeliver capacities t i → HasRoom (deliveredAt t i)
-unfolding effect
-room-after t i a = room-valid (deliveredAt t i)
-    (valid-kept capacities t (deliver i) (accepted-deliver capacities t i .1 a))
+unfolding effect load occupied
+room-after t i a =
+    let m = messageAt t i in
+    let r = range-delivered t m (a .valid .inRange) (accepted-message capacities t i a)
+    (a .expected) in
+    let z = r .sizes in
+    record {
+      clients = z .clients;
+      items = z .items;
+      versions = omega (arith, occupied-deliver capacities t i a, a .valid .occupied);
+      messages = omega (arith, load-deliver capacities t i a, a .valid .load);
+      client = λ d l h. narrow-client (delivered t m .sizes) (z .items) (delivered t m .client d)
+          (r .client d (l, h));
+    }
 
 counts-held : {b : List ℕ} {t : Tables} → Encodes b t → countsIn b ≡ countsOf t
 counts-held n = rw (n .partitions, n .items, n .versionCount) refl

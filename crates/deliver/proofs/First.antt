@@ -3,8 +3,8 @@
 -- begins, or the client rests.
 use mathlib.Core.Bool.{true, false}
 use mathlib.Core.List.{List, [], _++_, append-nil}
-use mathlib.Core.Path.{_≡_, refl, sym, _∙_, subst}
-use Prim.Native.Nat.{ℕ, zero, suc, _≤_, _<_}
+use mathlib.Core.Path.{_≡_, refl, sym, ap, _∙_, subst}
+use Prim.Native.Nat.{ℕ, zero, suc, _^_, _≤_, _<_}
 use native.Mathlib.Omega.{arith}
 use lib.Dec.{eqb, lit<}
 use lib.ListN.{length}
@@ -24,10 +24,12 @@ use Rattle.protocol.specs.Steps.{ended, delivered, joined}
 use Rattle.protocol.proofs.FastRead.{first-come, first-other}
 use Rattle.protocol.proofs.Put.{put-same, put-other, put-every}
 use Rattle.protocol.proofs.Ranges.Clients.{ClientInRange}
-use Rattle.layout.specs.Layout.{mostMessages, scalars, values, firsts, store, awaitedAt}
-use Rattle.layout.specs.Encodes.{Encodes, HoldsClient}
+use Rattle.layout.specs.Layout.{mostMessages, scalars, values, firsts, at, store, modeAt}
+use Rattle.layout.specs.Layout.{awaitedAt, isMixedMode}
+use Rattle.layout.specs.Encodes.{writesAlone, Encodes, HoldsClient}
+use Rattle.slots.proofs.Chosen.{unless}
 use Rattle.layout.proofs.Room.{NarrowClient, HasRoom}
-use Rattle.layout.proofs.Parts.{awaits-answer, awaits-busy}
+use Rattle.layout.proofs.Parts.{awaits-busy, mode-both}
 use Rattle.layout.proofs.RowEntries.{entriesOf, putEntry, entries-put}
 use Rattle.layout.proofs.ClientWords.{Words, wordsOf, putWord, withRow, row-same}
 use Rattle.layout.proofs.ClientHolds.{WordsHold, WordsRest, words-hold}
@@ -48,7 +50,7 @@ module _ {b : List ℕ} (t : Tables) (ms : List Message) (d : ℕ) (v : Version)
     (n : Encodes b (withMessages t ms)) (r : HasRoom (withMessages t ms)) (first : 1 ≤ d)
     (last : d ≤ t .sizes .clients) (item : v .item < t .sizes .items)
     (range : ClientInRange (t .sizes) (t .client d)) (byItem : t .client d .read .stage ≡ 1)
-    (awaits : has (t .client d .read .awaited) (v .item) ≡ true) where
+    (awaits : has (t .client d .read .awaited) (v .item) ≡ true) (fits : v .value < 2 ^ 32) where
   abbrev c : Client
   c = t .client d
 
@@ -63,7 +65,16 @@ module _ {b : List ℕ} (t : Tables) (ms : List Message) (d : ℕ) (v : Version)
   k = withRead c p
 
   reads : isWriting c ≡ false
-  reads = awaits-answer (t .sizes) c range (v .item) awaits
+  reads = rw (range .fast (λ e. absurd (omega (arith, e, byItem))) .0) refl
+
+  reading : writesAlone c ≡ false
+  reading = rw reads refl
+
+  -- so that its words are one value each
+  unmixed : isMixedMode (at (seenBlock b d v latest) scalars (modeAt d)) ≡ false
+  unmixed =
+      ap isMixedMode (held-later d v latest n r first last item .mode)
+      ∙ mode-both (t .sizes) c range ∙ rw reads refl
 
   busy : isIdle c ≡ false
   busy = awaits-busy (t .sizes) c range ofRead (v .item) awaits
@@ -95,9 +106,10 @@ module _ {b : List ℕ} (t : Tables) (ms : List Message) (d : ℕ) (v : Version)
       (v .item) (entryOf v) (omega (arith, r .items))
 
   answers : (j : ℕ) → has (c .read .set) j ≡ true
-      → put (wordsOf (seenBlock b d v latest) d values) (v .item) (v .value) j
-      ≡ put (c .read .values) (v .item) (v .value) j
-  answers = answers-held d v latest n r first last item reads
+      → answerWords b d v latest values j ≡ put (c .read .values) (v .item) (v .value) j
+  answers j e =
+      unless _ _ _ _ unmixed refl
+      ∙ answers-held d v latest n r first last item fits reading j e
 
   replies : (j : ℕ) → hasFirst p j ≡ true
       → entriesOf (putEntry row (v .item) (entryOf v)) j ≡ p .firsts j
@@ -107,7 +119,7 @@ module _ {b : List ℕ} (t : Tables) (ms : List Message) (d : ℕ) (v : Version)
       → put (entriesOf row) (v .item) (entryOf v) i ≡ x) (c .read .firsts) (v .item) (entryOf v)
       (λ h. put-same (entriesOf row) (v .item) (entryOf v))
       (λ i other h. put-other (entriesOf row) (v .item) (entryOf v) i other
-      ∙ held .read reads .firsts i (sym (first-other (c .read) v i other) ∙ h)) j e
+      ∙ held .read reading .firsts i (sym (first-other (c .read) v i other) ∙ h)) j e
 
   narrow : NarrowClient k
   narrow =
@@ -129,7 +141,7 @@ module _ {b : List ℕ} (t : Tables) (ms : List Message) (d : ℕ) (v : Version)
       hold : WordsHold (putWord keptWords scalars 3 (p .awaited)) k
       hold =
           let own = words-hold held in
-          let read = held .read reads in
+          let read = held .read reading in
           record {
             mode = own .mode ∙ rw (busy, more) refl;
             read = λ x. record {
@@ -137,7 +149,7 @@ module _ {b : List ℕ} (t : Tables) (ms : List Message) (d : ℕ) (v : Version)
               awaited = refl;
               stage = read .stage;
               asked = read .asked;
-              values = answers;
+              values = answers-held d v latest n r first last item fits reading;
               firsts = replies;
             };
             write = λ x. not-both x reads;
@@ -158,7 +170,7 @@ module _ {b : List ℕ} (t : Tables) (ms : List Message) (d : ℕ) (v : Version)
     rest = words-hold held .rest
 
     set : keptWords scalars 2 ≡ p .set
-    set = held .read reads .set
+    set = held .read reading .set
 
     all-replies : (j : ℕ) → has (c .read .set) j ≡ true
         → entriesOf (putEntry row (v .item) (entryOf v)) j ≡ p .firsts j
@@ -186,7 +198,7 @@ module _ {b : List ℕ} (t : Tables) (ms : List Message) (d : ℕ) (v : Version)
       (ms ++ joined t (FirstReply d v latest)))
   unfolding firstDelivered delivered joined
   encodes-first room =
-      rw (n .client d first last .read reads .awaited)
+      rw (n .client d first last .read reading .awaited)
       (by-test (eqb (p .awaited) 0)
       (λ over. by-test (eqb (stale items p) 0)
       (λ none. rw (over, eqb-true (stale items p) 0 none, no-members items, append-nil ms)

@@ -1,12 +1,12 @@
--- A got reply on the block is a got reply in the tables: the answer is kept, the view takes the
--- latest of three, and the client goes on, or with the last one rests.
+-- A got reply to a read on the block is a got reply in the tables: the answer is kept, the view
+-- takes the latest of three, and the client goes on, or with the last one rests.
 use mathlib.Core.Bool.{true, false, cond, and-true}
 use mathlib.Core.List.{List}
 use mathlib.Core.Logic.{_≢_}
 use mathlib.Core.Path.{_≡_, refl, sym, ap, _∙_, subst, fun-ext}
-use Prim.Native.Nat.{ℕ, _≤_, _<_}
+use Prim.Native.Nat.{ℕ, _^_, _≤_, _<_}
 use lib.Dec.{eqb, lit<}
-use Rattle.basics.proofs.Cases.{by-test}
+use Rattle.basics.proofs.Cases.{by-test, not-both}
 use Rattle.itemset.specs.Set.{has, remove}
 use Rattle.itemset.proofs.Laws.{has-empty}
 use Rattle.protocol.specs.declared.Version.{Version}
@@ -15,17 +15,18 @@ use Rattle.protocol.specs.Tables.{Tables, Client, ofRead, rested, withClient, w
 use Rattle.protocol.specs.Range.{isIdle, isWriting}
 use Rattle.protocol.specs.Steps.{answered, isLast, ended, got, seen}
 use Rattle.protocol.proofs.Ranges.Clients.{ClientInRange}
-use Rattle.layout.specs.Layout.{scalars, store, awaitedAt}
-use Rattle.layout.specs.Encodes.{Encodes, HoldsClient}
+use Rattle.layout.specs.Layout.{scalars, values, at, store, modeAt, awaitedAt, isMixedMode}
+use Rattle.layout.specs.Encodes.{writesAlone, Encodes, HoldsClient}
+use Rattle.slots.proofs.Chosen.{unless}
 use Rattle.layout.proofs.Room.{NarrowClient, HasRoom}
-use Rattle.layout.proofs.Parts.{awaits-answer, awaits-busy, writes-nothing, no-reply-awaited}
+use Rattle.layout.proofs.Parts.{awaits-busy, writes-nothing, no-reply-awaited, mode-both}
 use Rattle.layout.proofs.ClientWords.{wordsOf}
 use Rattle.layout.proofs.ClientHolds.{words-hold}
 use Rattle.layout.proofs.Changed.{Changed, changed-put, encodes-changed}
 use Rattle.ends.specs.Ends.{readEnded}
 use Rattle.ends.proofs.Rests.{kind-read}
 use Rattle.ends.proofs.Ended.{encodes-read-ended}
-use Rattle.deliver.specs.Deliver.{keptAnswer, gotDelivered}
+use Rattle.deliver.specs.Deliver.{keptAnswer, readDelivered}
 use Rattle.deliver.proofs.Answered.{grown, seenBlock, answerWords, encodes-seen-later}
 use Rattle.deliver.proofs.Answered.{held-later, answer-changed, answers-held}
 use Rattle.deliver.proofs.Struck.{words-answered, narrow-answered}
@@ -34,15 +35,20 @@ module _ {b : List ℕ} {t : Tables} (d : ℕ) (v : Version) (latest : Entry) (n
     (r : HasRoom t) (first : 1 ≤ d)
     (last : d ≤ t .sizes .clients) (item : v .item < t .sizes .items)
     (range : ClientInRange (t .sizes) (t .client d)) (byStamp : t .client d .read .stage ≢ 1)
-    (awaits : has (t .client d .read .awaited) (v .item) ≡ true) where
+    (awaits : has (t .client d .read .awaited) (v .item) ≡ true) (fits : v .value < 2 ^ 32)
+    (reads : isWriting (t .client d) ≡ false) where
   abbrev c : Client
   c = t .client d
 
   abbrev view : ℕ → Entry
   view = grown t d v latest
 
-  reads : isWriting c ≡ false
-  reads = awaits-answer (t .sizes) c range (v .item) awaits
+  reading : writesAlone c ≡ false
+  reading = rw reads refl
+
+  -- so that its words are one value each
+  unmixed : {x : List ℕ} → HoldsClient x d c → isMixedMode (at x scalars (modeAt d)) ≡ false
+  unmixed h = ap isMixedMode (h .mode) ∙ mode-both (t .sizes) c range ∙ rw reads refl
 
   busy : isIdle c ≡ false
   busy = awaits-busy (t .sizes) c range ofRead (v .item) awaits
@@ -70,10 +76,11 @@ module _ {b : List ℕ} {t : Tables} (d : ℕ) (v : Version) (latest : Entry) (n
   ends =
       let after = answered c (v .item) (v .value) in
       encodes-read-ended after seen-later r narrow last (range .read .set) kept
-      (ap (λ (stage : ℕ). cond (eqb stage 0) 1 3) (held .read reads .stage)
+      (ap (λ (stage : ℕ). cond (eqb stage 0) 1 3) (held .read reading .stage)
       ∙ sym (kind-read after reads))
-      reads (held .count) (held .read reads .set) (held .read reads .asked)
-      (answers-held d v latest n r first last item reads)
+      reads (held .count) (held .read reading .set) (held .read reading .asked)
+      (λ j e. unless _ _ _ _ (unmixed held) refl
+      ∙ answers-held d v latest n r first last item fits reading j e)
 
   goes-on : isLast ofRead c (v .item) ≡ false
       → Encodes (store (keptAnswer b d v latest) scalars (awaitedAt d)
@@ -83,7 +90,8 @@ module _ {b : List ℕ} {t : Tables} (d : ℕ) (v : Version) (latest : Entry) (n
       encodes-changed seen-later r last
       (changed-put kept scalars 3 (remove (c .read .awaited) (v .item)) (lit< tt)) narrow
       (words-answered (wordsOf (seenBlock b d v latest) d) c (v .item) (words-hold held) busy
-      (v .value) byStamp reads more (answers-held d v latest n r first last item reads))
+      (v .value) _ byStamp reading (λ w. not-both w reads) more
+      (answers-held d v latest n r first last item fits reading) (λ w. not-both w reads))
 
   -- with no write part nothing of one is seen
   abbrev viewAfter : ℕ → Entry
@@ -95,11 +103,11 @@ module _ {b : List ℕ} {t : Tables} (d : ℕ) (v : Version) (latest : Entry) (n
       (λ e. rw (e, writes-nothing (t .sizes) c range reads) (fun-ext (λ j. rw (has-empty j) refl)))
       (λ e. rw e refl)
 
-  pub encodes-got : Encodes (gotDelivered b (t .sizes .items) d v latest)
+  pub encodes-read-got : Encodes (readDelivered b (t .sizes .items) d v latest)
       (withView (withClient t d (got c (v .item) (v .value))) d viewAfter)
-  unfolding gotDelivered
-  encodes-got =
-      subst (λ (f : ℕ → Entry). Encodes (gotDelivered b (t .sizes .items) d v latest)
+  unfolding readDelivered
+  encodes-read-got =
+      subst (λ (f : ℕ → Entry). Encodes (readDelivered b (t .sizes .items) d v latest)
       (withView (withClient t d (got c (v .item) (v .value))) d f)) (sym view-after)
       (subst
       (λ (z : ℕ).
@@ -107,7 +115,7 @@ module _ {b : List ℕ} {t : Tables} (d : ℕ) (v : Version) (latest : Entry) (n
       (cond (eqb (remove z (v .item)) 0) (readEnded (keptAnswer b d v latest) (t .sizes .items) d)
       (store (keptAnswer b d v latest) scalars (awaitedAt d) (remove z (v .item))))
       (withView (withClient t d (got c (v .item) (v .value))) d view))
-      (sym (n .client d first last .read reads .awaited))
+      (sym (n .client d first last .read reading .awaited))
       (by-test (eqb (remove (c .read .awaited) (v .item)) 0)
       (λ e. rw (e, no-reply-awaited (t .sizes) c range reads) ends)
       (λ e. rw e (goes-on (last-word ∙ e)))))

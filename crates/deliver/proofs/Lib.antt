@@ -4,6 +4,7 @@ pub mod Rows
 pub mod Struck
 pub mod Replied
 pub mod Answered
+pub mod Mixed
 pub mod Got
 pub mod First
 pub mod Worked

@@ -17,21 +17,22 @@ use Rattle.protocol.specs.Tables.{entryOf, writerOf}
 use Rattle.protocol.proofs.Put.{by-cond}
 use Rattle.layout.specs.Layout.{mostMessages, messageWords, scalars, latest, views, values}
 use Rattle.layout.specs.Layout.{versions, messages, base, at, messagesAt, awaitedAt, latestAt}
-use Rattle.layout.specs.Layout.{viewAt, itemAt, messageAt}
+use Rattle.layout.specs.Layout.{modeAt, writeAwaitedAt, viewAt, itemAt, messageAt, isMixedMode}
 use Rattle.layout.specs.Decode.{versionIn}
 use Rattle.layout.specs.Store.{takeOut}
 use Rattle.slots.proofs.Runs.{run-length, run-behind}
 use Rattle.layout.proofs.Past.{SamePast, past-none, past-trans, past-when, past-each, past-store}
 use Rattle.layout.proofs.Past.{past-entry, past-first}
 use Rattle.slots.proofs.PastLists.{past-keep, past-send}
-use Rattle.ends.proofs.Past.{past-scalar, past-read-ended, past-write-ended}
+use Rattle.ends.proofs.Past.{past-scalar, past-read-ended, past-write-ended, past-mixed-ended}
 use Rattle.second_part.proofs.Past.{past-second}
 use Rattle.slots.specs.Room.{keep}
 use Rattle.commit.specs.Commit.{commitVersion, commitDelivered}
 use Rattle.deliver.specs.declared.Counts.{Counts}
 use Rattle.deliver_tests.specs.Tests.{Bounded}
-use Rattle.deliver.specs.Deliver.{prepareDelivered, preparedDelivered}
-use Rattle.deliver.specs.Deliver.{getDelivered, keptAnswer, gotDelivered, firstGetDelivered}
+use Rattle.deliver.specs.Deliver.{prepareDelivered, writtenDelivered, mixedPrepared}
+use Rattle.deliver.specs.Deliver.{preparedDelivered, getDelivered, keptAnswer}
+use Rattle.deliver.specs.Deliver.{readDelivered, mixedGot, gotDelivered, firstGetDelivered}
 use Rattle.deliver.specs.Deliver.{keptFirst, firstDelivered, messageDelivered}
 
 past-take-out : (b : List ℕ) (n i : ℕ) → i < n → n ≤ mostMessages → SamePast b (takeOut b n i)
@@ -52,18 +53,25 @@ past-answer : (b : List ℕ) (d : ℕ) (v : Version) (e : Entry) → 1 ≤ d →
     → SamePast b (keptAnswer b d v e)
 past-answer b d v e first last l =
     past-trans (past-entry b views (viewAt d (v .item)) _ (omega arith))
-    (past-store _ values (itemAt d (v .item)) (v .value) (omega arith))
+    (past-store _ values (itemAt d (v .item)) _ (omega arith))
 
 past-work : (b : List ℕ) (n : Counts) (found : Version) (m : Message) → n .items ≤ 64 → Bounded m
     → SamePast b (messageDelivered b n found m)
-unfolding messageDelivered prepareDelivered preparedDelivered commitDelivered getDelivered
-    gotDelivered firstGetDelivered firstDelivered
+unfolding messageDelivered prepareDelivered writtenDelivered mixedPrepared preparedDelivered
+    commitDelivered getDelivered readDelivered mixedGot gotDelivered firstGetDelivered
+    firstDelivered
 past-work b n found (Prepare v) h r =
     past-trans (past-keep b v) (past-send (keep b v) (Prepared (v .item) (v .stamp)))
 past-work b n found (Prepared k stamp) h r =
-    by-cond (SamePast b) (eqb (remove (at b scalars (awaitedAt (writerOf stamp))) k) 0) _ _
-    (λ e. past-write-ended (writerOf stamp) (r .0) (r .1) b (n .partitions) (n .items) stamp h)
-    (λ e. past-scalar (writerOf stamp) (r .0) (r .1) b 3 _ (lit< tt))
+    let d = writerOf stamp in
+    by-cond (SamePast b) (isMixedMode (at b scalars (modeAt d))) _ _
+    (λ m. by-cond (SamePast b) (eqb (at b scalars (awaitedAt d)) 0
+    && eqb (remove (at b scalars (writeAwaitedAt d)) k) 0) _ _
+    (λ e. past-mixed-ended d (r .0) (r .1) b (n .partitions) (n .items) h)
+    (λ e. past-scalar d (r .0) (r .1) b 9 _ (lit< tt)))
+    (λ m. by-cond (SamePast b) (eqb (remove (at b scalars (awaitedAt d)) k) 0) _ _
+    (λ e. past-write-ended d (r .0) (r .1) b (n .partitions) (n .items) stamp h)
+    (λ e. past-scalar d (r .0) (r .1) b 3 _ (lit< tt)))
 past-work b n found (Commit p stamp) h r =
     past-each (commitVersion (n .partitions) p stamp) b (n .versions) (λ i c l.
     past-when c _ (eqb (versionIn c i .stamp) stamp)
@@ -78,11 +86,16 @@ past-work b n found (Commit p stamp) h r =
     (λ e. past-none c)))
 past-work b n found (Get d k stamp) h r = past-send b _
 past-work b n found (Got d v entry) h r =
+    let kept = keptAnswer b d v entry in
+    let rest = remove (at b scalars (awaitedAt d)) (v .item) in
     past-trans (past-answer b d v entry (r .0) (r .1) (r .2))
-    (by-cond (SamePast (keptAnswer b d v entry))
-    (eqb (remove (at b scalars (awaitedAt d)) (v .item)) 0) _ _
-    (λ e. past-read-ended d (r .0) (r .1) (keptAnswer b d v entry) (n .items) h)
-    (λ e. past-scalar d (r .0) (r .1) (keptAnswer b d v entry) 3 _ (lit< tt)))
+    (by-cond (SamePast kept) (isMixedMode (at b scalars (modeAt d))) _ _
+    (λ m. by-cond (SamePast kept) (eqb rest 0 && eqb (at b scalars (writeAwaitedAt d)) 0) _ _
+    (λ e. past-mixed-ended d (r .0) (r .1) kept (n .partitions) (n .items) h)
+    (λ e. past-scalar d (r .0) (r .1) kept 3 _ (lit< tt)))
+    (λ m. by-cond (SamePast kept) (eqb rest 0) _ _
+    (λ e. past-read-ended d (r .0) (r .1) kept (n .items) h)
+    (λ e. past-scalar d (r .0) (r .1) kept 3 _ (lit< tt))))
 past-work b n found (FirstGet d k) h r = past-send b _
 past-work b n found (FirstReply d v entry) h r =
     past-trans

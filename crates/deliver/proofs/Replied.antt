@@ -1,8 +1,8 @@
--- A prepared reply on the block is a prepared reply in the tables: the client goes on, or with the
--- last one its write ends and commits join.
+-- A prepared reply to a write on the block is a prepared reply in the tables: the client goes on,
+-- or with the last one its write ends and commits join.
 use mathlib.Core.Bool.{true, false, cond}
 use mathlib.Core.List.{List, [], _++_, append-nil}
-use mathlib.Core.Path.{_≡_, refl, sym, _∙_, subst}
+use mathlib.Core.Path.{_≡_, refl, sym, ap, _∙_, subst}
 use Prim.Native.Nat.{ℕ, _≤_}
 use native.Mathlib.Omega.{arith}
 use lib.Dec.{eqb, lit<}
@@ -19,16 +19,17 @@ use Rattle.protocol.specs.Tables.{withView, withMessages}
 use Rattle.protocol.specs.Range.{isIdle, isWriting}
 use Rattle.protocol.specs.Steps.{struck, isLast, ended, seen, delivered, touches, commits, joined}
 use Rattle.protocol.proofs.Ranges.Clients.{ClientInRange}
-use Rattle.layout.specs.Layout.{mostMessages, scalars, at, store, awaitedAt}
-use Rattle.layout.specs.Encodes.{Encodes, HoldsClient}
+use Rattle.layout.specs.Layout.{mostMessages, scalars, at, store, modeAt, setAt, awaitedAt}
+use Rattle.layout.specs.Layout.{isMixedMode}
+use Rattle.layout.specs.Encodes.{writesAlone, numberOfMode, Encodes, HoldsClient}
 use Rattle.layout.proofs.Room.{HasRoom}
-use Rattle.layout.proofs.Parts.{awaits-reply, awaits-busy, no-answer-awaited}
+use Rattle.layout.proofs.Parts.{awaits-reply, awaits-busy, no-answer-awaited, mode-writing}
 use Rattle.layout.proofs.ClientWords.{wordsOf}
 use Rattle.layout.proofs.ClientHolds.{words-hold}
 use Rattle.layout.proofs.Changed.{changed-none, changed-put, encodes-changed}
 use Rattle.layout.proofs.Room.{room-client}
 use Rattle.ends.specs.Ends.{sendCommit, touched, writeKept, writeEnded}
-use Rattle.deliver.specs.Deliver.{preparedDelivered}
+use Rattle.deliver.specs.Deliver.{writtenDelivered}
 use Rattle.layout.proofs.Same.{encodes-same-view}
 use Rattle.ends.proofs.Rests.{narrow-last}
 use Rattle.ends.proofs.Ended.{encodes-write-kept}
@@ -42,7 +43,8 @@ module _ {b : List ℕ} (t : Tables) (ms : List Message) (k stamp : ℕ)
     (last : writerOf stamp ≤ t .sizes .clients)
     (range : ClientInRange (t .sizes) (t .client (writerOf stamp)))
     (awaits : has (t .client (writerOf stamp) .write .awaited) k ≡ true)
-    (own : t .client (writerOf stamp) .write .stamp ≡ stamp) where
+    (own : t .client (writerOf stamp) .write .stamp ≡ stamp)
+    (alone : writesAlone (t .client (writerOf stamp)) ≡ true) where
   abbrev d : ℕ
   d = writerOf stamp
 
@@ -59,7 +61,20 @@ module _ {b : List ℕ} (t : Tables) (ms : List Message) (k stamp : ℕ)
   busy = awaits-busy (t .sizes) c range ofWrite k awaits
 
   none : c .read .awaited ≡ 0
-  none = no-answer-awaited (t .sizes) c range writes
+  none = no-answer-awaited (t .sizes) c range alone
+
+  number : numberOfMode c ≡ 2
+  number = mode-writing (t .sizes) c range alone
+
+  mode : at b scalars (modeAt d) ≡ 2
+  mode = held .mode ∙ number
+
+  -- its set and awaited items
+  set-word : at b scalars (setAt d) ≡ c .write .set
+  set-word = let x = held .write writes .set in rw mode at x
+
+  awaited-word : at b scalars (awaitedAt d) ≡ c .write .awaited
+  awaited-word = let x = held .write writes .awaited in rw mode at x
 
   -- the last item of the write part is the last of all
   last-word : isLast ofWrite c k ≡ eqb (remove (c .write .awaited) k) 0
@@ -71,7 +86,7 @@ module _ {b : List ℕ} (t : Tables) (ms : List Message) (k stamp : ℕ)
       (seen (t .view d) (c .write .set) stamp)
 
   kept : Encodes (writeKept b (t .sizes .items) d (c .write .set) stamp) (withMessages over ms)
-  kept = encodes-write-kept d stamp n r first last writes (range .write .set) own
+  kept = encodes-write-kept d stamp n r first last alone number (range .write .set) own
 
   room-over : HasRoom (withMessages over ms)
   room-over = room-client (withMessages t ms) d (rested c (ended c)) r
@@ -87,7 +102,7 @@ module _ {b : List ℕ} (t : Tables) (ms : List Message) (k stamp : ℕ)
       Encodes (upTo (sendCommit (touched (t .sizes .partitions) s (t .sizes .items)) stamp)
       (writeKept b (t .sizes .items) d s stamp) (t .sizes .partitions))
       (withMessages over (ms ++ commits t (c .write .set) stamp)))
-      (sym (held .write writes .set))
+      (sym set-word)
       (encodes-commits (withMessages over ms)
       (touched (t .sizes .partitions) (c .write .set) (t .sizes .items)) stamp
       (t .sizes .partitions)
@@ -109,21 +124,22 @@ module _ {b : List ℕ} (t : Tables) (ms : List Message) (k stamp : ℕ)
       (changed-put (changed-none d b first (omega (arith, r .clients)) (n .long)) scalars 3
       (remove (c .write .awaited) k) (lit< tt))
       (narrow-struck c k (r .client d first last))
-      (words-struck (wordsOf b d) c k (words-hold held) busy writes more))
+      (words-struck (wordsOf b d) c k (words-hold held) busy alone writes (ap isMixedMode mode)
+      more))
       (λ e p q j g. by-test (eqb e d) (λ x. rw (x, eqb-true e d x) refl) (λ x. rw x refl)))
 
-  pub encodes-prepared : length (ms ++ joined t (Prepared k stamp)) ≤ mostMessages
-      → Encodes (preparedDelivered b (t .sizes .partitions) (t .sizes .items) k stamp)
+  pub encodes-written : length (ms ++ joined t (Prepared k stamp)) ≤ mostMessages
+      → Encodes (writtenDelivered b (t .sizes .partitions) (t .sizes .items) k stamp)
       (withMessages (delivered t (Prepared k stamp)) (ms ++ joined t (Prepared k stamp)))
-  unfolding preparedDelivered delivered joined
-  encodes-prepared room =
+  unfolding writtenDelivered delivered joined
+  encodes-written room =
       subst
       (λ (z : ℕ).
       Encodes
       (cond (eqb (remove z k) 0) (writeEnded b (t .sizes .partitions) (t .sizes .items) d stamp)
       (store b scalars (awaitedAt d) (remove z k)))
       (withMessages (delivered t (Prepared k stamp)) (ms ++ joined t (Prepared k stamp))))
-      (sym (held .write writes .awaited))
+      (sym awaited-word)
       (by-test (eqb (remove (c .write .awaited) k) 0)
       (λ e. rw (e, none) (ends (rw (e, none) at room)))
       (λ e. rw (last-word ∙ e, e) (goes-on (last-word ∙ e))))

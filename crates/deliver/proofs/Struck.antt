@@ -9,20 +9,25 @@ use Rattle.protocol.specs.Tables.{Client, ofRead, ofWrite, put}
 use Rattle.protocol.specs.Range.{isIdle, isWriting}
 use Rattle.protocol.specs.Steps.{answered, struck, isLast}
 use Rattle.protocol.proofs.FastRead.{first-apart}
-use Rattle.layout.specs.Layout.{scalars, values}
+use Rattle.layout.specs.Layout.{scalars, values, isMixedMode, readValue, writtenValue}
+use Rattle.layout.specs.Encodes.{writesAlone}
 use Rattle.layout.proofs.Room.{NarrowClient}
 use Rattle.layout.proofs.ClientWords.{Words, putWord}
 use Rattle.layout.proofs.ClientHolds.{WordsHold}
 
 module _ (w : Words) (c : Client) (k : ℕ) (h : WordsHold w c) (busy : isIdle c ≡ false) where
-  -- an answer to a read that goes on, and awaits it by its stamp
-  pub words-answered : (value : ℕ) → c .read .stage ≢ 1 → isWriting c ≡ false
+  -- an answer to a read, or to a mixed transaction, that goes on and awaits it by its stamp
+  pub words-answered : (value word : ℕ) → c .read .stage ≢ 1 → writesAlone c ≡ false
+      → (isWriting c ≡ true → isMixedMode (w scalars 0) ≡ true)
       → isLast ofRead c k ≡ false
       → ((j : ℕ) → has (c .read .set) j ≡ true
-      → put (w values) k value j ≡ put (c .read .values) k value j)
-      → WordsHold (putWord (putWord w values k value) scalars 3 (remove (c .read .awaited) k))
+      → readValue (isMixedMode (w scalars 0)) (put (w values) k word j)
+      ≡ put (c .read .values) k value j)
+      → (isWriting c ≡ true → (j : ℕ) → has (c .write .set) j ≡ true
+      → writtenValue (isMixedMode (w scalars 0)) (put (w values) k word j) ≡ c .write .values j)
+      → WordsHold (putWord (putWord w values k word) scalars 3 (remove (c .read .awaited) k))
       (answered c k value)
-  words-answered value byStamp reads more same =
+  words-answered value word byStamp reads mixed more same kept =
       let p = h .read reads in
       record {
         mode = h .mode ∙ rw (busy, more) refl;
@@ -35,19 +40,49 @@ module _ (w : Words) (c : Client) (k : ℕ) (h : WordsHold w c) (busy : isIdle c
           firsts = λ j e. p .firsts j
               (sym (first-apart (c .read) (answered c k value .read) j byStamp refl refl) ∙ e);
         };
-        write = λ x. not-both x reads;
+        write = λ x. let own = h .write x .awaited in
+            record {
+              set = h .write x .set;
+              awaited = rw (mixed x) (rw (mixed x) at own);
+              stamp = h .write x .stamp;
+              values = kept x;
+            };
         rest = h .rest;
       }
 
   -- a reply to a write that goes on
-  pub words-struck : isWriting c ≡ true → isLast ofWrite c k ≡ false
+  pub words-struck : writesAlone c ≡ true → isWriting c ≡ true
+      → isMixedMode (w scalars 0) ≡ false → isLast ofWrite c k ≡ false
       → WordsHold (putWord w scalars 3 (remove (c .write .awaited) k)) (struck c k)
-  words-struck writes more =
+  words-struck alone writes unmixed more =
       let p = h .write writes in
       record {
         mode = h .mode ∙ rw (busy, more) refl;
-        read = λ x. not-both writes x;
-        write = λ x. record { set = p .set; awaited = refl; stamp = p .stamp; values = p .values };
+        read = λ x. not-both alone x;
+        write = λ x. record {
+          set = rw unmixed (rw unmixed at (p .set));
+          awaited = rw unmixed refl;
+          stamp = p .stamp;
+          values = p .values;
+        };
+        rest = h .rest;
+      }
+
+  -- and to a mixed transaction
+  pub words-mixed-struck : writesAlone c ≡ false → isWriting c ≡ true
+      → isMixedMode (w scalars 0) ≡ true → isLast ofWrite c k ≡ false
+      → WordsHold (putWord w scalars 9 (remove (c .write .awaited) k)) (struck c k)
+  words-mixed-struck both writes mixed more =
+      let p = h .write writes in
+      record {
+        mode = h .mode ∙ rw (busy, more) refl;
+        read = λ x. h .read both;
+        write = λ x. record {
+          set = p .set;
+          awaited = rw mixed refl;
+          stamp = p .stamp;
+          values = p .values;
+        };
         rest = h .rest;
       }
 

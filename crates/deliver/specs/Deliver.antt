@@ -1,5 +1,5 @@
 -- The seven deliveries as changes of the block.
-use mathlib.Core.Bool.{cond}
+use mathlib.Core.Bool.{cond, _&&_}
 use mathlib.Core.List.{List}
 use Prim.Native.Nat.{ℕ}
 use lib.Dec.{eqb}
@@ -12,14 +12,15 @@ use Rattle.protocol.specs.declared.Message.the-variants.{FirstGet, FirstReply}
 use Rattle.protocol.specs.Tables.{entryOf, writerOf}
 use Rattle.protocol.specs.Steps.{version, offered}
 use Rattle.layout.specs.Layout.{header, scalars, values, at, store, partitionsAt, itemsAt}
-use Rattle.layout.specs.Layout.{versionsAt, messagesAt, awaitedAt, itemAt}
+use Rattle.layout.specs.Layout.{versionsAt, messagesAt, modeAt, awaitedAt, writeAwaitedAt, itemAt}
+use Rattle.layout.specs.Layout.{isMixedMode, withAnswer}
 use Rattle.layout.specs.Decode.{latestIn, viewIn, messageIn}
 use Rattle.layout.specs.Store.{storeView, storeFirst, takeOut}
 use Rattle.slots.specs.Room.{keep, send}
 use Rattle.commit.specs.Commit.{commitDelivered}
 use Rattle.deliver.specs.declared.Counts.{Counts}
 use Rattle.deliver_tests.specs.Tests.{testedIn}
-use Rattle.ends.specs.Ends.{readEnded, writeEnded}
+use Rattle.ends.specs.Ends.{readEnded, writeEnded, mixedEnded}
 use Rattle.second_part.specs.SecondPart.{secondBegun}
 
 -- ---- Prepare: the version is stored, the reply joins
@@ -27,13 +28,26 @@ use Rattle.second_part.specs.SecondPart.{secondBegun}
 unfoldable pub prepareDelivered : List ℕ → Version → List ℕ
 prepareDelivered b v = send (keep b v) (Prepared (v .item) (v .stamp))
 
--- ---- Prepared: item k is struck; with the last one the write ends
+-- ---- Prepared: item k is struck; with the last one the write ends, or the mixed transaction that
+-- awaits no got either
+
+unfoldable pub writtenDelivered : List ℕ → ℕ → ℕ → ℕ → ℕ → List ℕ
+writtenDelivered b partitions items k stamp =
+    let d = writerOf stamp in
+    let rest = remove (at b scalars (awaitedAt d)) k in
+    cond (eqb rest 0) (writeEnded b partitions items d stamp) (store b scalars (awaitedAt d) rest)
+
+unfoldable pub mixedPrepared : List ℕ → ℕ → ℕ → ℕ → ℕ → List ℕ
+mixedPrepared b partitions items d k =
+    let rest = remove (at b scalars (writeAwaitedAt d)) k in
+    cond (eqb (at b scalars (awaitedAt d)) 0 && eqb rest 0) (mixedEnded b partitions items d)
+    (store b scalars (writeAwaitedAt d) rest)
 
 unfoldable pub preparedDelivered : List ℕ → ℕ → ℕ → ℕ → ℕ → List ℕ
 preparedDelivered b partitions items k stamp =
     let d = writerOf stamp in
-    let rest = remove (at b scalars (awaitedAt d)) k in
-    cond (eqb rest 0) (writeEnded b partitions items d stamp) (store b scalars (awaitedAt d) rest)
+    cond (isMixedMode (at b scalars (modeAt d))) (mixedPrepared b partitions items d k)
+    (writtenDelivered b partitions items k stamp)
 
 -- ---- Commit: commitDelivered, of crate commit
 
@@ -42,18 +56,34 @@ preparedDelivered b partitions items k stamp =
 unfoldable pub getDelivered : List ℕ → Version → ℕ → ℕ → ℕ → List ℕ
 getDelivered b v d k stamp = send b (Got d (version k (v .value) stamp (v .set)) (latestIn b k))
 
--- ---- Got: the version is kept, the view takes the latest of three; the last one ends the read
+-- ---- Got: the version is kept, a mixed transaction's with the value written in one word; the view
+-- takes the latest of three; the last one ends the read, or the mixed transaction that awaits no
+-- prepared reply either
 
 abbrev pub keptAnswer : List ℕ → ℕ → Version → Entry → List ℕ
 keptAnswer b d v latest =
-    store (storeView b d (v .item) (offered (viewIn b d (v .item)) v latest)) values
-    (itemAt d (v .item)) (v .value)
+    let k = v .item in
+    let seen = storeView b d k (offered (viewIn b d k) v latest) in
+    store seen values (itemAt d k) (withAnswer (isMixedMode (at seen scalars (modeAt d)))
+    (at seen values (itemAt d k)) (v .value))
 
-unfoldable pub gotDelivered : List ℕ → ℕ → ℕ → Version → Entry → List ℕ
-gotDelivered b items d v latest =
+unfoldable pub readDelivered : List ℕ → ℕ → ℕ → Version → Entry → List ℕ
+readDelivered b items d v latest =
     let rest = remove (at b scalars (awaitedAt d)) (v .item) in
     let kept = keptAnswer b d v latest in
     cond (eqb rest 0) (readEnded kept items d) (store kept scalars (awaitedAt d) rest)
+
+unfoldable pub mixedGot : List ℕ → ℕ → ℕ → ℕ → Version → Entry → List ℕ
+mixedGot b partitions items d v latest =
+    let rest = remove (at b scalars (awaitedAt d)) (v .item) in
+    let kept = keptAnswer b d v latest in
+    cond (eqb rest 0 && eqb (at b scalars (writeAwaitedAt d)) 0)
+    (mixedEnded kept partitions items d) (store kept scalars (awaitedAt d) rest)
+
+unfoldable pub gotDelivered : List ℕ → ℕ → ℕ → ℕ → Version → Entry → List ℕ
+gotDelivered b partitions items d v latest =
+    cond (isMixedMode (at b scalars (modeAt d))) (mixedGot b partitions items d v latest)
+    (readDelivered b items d v latest)
 
 -- ---- First get: the reply joins, with the version found, of the latest's stamp
 
@@ -83,7 +113,8 @@ messageDelivered b n found (Prepared k stamp) =
 messageDelivered b n found (Commit p stamp) =
     commitDelivered b (n .partitions) (n .versions) p stamp
 messageDelivered b n found (Get d k stamp) = getDelivered b found d k stamp
-messageDelivered b n found (Got d v latest) = gotDelivered b (n .items) d v latest
+messageDelivered b n found (Got d v latest) =
+    gotDelivered b (n .partitions) (n .items) d v latest
 messageDelivered b n found (FirstGet d k) = firstGetDelivered b found d k
 messageDelivered b n found (FirstReply d v latest) = firstDelivered b (n .items) d v latest
 

@@ -52,7 +52,7 @@ fn work(b: &mut [u64], counts: Counts, found: Version, m: Message)
             client,
             version,
             latest,
-        } => replies::got(b, counts.items, client, version, latest),
+        } => replies::got(b, counts.partitions, counts.items, client, version, latest),
         Message::FirstGet { client, item } => requests::first_get(b, found, client, item),
         Message::FirstReply {
             client,

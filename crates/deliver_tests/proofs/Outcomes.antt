@@ -6,32 +6,43 @@ use mathlib.Core.Path.{_≡_, refl, sym, ap, _∙_, subst}
 use Prim.Native.Nat.{ℕ, _+_, _≤_}
 use native.Mathlib.Omega.{arith}
 use lib.Dec.{eqb}
-use borrow.Author.Tests.{ne-eqb}
-use Rattle.basics.proofs.Cases.{by-test}
+use borrow.Author.Tests.{eqb-true, ne-eqb}
+use Rattle.basics.proofs.Cases.{by-test, not-both}
+use Rattle.itemset.proofs.Laws.{has-empty}
 use Rattle.protocol.specs.declared.Message.{Message}
 use Rattle.protocol.specs.declared.Message.the-variants.{Prepare, Prepared, Commit, Get, Got}
 use Rattle.protocol.specs.declared.Message.the-variants.{FirstGet, FirstReply}
-use Rattle.protocol.specs.Tables.{Tables, Client, Ended, ofRead, ofWrite, writerOf, rested}
+use Rattle.protocol.specs.Tables.{Tables, Client, ReadPart, WritePart, Ended, ofRead, ofWrite}
+use Rattle.protocol.specs.Tables.{writerOf, rested, put}
 use Rattle.protocol.specs.Tables.{withMessages, withRead}
 use Rattle.protocol.specs.Range.{isIdle, isWriting}
 use Rattle.protocol.specs.FastRead.{firstReplied}
-use Rattle.protocol.specs.Steps.{isLast, struck, answered, ended, delivered}
+use Rattle.protocol.specs.Steps.{isLast, struck, answered, kindEnded, ended, got, delivered}
 use Rattle.protocol.specs.Calls.{outcomeOf}
 use Rattle.protocol.proofs.Put.{put-same}
 use Rattle.protocol.proofs.Ranges.Values.{MessageInRange}
 use Rattle.protocol.proofs.Ranges.Tables.{InRange}
 use Rattle.protocol.proofs.Refusals.{Expected, tells-got}
+use Rattle.layout.specs.Layout.{scalars, at, modeAt, isMixedKind, readMode}
 use Rattle.layout.specs.Encodes.{Encodes, numberOfMode}
-use Rattle.layout.proofs.Parts.{awaits-answer, writes-nothing}
-use Rattle.deliver_tests.specs.Tests.{over, outcomeIn}
+use Rattle.deliver_tests.specs.Tests.{over, gotOutcome, outcomeIn}
 
 -- the mode tells who is idle
 mode-idle : (c : Client) → eqb (numberOfMode c) 0 ≡ isIdle c
 mode-idle c =
     by-test (isIdle c) (λ i. rw i refl)
-    (λ i. rw i (by-test (isWriting c) (λ w. rw w refl)
+    (λ i. rw i (by-test (isWriting c) (λ w. rw w
+    (by-test (eqb (c .read .set) 0) (λ e. rw e refl) (λ e. rw e refl)))
     (λ w. rw w (by-test (eqb (c .read .stage) 0) (λ e. rw e refl)
     (λ e. rw e (ne-eqb (c .read .stage + 2) 0 (omega arith)))))))
+
+-- a transaction that a got ends has a read part, and is a mixed one if it has a write part too
+got-ended : (p : ReadPart) (w : WritePart) → eqb (p .set) 0 ≡ false
+    → _≡_ {A = ℕ} (cond (isMixedKind (kindEnded p w)) 2 1) (cond (eqb (w .set) 0) 1 2)
+got-ended p w s =
+    by-test (eqb (w .set) 0)
+    (λ e. rw e (by-test (eqb (p .stage) 0) (λ n. rw n refl) (λ n. rw n refl)))
+    (λ e. rw (e, s) refl)
 
 -- client d of the tables after the delivery rests after the last reply; before it, it awaits one
 module _ {b : List ℕ} {u : Tables} (n : Encodes b u) (d : ℕ) (first : 1 ≤ d)
@@ -63,11 +74,20 @@ outcome-told {b} {t} (Got d v latest) ms n z i e =
     let w = i .client (omega arith) in
     let c = t .client d in
     let k = v .item in
-    let awaited = tells-got t d v latest .0 e .awaited in
-    let reads = awaits-answer (t .sizes) c (z .client d w) k awaited in
-    rw (writes-nothing (t .sizes) c (z .client d w) reads)
-    (over-told n d (w .0) (w .1) c (ended (answered c k (v .value))) (answered c k (v .value))
-    (isLast ofRead c k) 1 (put-same (t .client) d _) (λ more. more))
+    let after = answered c k (v .value) in
+    let own = z .client d w .read .within k (tells-got t d v latest .0 e .awaited) in
+    let some : eqb (c .read .set) 0 ≡ false =
+    by-test (eqb (c .read .set) 0)
+    (λ x. not-both own (rw (eqb-true (c .read .set) 0 x) (has-empty k))) (λ x. x) in
+    over-told n d (w .0) (w .1) c (ended after) after (isLast ofRead c k) (gotOutcome b d)
+    (put-same (t .client) d _) (λ more. more)
+    ∙ by-test (isLast ofRead c k)
+    (λ l. let kind : got c k (v .value) .last .kind ≡ kindEnded (c .read) (c .write) = rw l refl in
+    rw l (ap (λ (x : ℕ). cond (isMixedKind x) 2 1)
+    (n .client d (w .0) (w .1) .last .kind
+    ∙ ap (λ (x : Client). x .last .kind) (put-same (t .client) d (got c k (v .value))) ∙ kind)
+    ∙ got-ended (c .read) (c .write) some))
+    (λ l. rw l refl)
 outcome-told (FirstGet d k) ms n z i e = refl
 outcome-told {b} {t} (FirstReply d v latest) ms n z i e =
     let w = i .client (omega arith) in

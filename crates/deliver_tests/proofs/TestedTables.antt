@@ -25,14 +25,15 @@ use Rattle.protocol.proofs.Ranges.Values.{MessageInRange}
 use Rattle.protocol.proofs.Ranges.Clients.{ClientInRange}
 use Rattle.protocol.proofs.Ranges.Tables.{InRange}
 use Rattle.layout.specs.Layout.{header, scalars, asked, at, versionsAt, modeAt, awaitedAt}
-use Rattle.layout.specs.Layout.{stampAt, itemAt, readMode}
+use Rattle.layout.specs.Layout.{stampAt, itemAt, isWriteMode, isMixedMode, readMode}
 use Rattle.layout.specs.Decode.{latestIn, versionIn}
-use Rattle.layout.specs.Encodes.{Encodes, HoldsClient}
+use Rattle.layout.specs.Encodes.{writesAlone, Encodes, HoldsClient}
 use Rattle.layout.proofs.EncodesEntry.{latest-held}
-use Rattle.layout.proofs.Parts.{mode-writing, mode-other, no-answer-awaited, no-reply-awaited}
+use Rattle.layout.proofs.Parts.{alone-or-mixed, no-stage, no-answer-awaited, no-reply-awaited}
+use Rattle.layout.proofs.Parts.{mode-writing, mode-mixed, mode-other, mode-writes}
 use Rattle.slots.proofs.ReadBack.{table-versions}
 use Rattle.deliver_tests.specs.declared.Tested.{Tested}
-use Rattle.deliver_tests.specs.Tests.{none, testedIn}
+use Rattle.deliver_tests.specs.Tests.{none, preparedAwaited, testedIn}
 
 -- the version that answers a get, of either kind; no other message has one
 unfoldable pub answerOf : Tables → Message → Version
@@ -54,19 +55,9 @@ pub record Tells (x : Tested) (t : Tables) (m : Message) : Type 0 where
 -- ---- replies
 
 -- by its mode a client reads, awaits gots, or awaits first replies
-not-writing : (awaited stage : ℕ) → stage ≤ 2
-    → eqb (cond (eqb awaited 0) 0 (readMode stage)) 2 ≡ false
-not-writing awaited stage l =
-    by-test (eqb awaited 0) (λ e. rw e refl) (λ e. rw e (by-stage stage l))
-  where
-    by-stage : (n : ℕ) → n ≤ 2 → eqb (readMode n) 2 ≡ false
-    by-stage zero l = refl
-    by-stage (suc zero) l = refl
-    by-stage (suc (suc zero)) l = refl
-    by-stage (suc (suc (suc n))) l = absurd (omega arith)
-
 got-mode : (stage : ℕ) → stage ≤ 2
-    → (eqb (readMode stage) 1 || eqb (readMode stage) 4) ≡ not (eqb stage 1)
+    → (eqb (readMode stage) 1 || eqb (readMode stage) 4 || eqb (readMode stage) 5)
+    ≡ not (eqb stage 1)
 got-mode zero l = refl
 got-mode (suc zero) l = refl
 got-mode (suc (suc zero)) l = refl
@@ -86,61 +77,76 @@ module _ {b : List ℕ} (z : Sizes) (d k stamp : ℕ) (c : Client) (h : HoldsCli
   abbrev word : ℕ
   word = at b scalars (awaitedAt d)
 
+  writing-word : (isWriteMode mode || isMixedMode mode) ≡ isWriting c
+  writing-word = ap (λ (x : ℕ). isWriteMode x || isMixedMode x) (h .mode) ∙ mode-writes z c r
+
   -- a prepared reply is awaited by the words exactly if the write part awaits it
-  prepared-awaited : (has word k && (eqb mode 2 && eqb (at b scalars (stampAt d)) stamp))
+  prepared-awaited :
+      (has (preparedAwaited b d) k
+      && ((eqb mode 2 || eqb mode 5) && eqb (at b scalars (stampAt d)) stamp))
       ≡ (has (c .write .awaited) k && eqb (c .write .stamp) stamp)
   prepared-awaited =
       by-test (isWriting c)
-      (λ w. rw (h .mode, mode-writing z c r w, h .write w .awaited, h .write w .stamp) refl)
-      (λ w. rw (
-        h .mode,
-        mode-other z c r w,
-        not-writing (c .read .awaited) (c .read .stage) (r .read .stage),
-        no-reply-awaited z c r w,
-        has-empty k,
-      ) (and-false (has word k)))
+      (λ w. rw (writing-word ∙ w, h .write w .awaited, h .write w .stamp) refl)
+      (λ w. rw (writing-word ∙ w, no-reply-awaited z c r w, has-empty k)
+      (and-false (has (preparedAwaited b d) k)))
 
   some : has (c .read .awaited) k ≡ true → eqb (c .read .awaited) 0 ≡ false
   some e = by-test (eqb (c .read .awaited) 0)
       (λ x. not-both e (rw (eqb-true (c .read .awaited) 0 x) (has-empty k))) (λ x. x)
 
+  -- a mixed transaction's read part is an ordinary read's
+  module _ (w : isWriting c ≡ true) (a : writesAlone c ≡ false) where
+    mixed-mode : mode ≡ 5
+    mixed-mode = h .mode ∙ mode-mixed z c r (alone-or-mixed c w a)
+
+    ordinary : isFirstPart (c .read) ≡ false
+    ordinary = rw (no-stage z c r w) refl
+
   -- and a got, or a first reply, exactly if the read part does
   got-awaited :
-      (has word k && ((eqb mode 1 || eqb mode 4) && eqb (at b asked (itemAt d k)) stamp))
+      (has word k && ((eqb mode 1 || eqb mode 4 || eqb mode 5)
+      && eqb (at b asked (itemAt d k)) stamp))
       ≡ (not (isFirstPart (c .read)) && has (c .read .awaited) k && eqb (c .read .asked k) stamp)
   got-awaited =
       let byStamp = not (isFirstPart (c .read)) in
-      by-test (isWriting c)
-      (λ w. rw (
+      by-test (writesAlone c)
+      (λ a. rw (
         h .mode,
-        mode-writing z c r w,
-        no-answer-awaited z c r w,
+        mode-writing z c r a,
+        no-answer-awaited z c r a,
         has-empty k,
         and-false (has word k),
         and-false byStamp,
       ) refl)
-      (λ w. rw (h .mode, mode-other z c r w, h .read w .awaited)
+      (λ a. by-test (isWriting c)
+      (λ w. rw (mixed-mode w a, ordinary w a, h .read a .awaited)
+      (by-test (has (c .read .awaited) k)
+      (λ e. rw (e, h .read a .asked k (r .read .within k e)) refl) (λ e. rw e refl)))
+      (λ w. rw (h .mode, mode-other z c r w, h .read a .awaited)
       (by-test (has (c .read .awaited) k)
       (λ e. rw (
         some e,
         e,
-        h .read w .asked k (r .read .within k e),
+        h .read a .asked k (r .read .within k e),
         got-mode (c .read .stage) (r .read .stage),
         and-true byStamp,
       ) refl)
-      (λ e. rw (e, and-false byStamp) refl)))
+      (λ e. rw (e, and-false byStamp) refl))))
 
   first-awaited : (has word k && eqb mode 3)
       ≡ (isFirstPart (c .read) && has (c .read .awaited) k)
   first-awaited =
-      by-test (isWriting c)
-      (λ w. rw (h .mode, mode-writing z c r w, no-answer-awaited z c r w, has-empty k)
+      by-test (writesAlone c)
+      (λ a. rw (h .mode, mode-writing z c r a, no-answer-awaited z c r a, has-empty k)
       (and-false (has word k) ∙ sym (and-false (isFirstPart (c .read)))))
-      (λ w. rw (h .mode, mode-other z c r w, h .read w .awaited)
+      (λ a. by-test (isWriting c)
+      (λ w. rw (mixed-mode w a, ordinary w a) (and-false (has word k)))
+      (λ w. rw (h .mode, mode-other z c r w, h .read a .awaited)
       (by-test (has (c .read .awaited) k)
       (λ e. rw (some e, e, first-mode (c .read .stage) (r .read .stage))
       (sym (and-true (isFirstPart (c .read)))))
-      (λ e. rw e (sym (and-false (isFirstPart (c .read)))))))
+      (λ e. rw e (sym (and-false (isFirstPart (c .read))))))))
 
 -- ---- the whole
 

@@ -6,21 +6,26 @@ ghost use Prim.Native.Nat.{_≤_, _<_};
 ghost use lib.ListN.{length};
 ghost use Rattle.protocol.specs.Tables.{writerOf};
 ghost use Rattle.layout.specs.Layout.{mostVersions, needed};
-ghost use Rattle.deliver_tests.specs.Tests.{Bounded, replyTested, getTested, rightPrepared};
-ghost use Rattle.deliver_tests.specs.Tests.{rightGot, testedIn, over, outcomeIn};
+ghost use Rattle.deliver_tests.specs.Tests.{Bounded, replyTested, getTested};
+ghost use Rattle.deliver_tests.specs.Tests.{preparedAwaited, rightPrepared, preparedTested};
+ghost use Rattle.deliver_tests.specs.Tests.{rightGot, testedIn, over, gotOutcome, outcomeIn};
 use client_fields::asked;
 use client_fields::awaited;
+use client_fields::last_kind;
 use client_fields::mode;
 use client_fields::stamp;
+use client_fields::write_awaited;
 use itemset::has;
 use layout::FIRST_PART;
 use layout::IDLE;
+use layout::MIXING;
 use layout::READING;
 use layout::SECOND_PART;
 use layout::WRITING;
 use layout::entry::latest;
 use protocol::Message;
 use protocol::Version;
+use protocol::kind::MIXED;
 use protocol::outcome::NONE_ENDED;
 use protocol::outcome::READ_ENDED;
 use protocol::outcome::WRITE_ENDED;
@@ -91,15 +96,41 @@ fn is_asked(b: &[u64], d: u64, item: u64, stamp: u64) -> bool
     ensures { λ r. ⌜ r ≡ rightGot (now (b .entry)) d item stamp ⌝ }
 {
     let mode = mode(b, d);
-    ((mode == READING) | (mode == SECOND_PART)) & (asked(b, d, item) == stamp)
+    ((mode == READING) | (mode == SECOND_PART) | (mode == MIXING)) & (asked(b, d, item) == stamp)
+}
+
+// The items whose prepared reply client `d` awaits: a mixed transaction has a word of its own for
+// them.
+fn prepared_awaited(b: &[u64], d: u64) -> u64
+    requires { ⌜ (1 ≤ d) × (d ≤ 8) ⌝ }
+    ensures { λ r. ⌜ r ≡ preparedAwaited (now (b .entry)) d ⌝ }
+{
+    let mixed = mode(b, d) == MIXING;
+    pick(mixed, write_awaited(b, d), awaited(b, d))
 }
 
 // Whether a prepared reply with stamp `s` is one that its client awaits in its mode.
-fn is_written(b: &[u64], s: u64) -> bool
+fn is_right_prepared(b: &[u64], s: u64) -> bool
     requires { ⌜ (1 ≤ writerOf s) × (writerOf s ≤ 8) ⌝ }
     ensures { λ r. ⌜ r ≡ rightPrepared (now (b .entry)) s ⌝ }
 {
-    (mode(b, s % 16) == WRITING) & (stamp(b, s % 16) == s)
+    let mode = mode(b, s % 16);
+    ((mode == WRITING) | (mode == MIXING)) & (stamp(b, s % 16) == s)
+}
+
+// A prepared reply for `item` with stamp `s`.
+fn prepared(b: &[u64], item: u64, s: u64) -> Tested
+    requires { ⌜ (1 ≤ writerOf s) × (writerOf s ≤ 8) ⌝ }
+    ensures { λ r. ⌜ r ≡ preparedTested (now (b .entry)) item s ⌝ }
+{
+    Tested {
+        refusal: pick(
+            has(prepared_awaited(b, s % 16), item) & is_right_prepared(b, s),
+            0,
+            11,
+        ),
+        found: NONE,
+    }
 }
 
 // Message `m`, with `n` stored versions.
@@ -112,7 +143,7 @@ pub fn test(b: &[u64], n: u64, m: Message) -> Tested
             refusal: pick(is_stored(b, n, v.item, v.stamp), 11, 0),
             found: NONE,
         },
-        Message::Prepared { item, stamp: s } => reply(b, s % 16, item, is_written(b, s)),
+        Message::Prepared { item, stamp: s } => prepared(b, item, s),
         Message::Commit {
             partition: _,
             stamp: _,
@@ -147,6 +178,14 @@ fn over(b: &[u64], d: u64, outcome: u64) -> u64
     pick(mode(b, d) == IDLE, outcome, NONE_ENDED)
 }
 
+// The outcome of the got that ended a transaction of client `d`: a read's, or a mixed one's.
+fn got_outcome(b: &[u64], d: u64) -> u64
+    requires { ⌜ (1 ≤ d) × (d ≤ 8) ⌝ }
+    ensures { λ r. ⌜ r ≡ gotOutcome (now (b .entry)) d ⌝ }
+{
+    pick(last_kind(b, d) == MIXED, WRITE_ENDED, READ_ENDED)
+}
+
 // The outcome of message `m`, after its delivery.
 pub fn outcome(b: &[u64], m: Message) -> u64
     requires { ⌜ Bounded m ⌝ }
@@ -168,7 +207,7 @@ pub fn outcome(b: &[u64], m: Message) -> u64
             client,
             version: _,
             latest: _,
-        } => over(b, client, READ_ENDED),
+        } => over(b, client, got_outcome(b, client)),
         Message::FirstGet { client: _, item: _ } => NONE_ENDED,
         Message::FirstReply {
             client,

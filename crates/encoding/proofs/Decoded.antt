@@ -1,12 +1,11 @@
 -- A block that holds tables decodes to them, where they are initial outside their sizes and sets.
-use mathlib.Core.Bool.{true, false, cond, _&&_}
+use mathlib.Core.Bool.{true, cond, _&&_, _||_}
 use mathlib.Core.List.{List}
 use mathlib.Core.Path.{_≡_, refl, sym, ap, _∙_, fun-ext}
 use Prim.Native.Nat.{ℕ, _+_, _≤_, min}
 use native.Mathlib.Omega.{arith}
-use lib.Dec.{eqb}
 use lib.ListN.{length}
-use borrow.Author.Tests.{ltb-true, eqb-false, ne-eqb}
+use borrow.Author.Tests.{ltb-true}
 use Rattle.basics.proofs.Cases.{by-test, between}
 use Rattle.basics.specs.Lists.{table}
 use Rattle.itemset.specs.Set.{has}
@@ -14,22 +13,23 @@ use Rattle.protocol.specs.declared.Entry.{Entry}
 use Rattle.protocol.specs.declared.Message.the-variants.{Commit}
 use Rattle.protocol.specs.Tables.{Sizes, Tables, Client, ReadPart, WritePart, noRead, noWrite}
 use Rattle.protocol.specs.Tables.{Ended, nothing, showsRead, showsWrite, initial, resting}
-use Rattle.protocol.specs.Range.{capacities, isClient, isItem, isIdle, isWriting, hasFirst, load}
+use Rattle.protocol.specs.Range.{capacities, isClient, isItem, isWriting, hasFirst, load}
 use Rattle.protocol.specs.Range.{occupied, valid}
 use Rattle.protocol.proofs.FastRead.{first-same}
 use Rattle.protocol.specs.Steps.{version}
 use Rattle.protocol.proofs.Ranges.Clients.{ClientInRange}
-use Rattle.protocol.proofs.Ranges.Tables.{InRange, Valid, valid-facts}
+use Rattle.protocol.proofs.Ranges.Values.{IsClient}
+use Rattle.protocol.proofs.Ranges.Tables.{Within, valid-within, valid-facts}
 use Rattle.layout.specs.Layout.{mostVersions, mostMessages}
 use Rattle.layout.specs.Layout.{Section, header, scalars, latest, views, at, messagesAt, versionsAt}
-use Rattle.layout.specs.Layout.{modeAt, lastKindAt, latestAt, viewAt, isWriteMode}
+use Rattle.layout.specs.Layout.{modeAt, lastKindAt, latestAt, viewAt, isWriteMode, isMixedMode}
 use Rattle.layout.specs.Decode.{sizesIn, latestIn, viewIn, within, comeOf, readOf, writeOf, readIn}
 use Rattle.layout.specs.Decode.{writeIn, lastReadIn, lastWriteIn, endedIn, clientIn, versionIn}
 use Rattle.layout.specs.Decode.{messageIn, tablesOf}
-use Rattle.layout.specs.Encodes.{numberOfMode, HoldsEntry, HeldRead, HeldWrite, HoldsEnded}
+use Rattle.layout.specs.Encodes.{writesAlone, isMixed, HoldsEntry, HeldRead, HeldWrite, HoldsEnded}
 use Rattle.layout.specs.Encodes.{HoldsClient, Encodes}
 use Rattle.layout.proofs.Masked.{Only, OnlyCome, MaskedEnded, MaskedClient, Masked}
-use Rattle.layout.proofs.Parts.{mode-writing}
+use Rattle.layout.proofs.Parts.{mode-alone, mode-both, mode-writes}
 use Rattle.layout.proofs.Held.{version-held, message-held}
 use Rattle.encoding.proofs.Folds.{table-of}
 
@@ -87,48 +87,48 @@ ended-of : (b : List ℕ) (d : ℕ) (e : Ended) → HoldsEnded b d e → MaskedE
 ended-of b d e h m =
     let kind = at b scalars (lastKindAt d) in
     let read : cond (showsRead kind) (lastReadIn b d) noRead ≡ e .read =
-    rw (h .kind) (by-test (showsRead (e .kind))
-    (λ s. rw s (read-of (e .read) (h .read s) (m .asked) (m .answers) (m .firsts)))
-    (λ s. rw s (sym (m .hiddenRead s)))) in
+    by-test (showsRead kind)
+    (λ s. rw s (read-of (e .read) (h .read (sym (ap showsRead (h .kind)) ∙ s)) (m .asked)
+    (m .answers) (m .firsts)))
+    (λ s. rw s (sym (m .hiddenRead (sym (ap showsRead (h .kind)) ∙ s)))) in
     let write : cond (showsWrite kind) (lastWriteIn b d) noWrite ≡ e .write =
-    rw (h .kind) (by-test (showsWrite (e .kind))
-    (λ s. rw s (write-of (e .write) (h .write s) (m .values)))
-    (λ s. rw s (sym (m .hiddenWrite s)))) in
+    by-test (showsWrite kind)
+    (λ s. rw s (write-of (e .write) (h .write (sym (ap showsWrite (h .kind)) ∙ s)) (m .values)))
+    (λ s. rw s (sym (m .hiddenWrite (sym (ap showsWrite (h .kind)) ∙ s)))) in
     λ i. record { kind = h .kind i; read = read i; write = write i }
 
--- mode 2 is that of a writing client and of no other
-mode-others : (c : Client) → isWriting c ≡ false → isWriteMode (numberOfMode c) ≡ false
-mode-others c w =
-    by-test (isIdle c) (λ i. rw i refl)
-    (λ i. rw (i, w) (by-test (eqb (c .read .stage) 0) (λ e. rw e refl)
-    (λ e. rw e (ne-eqb (c .read .stage + 2) 2 (omega (arith, eqb-false (c .read .stage) 0 e))))))
+-- the mode tells which parts there are
+module _ (b : List ℕ) (d : ℕ) (z : Sizes) (c : Client) (h : HoldsClient b d c)
+    (r : ClientInRange z c) where
+  pub tells-alone : isWriteMode (at b scalars (modeAt d)) ≡ writesAlone c
+  tells-alone = ap isWriteMode (h .mode) ∙ mode-alone z c r
 
-pub mode-tells : (b : List ℕ) (d : ℕ) (z : Sizes) (c : Client) → HoldsClient b d c
-    → ClientInRange z c → isWriteMode (at b scalars (modeAt d)) ≡ isWriting c
-mode-tells b d z c h r =
-    ap isWriteMode (h .mode)
-    ∙ by-test (isWriting c) (λ w. ap isWriteMode (mode-writing z c r w) ∙ sym w)
-    (λ w. mode-others c w ∙ sym w)
+  pub tells-mixed : isMixedMode (at b scalars (modeAt d)) ≡ isMixed c
+  tells-mixed = ap isMixedMode (h .mode) ∙ mode-both z c r
+
+  pub tells-writing : isWriteMode (at b scalars (modeAt d)) || isMixedMode (at b scalars (modeAt d))
+      ≡ isWriting c
+  tells-writing = ap (λ (x : ℕ). isWriteMode x || isMixedMode x) (h .mode) ∙ mode-writes z c r
 
 client-of : (b : List ℕ) (d : ℕ) (z : Sizes) (c : Client) → HoldsClient b d c → MaskedClient c
     → ClientInRange z c → clientIn b d ≡ c
 unfolding clientIn
 client-of b d z c h m r =
     let last = ended-of b d (c .last) (h .last) (m .last) in
-    let writes = isWriteMode (at b scalars (modeAt d)) in
-    let parts : (cond writes noRead (readIn b d) ≡ c .read)
-    × (cond writes (writeIn b d) noWrite ≡ c .write) =
+    let mode = at b scalars (modeAt d) in
+    let read : cond (isWriteMode mode) noRead (readIn b d) ≡ c .read =
+    by-test (writesAlone c)
+    (λ w. rw (tells-alone b d z c h r ∙ w) (sym (m .writing w)))
+    (λ w. rw (tells-alone b d z c h r ∙ w)
+    (read-of (c .read) (h .read w) (m .asked) (m .answers) (m .firsts))) in
+    let write : cond (isWriteMode mode || isMixedMode mode) (writeIn b d) noWrite ≡ c .write =
     by-test (isWriting c)
-    (λ w. rw (mode-tells b d z c h r ∙ w)
-    (sym (m .writing w), write-of (c .write) (h .write w) (m .values)))
-    (λ w. rw (mode-tells b d z c h r ∙ w) (
-      read-of (c .read) (h .read w) (m .asked) (m .answers) (m .firsts),
-      sym (m .others w),
-    )) in
+    (λ w. rw (tells-writing b d z c h r ∙ w) (write-of (c .write) (h .write w) (m .values)))
+    (λ w. rw (tells-writing b d z c h r ∙ w) (sym (m .others w))) in
     λ i. record {
       count = h .count i;
-      read = parts .0 i;
-      write = parts .1 i;
+      read = read i;
+      write = write i;
       last = last i;
     }
 
@@ -140,7 +140,8 @@ entry-of b s at₀ e h = λ i. record { stamp = h .stamp i; set = h .set i }
 
 -- ---- The whole
 
-module _ (b : List ℕ) (t : Tables) (e : Encodes b t) (m : Masked t) (r : InRange t) where
+module _ (b : List ℕ) (t : Tables) (e : Encodes b t) (m : Masked t)
+    (r : (d : ℕ) → IsClient (t .sizes) d → ClientInRange (t .sizes) (t .client d)) where
   sizes-of : sizesIn b ≡ t .sizes
   sizes-of = λ i. record {
     clients = e .clients i;
@@ -178,7 +179,7 @@ module _ (b : List ℕ) (t : Tables) (e : Encodes b t) (m : Masked t) (r : InRan
       let bounds = between 1 (t .sizes .clients) d y in
       rw y (client-of b d (t .sizes) (t .client d) (e .client d (bounds .0) (bounds .1))
       (m .client d)
-      (r .client d bounds)))
+      (r d bounds)))
       (λ f. rw f (sym (m .absent d f))))
 
   pub tables-of : length (t .versions) ≤ mostVersions → length (t .messages) ≤ mostMessages
@@ -203,11 +204,11 @@ module _ (b : List ℕ) (t : Tables) (e : Encodes b t) (m : Masked t) (r : InRan
 
 -- ---- Within the capacities
 
-pub few-versions : (t : Tables) → Valid capacities t → length (t .versions) ≤ mostVersions
+pub few-versions : (t : Tables) → Within capacities t → length (t .versions) ≤ mostVersions
 unfolding occupied
 few-versions t v = omega (arith, v .occupied)
 
-pub few-messages : (t : Tables) → Valid capacities t → length (t .messages) ≤ mostMessages
+pub few-messages : (t : Tables) → Within capacities t → length (t .messages) ≤ mostMessages
 unfolding load
 few-messages t v = omega (arith, v .load)
 
@@ -215,4 +216,5 @@ pub tables-of-valid : (b : List ℕ) (t : Tables) → Encodes b t → Masked t �
     → tablesOf b ≡ t
 tables-of-valid b t e m v =
     let f = valid-facts capacities t v in
-    tables-of b t e m (f .inRange) (few-versions t f) (few-messages t f)
+    tables-of b t e m (f .inRange .client) (few-versions t (valid-within capacities t f))
+    (few-messages t (valid-within capacities t f))

@@ -1,5 +1,5 @@
 -- A well-formed block holds the tables that it decodes to.
-use mathlib.Core.Bool.{true, cond}
+use mathlib.Core.Bool.{true, cond, _||_}
 use mathlib.Core.List.{List}
 use mathlib.Core.Path.{_≡_, refl, sym, _∙_}
 use Prim.Native.Nat.{ℕ, _<_, min}
@@ -15,16 +15,16 @@ use Rattle.protocol.specs.declared.Entry.{Entry}
 use Rattle.protocol.specs.Tables.{Sizes}
 use Rattle.protocol.proofs.Ranges.Clients.{ClientInRange}
 use Rattle.layout.specs.Layout.{mostVersions, mostMessages}
-use Rattle.layout.specs.Layout.{header, scalars, at, messagesAt, versionsAt, modeAt, awaitedAt}
-use Rattle.layout.specs.Layout.{modes, isWriteMode}
+use Rattle.layout.specs.Layout.{header, scalars, at, messagesAt, versionsAt, modeAt, modes}
+use Rattle.layout.specs.Layout.{isWriteMode, isMixedMode}
 use Rattle.layout.specs.Decode.{sizesIn, readOf, writeOf, endedIn, clientIn, versionIn, messageIn}
-use Rattle.layout.specs.Decode.{tablesOf}
+use Rattle.layout.specs.Decode.{tablesOf, awaitsNone, hasParts}
 use Rattle.layout.specs.Encodes.{HoldsVersion, HoldsMessage, HeldRead, HeldWrite, HoldsEnded}
 use Rattle.layout.specs.Encodes.{HoldsClient, Encodes}
 use Rattle.layout.proofs.Held.{held-version, held-message}
 use Rattle.layout.proofs.FirstWords.{reply-come}
 use Rattle.encoding.proofs.WellFormed.{client-test, ValidBlock, client-range}
-use Rattle.encoding.proofs.Modes.{write-word, other-word, mode-word}
+use Rattle.encoding.proofs.Modes.{none-word, alone-word, mode-word}
 
 -- ---- Parts
 
@@ -61,21 +61,21 @@ holds-ended b d = record {
 
 -- ---- Clients
 
-holds-client : (b : List ℕ) (z : Sizes) (d : ℕ) → ClientInRange z (clientIn b d)
-    → at b scalars (modeAt d) < modes
-    → eqb (at b scalars (modeAt d)) 0 ≡ eqb (at b scalars (awaitedAt d)) 0
-    → HoldsClient b d (clientIn b d)
+pub holds-client : (b : List ℕ) (z : Sizes) (d : ℕ) → ClientInRange z (clientIn b d)
+    → at b scalars (modeAt d) < modes → eqb (at b scalars (modeAt d)) 0 ≡ awaitsNone b d
+    → hasParts b d ≡ true → HoldsClient b d (clientIn b d)
 unfolding clientIn
-holds-client b z d range below idle =
+holds-client b z d range below idle parts =
+    let mode = at b scalars (modeAt d) in
     record {
-      mode = mode-word b d z range idle below;
+      mode = mode-word b d z range idle parts below;
       count = refl;
-      read = λ w. by-test (isWriteMode (at b scalars (modeAt d)))
-          (λ m. not-both (write-word b d z range idle m) w)
+      read = λ w. by-test (isWriteMode mode)
+          (λ m. not-both (alone-word b d z range idle m) w)
           (λ m. rw m (holds-read _ _ _ _ _ _));
-      write = λ w. by-test (isWriteMode (at b scalars (modeAt d)))
+      write = λ w. by-test (isWriteMode mode || isMixedMode mode)
           (λ m. rw m (holds-write _ _ _ _))
-          (λ m. not-both w (other-word b d m));
+          (λ m. not-both w (none-word b d m));
       last = holds-ended b d;
     }
 
@@ -106,7 +106,7 @@ encodes-tables b v =
           (record { stamp = refl; set = refl });
       client = λ d l h. rw (client-test (sizesIn b) d (l, h))
           (holds-client b (sizesIn b) d (client-range b v d (l, h)) (w .mode d (l, h))
-          (w .idle d (l, h)));
+          (w .idle d (l, h)) (w .parts d (l, h)));
       versions = table-holds (HoldsVersion b) _ (versionIn b) (λ i l. held-version b i);
       messages = table-holds (HoldsMessage b) _ (messageIn b)
           (λ i l. held-message b i (w .someKind i (omega arith)) (w .kind i (omega arith)));

@@ -24,13 +24,14 @@ use Rattle.protocol.specs.Tables.{partitionOf, withClient, withRead, withView, 
 use Rattle.protocol.specs.Tables.{withVersions, withMessages}
 use Rattle.protocol.specs.Range.{Capacities, isClient, isItem, isWriting, hasFirst}
 use Rattle.protocol.specs.FastRead.{fastReader, firstGets, firstKept, secondPart, firstReplied}
-use Rattle.protocol.specs.Steps.{reader, gets, writer, prepares, stored, found, struck, answered}
+use Rattle.protocol.specs.Steps.{reader, gets, writer, prepares, mixer, mixedMessages, stored}
+use Rattle.protocol.specs.Steps.{found, struck, answered}
 use Rattle.protocol.specs.Steps.{endedRead, endedWrite, ended, isLast, prepared, got, gotFirst}
 use Rattle.protocol.specs.Steps.{offered, seen, committed, delivered, joined, messageAt}
 use Rattle.protocol.specs.Clear.{cleared}
 use Rattle.protocol.specs.HandOver.{takenOver}
-use Rattle.protocol.specs.Calls.{Call, startRead, startFastRead, startWrite, deliver, show, clear}
-use Rattle.protocol.specs.Calls.{handOver, compare, refusal, effect}
+use Rattle.protocol.specs.Calls.{Call, startRead, startFastRead, startWrite, startMixed, deliver}
+use Rattle.protocol.specs.Calls.{show, clear, handOver, compare, refusal, effect}
 use Rattle.protocol.proofs.FastRead.{first-in-set, first-come, first-kept, first-apart, first-other}
 use Rattle.protocol.proofs.Put.{by-cond, put-all, put-other, put-every}
 use Rattle.protocol.proofs.Stored.{found-held}
@@ -38,7 +39,9 @@ use Rattle.protocol.proofs.Ranges.Values.{IsClient, MessageInRange}
 use Rattle.protocol.proofs.Ranges.Tables.{InRange}
 use Rattle.protocol.proofs.Refusals.{AcceptedDeliver, Expected, accepted-read, accepted-write}
 use Rattle.protocol.proofs.Refusals.{accepted-deliver, accepted-message, tells-prepared, tells-got}
-use Rattle.protocol.proofs.Refusals.{accepted-fast-read, tells-first-reply, accepted-hand-over}
+use Rattle.protocol.proofs.Refusals.{accepted-fast-read, accepted-mixed, tells-first-reply}
+use Rattle.protocol.proofs.Refusals.{accepted-hand-over}
+use Rattle.layout.specs.Encodes.{writesAlone}
 use Rattle.layout.proofs.Masked.{Only, OnlyCome, MaskedEnded, MaskedClient, Masked}
 use Rattle.layout.proofs.Parts.{awaits-reply, awaits-answer}
 use Rattle.encoding.proofs.WellFormed.{client-test}
@@ -137,6 +140,19 @@ masked-writer t m d s bytes n =
       last = m .client d .last;
     }
 
+masked-mixer : (t : Tables) → Masked t → (d r s : ℕ) (bytes : List ℕ) → r ≢ 0 → s ≢ 0
+    → MaskedClient (mixer t d r s bytes)
+masked-mixer t m d r s bytes l n =
+    record {
+      asked = λ k e. rw e;
+      answers = λ k e. refl;
+      firsts = λ k e. refl;
+      values = λ k e. rw e;
+      writing = λ w. not-both w (rw (ne-eqb s 0 n, ne-eqb r 0 l) refl);
+      others = λ w. not-both (rw (ne-eqb s 0 n) refl) w;
+      last = m .client d .last;
+    }
+
 -- ---- Deliveries
 
 -- item k of the set, or another, gets a value
@@ -156,16 +172,16 @@ masked-struck c k m w = record {
   last = m .last;
 }
 
--- another read part, with nothing outside its set
-masked-read : (c : Client) (p : ReadPart) → MaskedClient c → isWriting c ≡ false
-    → Only (p .set) (p .asked) → Only (p .set) (p .values) → OnlyCome p
+-- another read part of the same items, with nothing outside its set
+masked-read : (c : Client) (p : ReadPart) → MaskedClient c → writesAlone c ≡ false
+    → p .set ≡ c .read .set → Only (p .set) (p .asked) → Only (p .set) (p .values) → OnlyCome p
     → MaskedClient (withRead c p)
-masked-read c p m w asks answers come = record {
+masked-read c p m w s asks answers come = record {
   asked = asks;
   answers = answers;
   firsts = come;
   values = m .values;
-  writing = λ p. not-both p w;
+  writing = λ a. not-both (rw s at a) w;
   others = m .others;
   last = m .last;
 }
@@ -180,9 +196,12 @@ masked-ended c m =
       hiddenRead = λ s. by-test (eqb (c .write .set) 0)
           (λ e. by-test (eqb (c .read .stage) 0) (λ n. not-both refl (rw (e, n) at s))
           (λ n. not-both refl (rw (e, n) at s)))
-          (λ e. ap endedRead (m .writing (rw e refl)));
+          (λ e. by-test (eqb (c .read .set) 0) (λ n. ap endedRead (m .writing (rw (e, n) refl)))
+          (λ n. not-both refl (rw (e, n) at s)));
       hiddenWrite = λ s. by-test (eqb (c .write .set) 0)
-          (λ e. ap endedWrite (m .others (rw e refl))) (λ e. not-both refl (rw e at s));
+          (λ e. ap endedWrite (m .others (rw e refl)))
+          (λ e. by-test (eqb (c .read .set) 0) (λ n. not-both refl (rw (e, n) at s))
+          (λ n. not-both refl (rw (e, n) at s)));
     }
 
 -- with the last reply it rests, and its part is as it ended
@@ -200,12 +219,13 @@ masked-prepared c k m w =
     (λ l. masked-struck c k m w)
 
 -- a got comes in no first part, so the first replies that have come stay the same
-masked-got : (c : Client) (k v : ℕ) → MaskedClient c → isWriting c ≡ false
+masked-got : (c : Client) (k v : ℕ) → MaskedClient c → writesAlone c ≡ false
     → has (c .read .set) k ≡ true → c .read .stage ≢ 1 → MaskedClient (got c k v)
 masked-got c k v m w h n =
     let p = answered c k v .read in
     masked-last c (isLast ofRead c k) p
-    (masked-read c p m w (m .asked) (only-put (c .read .set) (c .read .values) k v h (m .answers))
+    (masked-read c p m w refl (m .asked)
+    (only-put (c .read .set) (c .read .values) k v h (m .answers))
     (λ j e. m .firsts j (sym (first-apart (c .read) p j n refl refl) ∙ e)))
 
 -- a first reply is kept for its item, and in the second part all have come
@@ -223,7 +243,7 @@ come-second n p o k e =
     o k (by-test (hasFirst p k)
     (λ h. not-both (first-kept (secondPart n p) k refl (first-in-set p k h)) e) (λ h. h))
 
-masked-first-reply : (n : ℕ) (c : Client) (v : Version) → MaskedClient c → isWriting c ≡ false
+masked-first-reply : (n : ℕ) (c : Client) (v : Version) → MaskedClient c → writesAlone c ≡ false
     → has (c .read .set) (v .item) ≡ true → c .read .stage ≡ 1 → MaskedClient (gotFirst n c v)
 masked-first-reply n c v m w h first =
     let p = c .read in
@@ -233,8 +253,9 @@ masked-first-reply n c v m w h first =
     let after = firstReplied n p v in
     masked-last c (eqb (after .awaited) 0) after
     (by-cond (λ (q : ReadPart). MaskedClient (withRead c q)) (eqb (kept .awaited) 0) _ _
-    (λ e. masked-read c (secondPart n kept) m w (λ k o. rw o) answers (come-second n kept come))
-    (λ e. masked-read c kept m w (m .asked) answers come))
+    (λ e. masked-read c (secondPart n kept) m w refl (λ k o. rw o) answers
+    (come-second n kept come))
+    (λ e. masked-read c kept m w refl (m .asked) answers come))
 
 -- a set of existing items has none of those that don't exist
 hasnt-item : (z : Sizes) (s k : ℕ) → s < 2 ^ z .items → isItem z k ≡ false → has s k ≡ false
@@ -346,6 +367,10 @@ masked-step caps t (startWrite d s bytes) e m =
     let a = accepted-write caps t d s bytes .0 e in
     masked-start t m d (writer t d s bytes) (prepares t d s bytes) (a .start .client)
     (masked-writer t m d s bytes (a .start .some))
+masked-step caps t (startMixed d r s bytes) e m =
+    let a = accepted-mixed caps t d r s bytes .0 e in
+    masked-start t m d (mixer t d r s bytes) (mixedMessages t d r s bytes) (a .read .client)
+    (masked-mixer t m d r s bytes (a .read .some) (a .write .start .some))
 masked-step caps t (deliver i) e m = masked-deliver caps t m i (accepted-deliver caps t i .0 e)
 masked-step caps t (show d output) e m = m
 masked-step caps t clear e m = masked-versions t m (cleared t .versions)

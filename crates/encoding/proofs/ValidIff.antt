@@ -1,14 +1,14 @@
 -- A block is valid exactly when it holds some tables that are in range and within the capacities.
-use mathlib.Core.Bool.{true}
+use mathlib.Core.Bool.{true, false, _&&_}
 use mathlib.Core.List.{List}
-use mathlib.Core.Logic.{_↔_, _≢_}
-use mathlib.Core.Path.{_≡_, refl, sym, _∙_, subst, subst₂, ap}
+use mathlib.Core.Logic.{_↔_}
+use mathlib.Core.Path.{_≡_, refl, sym, _∙_, subst, subst₂, ap, ap₂}
 use Prim.Native.Nat.{ℕ, _+_, _≤_, _<_}
 use native.Mathlib.Omega.{arith}
 use lib.ListN.{length, getD}
 use lib.Dec.{eqb}
-use borrow.Author.Tests.{lt-ltb, ne-eqb, eqb-false}
-use Rattle.basics.proofs.Cases.{by-test, not-true}
+use borrow.Author.Tests.{lt-ltb, ne-eqb}
+use Rattle.basics.proofs.Cases.{by-test}
 use Rattle.basics.proofs.Lists.{in-getD}
 use Rattle.protocol.specs.declared.Entry.{Entry}
 use Rattle.protocol.specs.declared.Message.{Message}
@@ -25,31 +25,36 @@ use Rattle.protocol.proofs.FastRead.{first-same}
 use Rattle.protocol.proofs.Ranges.Clients.{ReadPartInRange, WritePartInRange, EndedInRange}
 use Rattle.protocol.proofs.Ranges.Clients.{ClientInRange}
 use Rattle.protocol.proofs.Kept.Values.{range-no-read, range-no-write}
-use Rattle.protocol.proofs.Ranges.Tables.{InRange, Valid, valid-facts, facts-valid}
+use Rattle.protocol.proofs.Ranges.Tables.{InRange, Valid, valid-within, valid-facts, facts-valid}
 use Rattle.layout.specs.Layout.{Section, header, scalars, latest, views, at}
-use Rattle.layout.specs.Layout.{messagesAt, modeAt, awaitedAt, latestAt, viewAt, modes}
+use Rattle.layout.specs.Layout.{messagesAt, modeAt, awaitedAt, writeSetAt, writeAwaitedAt}
+use Rattle.layout.specs.Layout.{latestAt, viewAt, modes}
 use Rattle.layout.specs.Decode.{sizesIn, kindIn, readOf, writeOf, endedIn, clientIn}
-use Rattle.layout.specs.Decode.{versionIn, messageIn, tablesOf, validBlock}
-use Rattle.layout.specs.Encodes.{numberOfMode, HoldsEntry, HoldsMessage, HeldRead, HeldWrite}
-use Rattle.layout.specs.Encodes.{HoldsEnded, HoldsClient, Encodes}
+use Rattle.layout.specs.Decode.{versionIn, messageIn, tablesOf, awaitsNone, hasParts, validBlock}
+use Rattle.layout.specs.Encodes.{writesAlone, isMixed, numberOfMode, HoldsEntry, HoldsMessage}
+use Rattle.layout.specs.Encodes.{HeldRead, HeldWrite, HoldsEnded, HoldsClient, Encodes}
 use Rattle.encoding.proofs.Folds.{each-table, counted-list, total-same}
 use Rattle.encoding.proofs.WellFormed.{client-test, WellFormed}
 use Rattle.encoding.proofs.WellFormed.{ValidBlock}
 use Rattle.encoding.proofs.WellFormed.{tells-valid-block}
 use Rattle.encoding.proofs.Capacity.{load-words, occupied-words}
 use Rattle.encoding.proofs.Encoded.{encodes-tables}
-use Rattle.layout.proofs.Parts.{mode-writing, mode-other, no-stage, writes-nothing}
-use Rattle.layout.proofs.Parts.{no-reply-awaited}
+use Rattle.layout.proofs.Parts.{alone-or-mixed, busy-writing, no-stage, alone-writes, reads-nothing}
+use Rattle.layout.proofs.Parts.{no-answer-awaited, mode-writing, some-reply-awaited, mixed-writes}
+use Rattle.layout.proofs.Parts.{mixed-reads, mode-mixed, mixed-not-alone, writes-nothing}
+use Rattle.layout.proofs.Parts.{no-reply-awaited, mode-other}
 use Rattle.layout.proofs.Held.{version-held, kind-held, message-held}
 use Rattle.layout.proofs.FirstWords.{reply-come}
-use Rattle.encoding.proofs.Decoded.{mode-tells, entry-of, few-versions, few-messages}
+use Rattle.encoding.proofs.Decoded.{tells-alone, tells-mixed, tells-writing, entry-of}
+use Rattle.encoding.proofs.Decoded.{few-versions, few-messages}
 
 -- ---- The numbers are those of some mode or kind
 
 mode-below : (c : Client) → c .read .stage ≤ 2 → numberOfMode c < modes
 mode-below c l =
     by-test (isIdle c) (λ i. rw i (omega arith))
-    (λ i. rw i (by-test (isWriting c) (λ w. rw w (omega arith))
+    (λ i. rw i (by-test (isWriting c) (λ w. rw w (by-test (eqb (c .read .set) 0)
+    (λ e. rw e (omega arith)) (λ e. rw e (omega arith))))
     (λ w. rw w (by-test (eqb (c .read .stage) 0) (λ e. rw e (omega arith))
     (λ e. rw e (omega arith))))))
 
@@ -97,26 +102,104 @@ module _ (b : List ℕ) (z : Sizes) where
             rw s (write-range (x .write) (h .write t) (r .write t));
       }
 
-  client-range : (d : ℕ) (c : Client) → HoldsClient b d c → ClientInRange z c
-      → ClientInRange z (clientIn b d)
-  unfolding clientIn
-  client-range d c h r =
-      let mode = mode-tells b d z c h r in
-      record {
-        count = rw (h .count) (r .count);
-        read = by-test (isWriting c) (λ w. rw (mode ∙ w) (range-no-read z))
-            (λ w. rw (mode ∙ w) (read-range (c .read) (h .read w) (r .read)));
-        write = by-test (isWriting c)
-            (λ w. rw (mode ∙ w) (write-range (c .write) (h .write w) (r .write)))
-            (λ w. rw (mode ∙ w) (range-no-write z));
-        alone = by-test (isWriting c)
-            (λ w. let p = h .write w in
-            rw (mode ∙ w, p .set, p .awaited) (λ n. (refl, r .alone n .1)))
-            (λ w. rw (mode ∙ w) (λ n. absurd (n refl)));
-        fast = by-test (isWriting c) (λ w. rw (mode ∙ w) (λ n. absurd (n refl)))
-            (λ w. let p = h .read w in rw (mode ∙ w, p .stage, p .awaited) (r .fast));
-        last = ended-range d (c .last) (h .last) (r .last);
-      }
+  -- the sets, awaited items and stage that the words are
+  module _ (d : ℕ) (c : Client) (h : HoldsClient b d c) (r : ClientInRange z c) where
+    same-set : clientIn b d .read .set ≡ c .read .set
+    unfolding clientIn
+    same-set = by-test (writesAlone c)
+        (λ w. rw (tells-alone b d z c h r ∙ w) (sym (reads-nothing z c r w)))
+        (λ w. rw (tells-alone b d z c h r ∙ w) (h .read w .set))
+
+    same-awaited : clientIn b d .read .awaited ≡ c .read .awaited
+    unfolding clientIn
+    same-awaited = by-test (writesAlone c)
+        (λ w. rw (tells-alone b d z c h r ∙ w) (sym (no-answer-awaited z c r w)))
+        (λ w. rw (tells-alone b d z c h r ∙ w) (h .read w .awaited))
+
+    same-stage : clientIn b d .read .stage ≡ c .read .stage
+    unfolding clientIn
+    same-stage = by-test (writesAlone c)
+        (λ w. rw (tells-alone b d z c h r ∙ w) (sym (no-stage z c r (alone-writes z c r w))))
+        (λ w. rw (tells-alone b d z c h r ∙ w) (h .read w .stage))
+
+    same-write-set : clientIn b d .write .set ≡ c .write .set
+    unfolding clientIn
+    same-write-set = by-test (isWriting c)
+        (λ w. rw (tells-writing b d z c h r ∙ w) (h .write w .set))
+        (λ w. rw (tells-writing b d z c h r ∙ w) (sym (writes-nothing z c r w)))
+
+    same-write-awaited : clientIn b d .write .awaited ≡ c .write .awaited
+    unfolding clientIn
+    same-write-awaited = by-test (isWriting c)
+        (λ w. rw (tells-writing b d z c h r ∙ w) (h .write w .awaited))
+        (λ w. rw (tells-writing b d z c h r ∙ w) (sym (no-reply-awaited z c r w)))
+
+    client-range : ClientInRange z (clientIn b d)
+    unfolding clientIn
+    client-range =
+        record {
+          count = rw (h .count) (r .count);
+          read = by-test (writesAlone c) (λ w. rw (tells-alone b d z c h r ∙ w) (range-no-read z))
+              (λ w. rw (tells-alone b d z c h r ∙ w)
+              (read-range (c .read) (h .read w) (r .read)));
+          write = by-test (isWriting c)
+              (λ w. rw (tells-writing b d z c h r ∙ w)
+              (write-range (c .write) (h .write w) (r .write)))
+              (λ w. rw (tells-writing b d z c h r ∙ w) (range-no-write z));
+          busy = λ n. ap₂ (λ (x y : ℕ). eqb x 0 && eqb y 0) same-awaited same-write-awaited
+              ∙ r .busy (λ e. n (same-write-set ∙ e));
+          fast = λ n. let f = r .fast (λ e. n (same-stage ∙ e)) in
+              (same-write-set ∙ f .0, λ e. f .1 (sym same-awaited ∙ e));
+          last = ended-range d (c .last) (h .last) (r .last);
+        }
+
+    -- and so are what has come, and whether it is idle
+    arrived-same : arrived (clientIn b d) ≡ arrived c
+    unfolding arrived
+    arrived-same = rw (same-set, same-awaited, same-stage, same-write-set, same-write-awaited) refl
+
+    -- where the write part's words lie
+    alone-reply : writesAlone c ≡ true → at b scalars (awaitedAt d) ≡ c .write .awaited
+    alone-reply a =
+        let own = h .write (alone-writes z c r a) .awaited in
+        rw (h .mode ∙ mode-writing z c r a) at own
+
+    mixed-reply : isMixed c ≡ true → at b scalars (writeAwaitedAt d) ≡ c .write .awaited
+    mixed-reply m =
+        let own = h .write (mixed-writes z c r m) .awaited in
+        rw (h .mode ∙ mode-mixed z c r m) at own
+
+    mixed-written : isMixed c ≡ true → at b scalars (writeSetAt d) ≡ c .write .set
+    mixed-written m =
+        let own = h .write (mixed-writes z c r m) .set in
+        rw (h .mode ∙ mode-mixed z c r m) at own
+
+    idle-word : eqb (at b scalars (modeAt d)) 0 ≡ awaitsNone b d
+    idle-word =
+        by-test (isWriting c)
+        (λ w. by-test (writesAlone c)
+        (λ a. rw (h .mode ∙ mode-writing z c r a, alone-reply a, some-reply-awaited z c r a) refl)
+        (λ a. let m = alone-or-mixed c w a in
+        rw (h .mode ∙ mode-mixed z c r m, h .read a .awaited, mixed-reply m)
+        (sym (busy-writing z c r w))))
+        (λ w. let none : isMixed c ≡ false = rw w refl in
+        let answers : writesAlone c ≡ false = rw w refl in
+        rw (tells-mixed b d z c h r ∙ none, h .read answers .awaited, h .mode, mode-other z c r w)
+        (by-test (eqb (c .read .awaited) 0) (λ e. rw e refl)
+        (λ e. rw e (by-test (eqb (c .read .stage) 0) (λ n. rw n refl)
+        (λ n. rw n (ne-eqb (c .read .stage + 2) 0 (omega arith)))))))
+
+    parts-word : hasParts b d ≡ true
+    unfolding hasParts
+    parts-word =
+        by-test (isMixed c)
+        (λ m. rw (
+          h .mode ∙ mode-mixed z c r m,
+          h .read (mixed-not-alone z c r m) .set,
+          mixed-written m,
+          mixed-reads z c r m,
+        ) (mixed-writes z c r m))
+        (λ m. rw (tells-mixed b d z c h r ∙ m) refl)
 
   message-range : (i : ℕ) (m : Message) → HoldsMessage b i m → MessageInRange z m
       → MessageInRange z (messageIn b i)
@@ -124,45 +207,9 @@ module _ (b : List ℕ) (z : Sizes) where
 
 -- ---- and the load and the versions in use are the same
 
-arrived-same : (b : List ℕ) (z : Sizes) (d : ℕ) (c : Client) → HoldsClient b d c
-    → ClientInRange z c → arrived (clientIn b d) ≡ arrived c
-unfolding clientIn arrived
-arrived-same b z d c h r =
-    by-test (isWriting c)
-    (λ w. rw (
-      mode-tells b d z c h r ∙ w,
-      h .write w .set,
-      h .write w .awaited,
-      no-stage z c r w,
-    ) refl)
-    (λ w. let p = h .read w in
-    rw (
-      mode-tells b d z c h r ∙ w,
-      writes-nothing z c r w,
-      no-reply-awaited z c r w,
-      p .stage,
-      p .set,
-      p .awaited,
-    ) refl)
-
 prepare-same : (b : List ℕ) (i : ℕ) (m : Message) → HoldsMessage b i m
     → isPrepare (messageIn b i) ≡ isPrepare m
 prepare-same b i m h = ap isPrepare (message-held b i m h)
-
--- the mode is 0 exactly if no item is awaited
-idle-word : (b : List ℕ) (z : Sizes) (d : ℕ) (c : Client) → HoldsClient b d c → ClientInRange z c
-    → eqb (at b scalars (modeAt d)) 0 ≡ eqb (at b scalars (awaitedAt d)) 0
-idle-word b z d c h r =
-    by-test (isWriting c)
-    (λ w. rw (h .mode, mode-writing z c r w, h .write w .awaited)
-    (sym (ne-eqb (c .write .awaited) 0 (r .alone (writes w) .1))))
-    (λ w. rw (h .mode, mode-other z c r w, h .read w .awaited)
-    (by-test (eqb (c .read .awaited) 0) (λ e. rw e refl)
-    (λ e. rw e (by-test (eqb (c .read .stage) 0) (λ n. rw n refl)
-    (λ n. rw n (ne-eqb (c .read .stage + 2) 0 (omega arith)))))))
-  where
-    writes : isWriting c ≡ true → c .write .set ≢ 0
-    writes w = eqb-false (c .write .set) 0 (not-true (eqb (c .write .set) 0) w)
 
 -- ---- The whole
 
@@ -191,8 +238,8 @@ module _ (b : List ℕ) (t : Tables) (e : Encodes b t) (v : Valid capacities t) 
       record {
         long = e .long;
         sizes = subst SizesInRange sizes-same (v .inRange .sizes);
-        versionCount = omega (arith, e .versionCount, few-versions t v);
-        messageCount = omega (arith, e .messageCount, few-messages t v);
+        versionCount = omega (arith, e .versionCount, few-versions t (valid-within capacities t v));
+        messageCount = omega (arith, e .messageCount, few-messages t (valid-within capacities t v));
         mode = λ d c. omega (
           arith,
           holds-client d c .mode,
@@ -200,6 +247,8 @@ module _ (b : List ℕ) (t : Tables) (e : Encodes b t) (v : Valid capacities t) 
               (v .inRange .client d (c .0, omega (arith, e .clients)) .read .stage),
         );
         idle = λ d c. idle-word b (t .sizes) d (t .client d) (holds-client d c)
+            (v .inRange .client d (c .0, omega (arith, e .clients)));
+        parts = λ d c. parts-word b (t .sizes) d (t .client d) (holds-client d c)
             (v .inRange .client d (c .0, omega (arith, e .clients)));
         lastKind = λ d c. rw (holds-client d c .last .kind)
             (v .inRange .client d (c .0, omega (arith, e .clients)) .last .kind);

@@ -17,8 +17,9 @@ use Rattle.protocol.proofs.Ranges.Clients.{ClientInRange}
 use Rattle.protocol.proofs.Ranges.Tables.{is-client, each-client, Valid, tells-valid}
 use Rattle.layout.specs.Layout.{mostVersions, mostMessages}
 use Rattle.layout.specs.Layout.{header, scalars, needed, at, versionsAt, messagesAt, modeAt}
-use Rattle.layout.specs.Layout.{awaitedAt, lastKindAt, modes}
-use Rattle.layout.specs.Decode.{sizesIn, kindIn, clientIn, tablesOf, wellFormed, validBlock}
+use Rattle.layout.specs.Layout.{lastKindAt, modes}
+use Rattle.layout.specs.Decode.{sizesIn, kindIn, clientIn, tablesOf, awaitsNone, hasParts}
+use Rattle.layout.specs.Decode.{wellFormed, validBlock}
 
 -- a client that exists passes its test
 pub client-test : (z : Sizes) (d : ℕ) → IsClient z d → isClient z d ≡ true
@@ -32,7 +33,8 @@ pub record WellFormed (b : List ℕ) : Type 0 where
   pub messageCount : at b header messagesAt ≤ mostMessages
   pub mode : (d : ℕ) → IsClient (sizesIn b) d → at b scalars (modeAt d) < modes
   pub idle : (d : ℕ) → IsClient (sizesIn b) d
-      → eqb (at b scalars (modeAt d)) 0 ≡ eqb (at b scalars (awaitedAt d)) 0
+      → eqb (at b scalars (modeAt d)) 0 ≡ awaitsNone b d
+  pub parts : (d : ℕ) → IsClient (sizesIn b) d → hasParts b d ≡ true
   pub lastKind : (d : ℕ) → IsClient (sizesIn b) d → isKind (at b scalars (lastKindAt d)) ≡ true
   pub someKind : (i : ℕ) → i < at b header messagesAt → 1 ≤ kindIn b i
   pub kind : (i : ℕ) → i < at b header messagesAt → kindIn b i ≤ kinds
@@ -43,13 +45,15 @@ tells-well-formed b = (
   λ e.
       let f = simp (tells, tells-sizes) at e in
       let client = each-client (sizesIn b)
-      (λ d. ((at b scalars (modeAt d) < modes)
-      × (eqb (at b scalars (modeAt d)) 0 ≡ eqb (at b scalars (awaitedAt d)) 0))
+      (λ d. (((at b scalars (modeAt d) < modes)
+      × (eqb (at b scalars (modeAt d)) 0 ≡ awaitsNone b d)) × (hasParts b d ≡ true))
       × (isKind (at b scalars (lastKindAt d)) ≡ true)) (f .0 .1) in
       let mode : (d : ℕ) → IsClient (sizesIn b) d → at b scalars (modeAt d) < modes =
-      λ d c. client d c .0 .0 in
+      λ d c. client d c .0 .0 .0 in
       let idle : (d : ℕ) → IsClient (sizesIn b) d
-      → eqb (at b scalars (modeAt d)) 0 ≡ eqb (at b scalars (awaitedAt d)) 0 =
+      → eqb (at b scalars (modeAt d)) 0 ≡ awaitsNone b d =
+      λ d c. client d c .0 .0 .1 in
+      let parts : (d : ℕ) → IsClient (sizesIn b) d → hasParts b d ≡ true =
       λ d c. client d c .0 .1 in
       let lastKind : (d : ℕ) → IsClient (sizesIn b) d
       → isKind (at b scalars (lastKindAt d)) ≡ true = λ d c. client d c .1 in
@@ -57,7 +61,7 @@ tells-well-formed b = (
       let kind : (i : ℕ) → i < at b header messagesAt → kindIn b i ≤ kinds = λ i l. f .1 i l .1 in
       search,
   λ r. simp (tells, tells-sizes)
-      (search (r .mode, r .idle, r .lastKind, r .someKind, r .kind, is-client)),
+      (search (r .mode, r .idle, r .parts, r .lastKind, r .someKind, r .kind, is-client)),
 )
 
 -- not refused by 1

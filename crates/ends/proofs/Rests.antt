@@ -11,7 +11,8 @@ use Rattle.protocol.specs.Tables.{Client, Ended, noRead, resting, rested, shows
 use Rattle.protocol.specs.Range.{isWriting}
 use Rattle.protocol.specs.Steps.{ended as lastOf}
 use Rattle.protocol.proofs.FastRead.{no-first}
-use Rattle.layout.specs.Layout.{scalars, lastStamps, lastValues, stageOf}
+use Rattle.layout.specs.Layout.{scalars, lastStamps, lastValues, isMixedKind, stageOf, lowHalf}
+use Rattle.layout.specs.Layout.{highHalf}
 use Rattle.layout.proofs.Room.{NarrowClient}
 use Rattle.layout.proofs.ClientWords.{Words, putWord}
 use Rattle.layout.proofs.ClientHolds.{WordsHold, WordsEnded}
@@ -61,8 +62,19 @@ read-alone c w =
     ap showsWrite (kind-read c w)
     ∙ by-test (eqb (c .read .stage) 0) (λ e. rw e refl) (λ e. rw e refl)
 
-pub kind-write : (c : Client) → isWriting c ≡ true → lastOf c .kind ≡ 2
-kind-write c w = rw (not-true (eqb (c .write .set) 0) w) refl
+-- and whose values are one in a word
+read-unmixed : (c : Client) → isWriting c ≡ false → isMixedKind (lastOf c .kind) ≡ false
+read-unmixed c w =
+    ap isMixedKind (kind-read c w)
+    ∙ by-test (eqb (c .read .stage) 0) (λ e. rw e refl) (λ e. rw e refl)
+
+pub kind-write : (c : Client) → isWriting c ≡ true → eqb (c .read .set) 0 ≡ true
+    → lastOf c .kind ≡ 2
+kind-write c w e = rw (not-true (eqb (c .write .set) 0) w, e) refl
+
+pub kind-mixed : (c : Client) → isWriting c ≡ true → eqb (c .read .set) 0 ≡ false
+    → lastOf c .kind ≡ 4
+kind-mixed c w e = rw (not-true (eqb (c .write .set) 0) w, e) refl
 
 -- ---- and its words
 
@@ -80,24 +92,48 @@ rests-read w c kind kinds reads counted stamps values =
         awaited = refl;
         stage = refl;
         asked = stamps;
-        values = values;
+        values = λ k e. rw (ap isMixedKind kinds ∙ read-unmixed c reads) (values k e);
         firsts = λ k e. refl;
       };
       write = λ s. not-both s (read-alone c reads);
     })
 
 pub rests-write : (w : Words) (c : Client) (stamp : ℕ) → c .write .stamp ≡ stamp
-    → isWriting c ≡ true → w scalars 1 ≡ c .count
+    → isWriting c ≡ true → eqb (c .read .set) 0 ≡ true → w scalars 1 ≡ c .count
     → ((k : ℕ) → has (c .write .set) k ≡ true → w lastValues k ≡ c .write .values k)
     → WordsHold (putWord (endedWords w 2 (c .write .set)) scalars 7 stamp)
     (rested c (lastOf c))
-rests-write w c stamp own writes counted values =
+rests-write w c stamp own writes alone counted values =
     rests (putWord (endedWords w 2 (c .write .set)) scalars 7 stamp) (c .count) (lastOf c) refl
     counted refl refl
     (record {
-      kind = sym (kind-write c writes);
-      read = λ s. not-both (rw (kind-write c writes) at s) refl;
+      kind = sym (kind-write c writes alone);
+      read = λ s. not-both (rw (kind-write c writes alone) at s) refl;
       write = λ s. record { set = refl; awaited = refl; stamp = sym own; values = values };
+    })
+
+-- both values are in the halves of a word
+pub rests-mixed : (w : Words) (c : Client) → isWriting c ≡ true → eqb (c .read .set) 0 ≡ false
+    → w scalars 1 ≡ c .count
+    → ((k : ℕ) → has (c .read .set) k ≡ true → w lastStamps k ≡ c .read .asked k)
+    → ((k : ℕ) → has (c .read .set) k ≡ true → lowHalf (w lastValues k) ≡ c .read .values k)
+    → ((k : ℕ) → has (c .write .set) k ≡ true → highHalf (w lastValues k) ≡ c .write .values k)
+    → WordsHold (putWord (putWord (endedWords w 4 (c .read .set)) scalars 7 (c .write .stamp))
+    scalars 10 (c .write .set)) (rested c (lastOf c))
+rests-mixed w c writes reads counted stamps answers values =
+    rests (putWord (putWord (endedWords w 4 (c .read .set)) scalars 7 (c .write .stamp)) scalars 10
+    (c .write .set)) (c .count) (lastOf c) refl counted refl refl
+    (record {
+      kind = sym (kind-mixed c writes reads);
+      read = λ s. record {
+        set = refl;
+        awaited = refl;
+        stage = refl;
+        asked = stamps;
+        values = answers;
+        firsts = λ k e. refl;
+      };
+      write = λ s. record { set = refl; awaited = refl; stamp = refl; values = values };
     })
 
 -- ---- its sets are narrow where the client's are

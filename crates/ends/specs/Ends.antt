@@ -8,14 +8,14 @@ use Rattle.itemset.specs.Set.{has, insert64}
 use Rattle.protocol.specs.declared.Message.the-variants.{Commit}
 use Rattle.protocol.specs.Tables.{laterOf}
 use Rattle.layout.specs.Layout.{scalars, asked, values, lastStamps, lastValues, at, store, modeAt}
-use Rattle.layout.specs.Layout.{setAt, awaitedAt, lastKindAt, lastSetAt, lastStampAt, itemAt}
-use Rattle.layout.specs.Layout.{idle, stageOf}
+use Rattle.layout.specs.Layout.{setAt, awaitedAt, stampAt, lastKindAt, lastSetAt, lastStampAt}
+use Rattle.layout.specs.Layout.{writeSetAt, lastWriteSetAt, itemAt, idle, stageOf}
 use Rattle.layout.specs.Decode.{viewIn}
 use Rattle.layout.specs.Store.{storeView}
 use Rattle.slots.specs.Room.{send}
 
--- ---- any kind (1 a read, 2 a write, 3 a fast read): it is the last ended one; the client is idle,
--- with no set
+-- ---- any kind (1 a read, 2 a write, 3 a fast read, 4 a mixed transaction): it is the last ended
+-- one; the client is idle, with no set
 
 abbrev pub ended : List ℕ → ℕ → ℕ → ℕ → List ℕ
 ended b d kind s =
@@ -68,3 +68,21 @@ unfoldable pub writeEnded : List ℕ → ℕ → ℕ → ℕ → ℕ → List �
 writeEnded b partitions items d stamp =
     let s = at b scalars (setAt d) in
     upTo (sendCommit (touched partitions s items) stamp) (writeKept b items d s stamp) partitions
+
+-- ---- a mixed transaction: stamps, values and answers are kept, both values in a word; then the
+-- view takes it, and commits join
+
+-- the client's words, and its view
+unfoldable pub mixedKept : List ℕ → ℕ → ℕ → ℕ → ℕ → ℕ → List ℕ
+mixedKept b items d r s stamp =
+    let taken = upTo (keepValue d s) (upTo (keepAnswer d r) b items) items in
+    upTo (seeItem d s stamp)
+    (store (store (ended taken d 4 r) scalars (lastStampAt d) stamp) scalars (lastWriteSetAt d) s)
+    items
+
+unfoldable pub mixedEnded : List ℕ → ℕ → ℕ → ℕ → List ℕ
+mixedEnded b partitions items d =
+    let s = at b scalars (writeSetAt d) in
+    let stamp = at b scalars (stampAt d) in
+    upTo (sendCommit (touched partitions s items) stamp)
+    (mixedKept b items d (at b scalars (setAt d)) s stamp) partitions

@@ -9,6 +9,7 @@ use client_fields::put_mode;
 use client_fields::put_set;
 use layout::IDLE;
 
+pub mod mixed;
 pub mod read;
 pub mod write;
 

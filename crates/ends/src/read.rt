@@ -29,7 +29,7 @@ fn keep_answer(b: &mut [u64], d: u64, s: u64, k: u64)
     }
 }
 
-fn keep_answers(b: &mut [u64], items: u64, d: u64, s: u64)
+pub fn keep_answers(b: &mut [u64], items: u64, d: u64, s: u64)
     requires { ⌜ (items ≤ 64) × (1 ≤ d) × (d ≤ 8) ⌝ }
     ensures { λ _. ⌜ now (b .exit) ≡ upTo (keepAnswer d s) (now (b .entry)) items ⌝ }
 {

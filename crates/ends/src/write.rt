@@ -30,7 +30,7 @@ fn see_item(b: &mut [u64], d: u64, s: u64, stamp: u64, k: u64)
     }
 }
 
-fn see(b: &mut [u64], items: u64, d: u64, s: u64, stamp: u64)
+pub fn see(b: &mut [u64], items: u64, d: u64, s: u64, stamp: u64)
     requires { ⌜ (items ≤ 64) × (1 ≤ d) × (d ≤ 8) ⌝ }
     ensures { λ _. ⌜ now (b .exit) ≡ upTo (seeItem d s stamp) (now (b .entry)) items ⌝ }
 {
@@ -52,7 +52,7 @@ fn keep_value(b: &mut [u64], d: u64, s: u64, k: u64)
     }
 }
 
-fn keep_values(b: &mut [u64], items: u64, d: u64, s: u64)
+pub fn keep_values(b: &mut [u64], items: u64, d: u64, s: u64)
     requires { ⌜ (items ≤ 64) × (1 ≤ d) × (d ≤ 8) ⌝ }
     ensures { λ _. ⌜ now (b .exit) ≡ upTo (keepValue d s) (now (b .entry)) items ⌝ }
 {
@@ -76,7 +76,7 @@ fn touch_item(partitions: u64, s: u64, ps: u64, k: u64) -> u64
 }
 
 // The partitions of the items of set `s`, as a set.
-fn touched(partitions: u64, items: u64, s: u64) -> u64
+pub fn touched(partitions: u64, items: u64, s: u64) -> u64
     requires { ⌜ 1 ≤ partitions ⌝ }
     ensures { λ r. ⌜ r ≡ touched partitions s items ⌝ }
 {
@@ -104,7 +104,7 @@ fn send_commit(b: &mut [u64], ps: u64, stamp: u64, p: u64)
     }
 }
 
-fn send_commits(b: &mut [u64], partitions: u64, ps: u64, stamp: u64)
+pub fn send_commits(b: &mut [u64], partitions: u64, ps: u64, stamp: u64)
     ensures { λ _. ⌜ now (b .exit) ≡ upTo (sendCommit ps stamp) (now (b .entry)) partitions ⌝ }
 {
     let mut p = 0;

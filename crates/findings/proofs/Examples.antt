@@ -16,7 +16,7 @@ use Rattle.log.specs.Some.{some, someFrom, firstFrom}
 use Rattle.log.specs.Log.{tooLong, linesOf, frameOf, written, writtenStamp, writeAt}
 use Rattle.log.specs.Log.{writtenValue, shown, shownStamp, shownValue, endOf, writeShaped, shaped}
 use Rattle.log.specs.Log.{readShaped, handOverShaped, entriesWhole, reaches, malformed}
-use Rattle.log.proofs.Rows.{line, times}
+use Rattle.log.proofs.Rows.{line, part, times}
 use Rattle.findings.specs.Findings.{wrote, isUnwritten, behind, fractures, withHeir, owners}
 use Rattle.findings.specs.Findings.{outdates, missesAt, holdsAt}
 use Rattle.findings.specs.Findings.{lowest, judged, checked, verdict, bytesOf, numberOf}
@@ -562,6 +562,249 @@ rows =
           ++ line 10 0x2301_0000000000000000;
       answer = 0x0f ∷ 0x00 ∷ 0x03 ∷ [];
     }
+    -- a mixed transaction shows what was written, and what it wrote is shown
+    ∷ record {
+      log =
+          line 18 0x2001_0000000000000001_00000001_00000007
+          ++ part 19 0x2402_0000000000000001_00000001_01_00000007
+          ++ line 16 0x0000000000000001_00000001_00000008
+          ++ line 19 0x2103_0000000000000001_00000001_02_00000008;
+      answer = 0x00 ∷ 0x00 ∷ 0x00 ∷ 0x00 ∷ [];
+    }
+    -- its read part is unwritten as any read; by its own write's stamp, and value, it isn't
+    ∷ record {
+      log =
+          part 19 0x2402_0000000000000001_00000001_01_00000007
+          ++ line 16 0x0000000000000001_00000001_00000008
+          ++ line 18 0x2001_0000000000000001_00000001_00000009;
+      answer = 0x00 ∷ 0x01 ∷ 0x00 ∷ 0x01 ∷ [];
+    }
+    ∷ record {
+      log =
+          part 19 0x2401_0000000000000001_00000001_01_00000008
+          ++ line 16 0x0000000000000001_00000001_00000008;
+      answer = 0x00 ∷ 0x00 ∷ 0x00 ∷ 0x00 ∷ [];
+    }
+    ∷ record {
+      log =
+          part 19 0x2401_0000000000000001_00000001_01_00000009
+          ++ line 16 0x0000000000000001_00000001_00000008;
+      answer = 0x00 ∷ 0x01 ∷ 0x00 ∷ 0x01 ∷ [];
+    }
+    -- what it only shows it didn't write; what it wrote stands behind its entries, each line with a
+    -- value of its own
+    ∷ record {
+      log =
+          line 18 0x2001_0000000000000001_00000001_00000007
+          ++ part 19 0x2402_0000000000000001_00000001_01_00000007
+          ++ line 16 0x0000000000000002_00000001_00000009
+          ++ line 19 0x2103_0000000000000001_00000001_02_00000009;
+      answer = 0x00 ∷ 0x01 ∷ 0x00 ∷ 0x03 ∷ [];
+    }
+    ∷ record {
+      log =
+          part 19 0x2402_0000000000000001_00000000_00_00000000
+          ++ line 16 0x0000000000000002_00000001_00000009
+          ++ line 19 0x2103_0000000000000001_00000000_00_00000009;
+      answer = 0x00 ∷ 0x01 ∷ 0x00 ∷ 0x02 ∷ [];
+    }
+    ∷ record {
+      log =
+          part 28 0x2402_0000000000000003_00000000_00_00000000_00000000_00_00000000
+          ++ line 20 0x8000000000000002_00000001_00000008_00000009
+          ++ line 28 0x2103_8000000000000002_00000001_02_00000008_00000001_02_00000009;
+      answer = 0x00 ∷ 0x00 ∷ 0x00 ∷ 0x00 ∷ [];
+    }
+    ∷ record {
+      log =
+          part 28 0x2402_0000000000000003_00000000_00_00000000_00000000_00_00000000
+          ++ line 20 0x8000000000000002_00000001_00000008_00000009
+          ++ line 28 0x2103_8000000000000002_00000001_02_00000008_00000001_02_00000008;
+      answer = 0x00 ∷ 0x01 ∷ 0x00 ∷ 0x02 ∷ [];
+    }
+    -- fractured: its read part by a write above, below, and its own; a read by its write part, not
+    -- by what it only shows
+    ∷ record {
+      log =
+          line 22 0x2001_0000000000000003_00000001_00000007_00000008
+          ++ part 28 0x2402_0000000000000003_00000001_01_00000007_00000000_00_00000000
+          ++ line 16 0x0000000000000001_00000001_00000009;
+      answer = 0x00 ∷ 0x02 ∷ 0x00 ∷ 0x02 ∷ [];
+    }
+    ∷ record {
+      log =
+          part 28 0x2402_0000000000000003_00000001_01_00000007_00000000_00_00000000
+          ++ line 16 0x0000000000000001_00000001_00000009
+          ++ line 22 0x2001_0000000000000003_00000001_00000007_00000008;
+      answer = 0x00 ∷ 0x02 ∷ 0x00 ∷ 0x01 ∷ [];
+    }
+    ∷ record {
+      log =
+          part 28 0x2401_0000000000000003_00000001_01_00000007_00000000_00_00000000
+          ++ line 20 0x0000000000000003_00000001_00000007_00000008;
+      answer = 0x00 ∷ 0x02 ∷ 0x00 ∷ 0x01 ∷ [];
+    }
+    ∷ record {
+      log =
+          part 19 0x2401_0000000000000001_00000000_00_00000000
+          ++ line 20 0x0000000000000003_00000001_00000007_00000008
+          ++ line 28 0x2102_0000000000000003_00000001_01_00000007_00000000_00_00000000;
+      answer = 0x00 ∷ 0x02 ∷ 0x00 ∷ 0x02 ∷ [];
+    }
+    ∷ record {
+      log =
+          part 28 0x2401_0000000000000003_00000000_00_00000000_00000000_00_00000000
+          ++ line 16 0x0000000000000001_00000001_00000007
+          ++ line 28 0x2102_0000000000000003_00000001_01_00000007_00000000_00_00000000;
+      answer = 0x00 ∷ 0x00 ∷ 0x00 ∷ 0x00 ∷ [];
+    }
+    -- it may show what stood before its own write; a read of the same desk below may not miss that,
+    -- one above, another desk's and a fast one may
+    ∷ record {
+      log =
+          part 19 0x2401_0000000000000001_00000000_00_00000000
+          ++ line 16 0x0000000000000001_00000001_00000007;
+      answer = 0x00 ∷ 0x00 ∷ 0x00 ∷ 0x00 ∷ [];
+    }
+    ∷ record {
+      log =
+          part 19 0x2401_0000000000000001_00000000_00_00000000
+          ++ line 16 0x0000000000000001_00000001_00000007
+          ++ line 19 0x2101_0000000000000001_00000000_00_00000000;
+      answer = 0x00 ∷ 0x03 ∷ 0x00 ∷ 0x02 ∷ [];
+    }
+    ∷ record {
+      log =
+          line 19 0x2101_0000000000000001_00000000_00_00000000
+          ++ part 19 0x2401_0000000000000001_00000000_00_00000000
+          ++ line 16 0x0000000000000001_00000001_00000007
+          ++ line 19 0x2102_0000000000000001_00000000_00_00000000;
+      answer = 0x00 ∷ 0x00 ∷ 0x00 ∷ 0x00 ∷ [];
+    }
+    ∷ record {
+      log =
+          part 19 0x2401_0000000000000001_00000000_00_00000000
+          ++ line 16 0x0000000000000001_00000001_00000007
+          ++ line 19 0x2301_0000000000000001_00000000_00_00000000;
+      answer = 0x00 ∷ 0x00 ∷ 0x00 ∷ 0x00 ∷ [];
+    }
+    -- its read part misses its desk's write, its desk's mixed transaction's, an inherited one
+    ∷ record {
+      log =
+          line 18 0x2001_0000000000000001_00000001_00000007
+          ++ part 19 0x2401_0000000000000001_00000000_00_00000000
+          ++ line 16 0x0000000000000002_00000002_00000008;
+      answer = 0x00 ∷ 0x03 ∷ 0x00 ∷ 0x02 ∷ [];
+    }
+    ∷ record {
+      log =
+          part 19 0x2401_0000000000000001_00000000_00_00000000
+          ++ line 16 0x0000000000000001_00000001_00000007
+          ++ part 19 0x2401_0000000000000001_00000000_00_00000000
+          ++ line 16 0x0000000000000001_00000002_00000008;
+      answer = 0x00 ∷ 0x03 ∷ 0x00 ∷ 0x02 ∷ [];
+    }
+    ∷ record {
+      log =
+          line 18 0x2001_0000000000000001_00000001_00000007
+          ++ line 3 0x22_01_02
+          ++ part 19 0x2402_0000000000000001_00000000_00_00000000
+          ++ line 16 0x0000000000000001_00000001_00000008;
+      answer = 0x00 ∷ 0x03 ∷ 0x00 ∷ 0x03 ∷ [];
+    }
+    -- handed over is what it wrote above; what it writes below isn't, and what it shows is nobody's
+    ∷ record {
+      log =
+          part 19 0x2401_0000000000000001_00000000_00_00000000
+          ++ line 16 0x0000000000000001_00000001_00000007
+          ++ line 3 0x22_01_02
+          ++ line 19 0x2102_0000000000000001_00000000_00_00000000;
+      answer = 0x00 ∷ 0x03 ∷ 0x00 ∷ 0x03 ∷ [];
+    }
+    ∷ record {
+      log =
+          line 3 0x22_01_02
+          ++ part 19 0x2401_0000000000000001_00000000_00_00000000
+          ++ line 16 0x0000000000000001_00000001_00000007
+          ++ line 19 0x2102_0000000000000001_00000000_00_00000000;
+      answer = 0x00 ∷ 0x00 ∷ 0x00 ∷ 0x00 ∷ [];
+    }
+    ∷ record {
+      log =
+          line 18 0x2003_0000000000000001_00000001_00000007
+          ++ part 19 0x2401_0000000000000001_00000001_03_00000007
+          ++ line 16 0x0000000000000002_00000001_00000008
+          ++ line 3 0x22_01_02
+          ++ line 19 0x2102_0000000000000001_00000000_00_00000000;
+      answer = 0x00 ∷ 0x00 ∷ 0x00 ∷ 0x00 ∷ [];
+    }
+    -- item 63, the last: missed by its read part; shown older by its read part than its sibling;
+    -- written by it and shown older. With a search of items below 63 they are clean: the first
+    -- refuses that of `holdsAt`, the others that of `behind`
+    ∷ record {
+      log =
+          line 18 0x2001_8000000000000000_00000001_00000007
+          ++ part 19 0x2401_8000000000000000_00000000_00_00000000
+          ++ line 16 0x0000000000000001_00000002_00000008;
+      answer = 0x00 ∷ 0x03 ∷ 0x00 ∷ 0x02 ∷ [];
+    }
+    ∷ record {
+      log =
+          line 22 0x2001_8000000000000001_00000001_00000007_00000008
+          ++ part 28 0x2402_8000000000000001_00000001_01_00000007_00000000_00_00000000
+          ++ line 16 0x0000000000000001_00000001_00000009;
+      answer = 0x00 ∷ 0x02 ∷ 0x00 ∷ 0x02 ∷ [];
+    }
+    ∷ record {
+      log =
+          part 19 0x2401_8000000000000000_00000000_00_00000000
+          ++ line 20 0x8000000000000001_00000001_00000007_00000008
+          ++ line 28 0x2102_8000000000000001_00000001_01_00000007_00000000_00_00000000;
+      answer = 0x00 ∷ 0x02 ∷ 0x00 ∷ 0x02 ∷ [];
+    }
+    -- the lowest of its findings: 2 before 3, 1 before both
+    ∷ record {
+      log =
+          line 22 0x2001_0000000000000003_00000001_00000007_00000008
+          ++ part 28 0x2401_0000000000000003_00000001_01_00000007_00000000_00_00000000
+          ++ line 16 0x0000000000000001_00000002_00000009;
+      answer = 0x00 ∷ 0x02 ∷ 0x00 ∷ 0x02 ∷ [];
+    }
+    ∷ record {
+      log =
+          line 22 0x2001_0000000000000003_00000001_00000007_00000008
+          ++ part 28 0x2401_0000000000000003_00000001_01_00000009_00000000_00_00000000
+          ++ line 16 0x0000000000000001_00000002_00000009;
+      answer = 0x00 ∷ 0x01 ∷ 0x00 ∷ 0x02 ∷ [];
+    }
+    -- malformed: an empty set to read, an empty set to write. Either is clean where an empty part
+    -- is well-formed: the first refuses that of `readShaped`, the second that of `writeShaped`
+    ∷ record {
+      log = part 10 0x2401_0000000000000000
+          ++ line 16 0x0000000000000001_00000001_00000008;
+      answer = 0x0f ∷ 0x00 ∷ 0x01 ∷ [];
+    }
+    ∷ record {
+      log = part 19 0x2401_0000000000000001_00000000_00_00000000
+          ++ line 12 0x0000000000000000_00000001;
+      answer = 0x0f ∷ 0x00 ∷ 0x01 ∷ [];
+    }
+    -- malformed: its number doesn't rise, or a write's below doesn't over it. The first is clean
+    -- where a mixed transaction's own number needn't rise, the second where it isn't counted above
+    ∷ record {
+      log =
+          line 18 0x2001_0000000000000001_00000002_00000007
+          ++ part 19 0x2401_0000000000000001_00000000_00_00000000
+          ++ line 16 0x0000000000000001_00000002_00000008;
+      answer = 0x0f ∷ 0x00 ∷ 0x02 ∷ [];
+    }
+    ∷ record {
+      log =
+          part 19 0x2401_0000000000000001_00000000_00_00000000
+          ++ line 16 0x0000000000000001_00000002_00000008
+          ++ line 18 0x2001_0000000000000001_00000002_00000007;
+      answer = 0x0f ∷ 0x00 ∷ 0x02 ∷ [];
+    }
     -- the lowest at the first line at fault: 1 before 2 and 3, 2 before 3; a later line's lower
     -- one doesn't count
     ∷ record {
@@ -653,7 +896,7 @@ right r = same (bytesOf (verdict (r .log))) (r .answer)
 
 -- every row of the table
 examples : all right rows ≡ true
-unfolding all rows right line times hexText bigEndian hexDigit
+unfolding all rows right line part times hexText bigEndian hexDigit
 examples = refl
 
 -- ---- the verdict as a number and as bytes

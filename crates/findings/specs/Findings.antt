@@ -1,5 +1,6 @@
 -- The three findings, their order, and the verdict on a log (document 01: findings; refusals 15 and
--- 16; document 02, P6: inherited writes, P7: fast reads). A line's number here counts from 0.
+-- 16; document 02, P6: inherited writes, P7: fast reads, P8: mixed transactions, whose read part
+-- stands above their own write). A line's number here counts from 0.
 use mathlib.Core.Bool.{Bool, cond, not, _&&_}
 use mathlib.Core.List.{List, [], _∷_, _++_}
 use Prim.Native.Nat.{ℕ, zero, suc, _+_, _*_}
@@ -15,7 +16,7 @@ use Rattle.log.specs.Log.{malformedAt}
 use Rattle.findings.specs.declared.Verdict.{Verdict}
 use Rattle.findings.specs.declared.Verdict.the-variants.{TooLong, Malformed, Judged}
 
--- ---- findings: whether line i, a read, is at fault at an item that it shows
+-- ---- findings: whether line i is at fault at an item that it shows
 
 -- w wrote the item with that stamp and value
 unfoldable pub wrote : ℕ → ℕ → ℕ → List ℕ → Bool

@@ -1,7 +1,8 @@
 -- The published definitions as statements about a log, with the lines and items that they speak of:
 -- read atomicity and fractured reads (sources 001 and 002), reading one's own writes (source 000)
 -- and inherited ones (document 02, P6), fast reads being free to miss them (P7), and what a
--- well-formed line is. A line is a transaction, or a hand-over; lines and items count from 0.
+-- well-formed line is. A line is a transaction, or a hand-over; a mixed one (P8) reads as if above
+-- its own write, so that this is its own only below. Lines and items count from 0.
 use mathlib.Core.Bool.{true}
 use mathlib.Core.List.{List, [], _∷_, _++_}
 use mathlib.Core.Logic.{_⊎_}

@@ -9,9 +9,9 @@ ghost use Prim.Native.Nat.{_≤_};
 ghost use lib.ListN.{length};
 ghost use lib.Seq.{sets};
 ghost use Rattle.store_frames.specs.Limits.{mostFrame};
-ghost use Rattle.store_frames.specs.StoreFrames.{isEnded, kindOf, isStoreFrame, valuesIn, isWrite};
-ghost use Rattle.store_frames.specs.StoreFrames.{parsedLater, parsed, storeFrameOf, isDecoded};
-ghost use Rattle.store_frames.specs.StoreFrames.{decodedLine, storedBytes};
+ghost use Rattle.store_frames.specs.StoreFrames.{isEnded, kindOf, isStoreFrame, valuesIn};
+ghost use Rattle.store_frames.specs.StoreFrames.{isValued, parsedLater, parsed, storeFrameOf};
+ghost use Rattle.store_frames.specs.StoreFrames.{isDecoded, decodedLine, storedBytes};
 
 // The line's last byte is 0a.
 fn is_ended(line: &[u8]) -> bool
@@ -42,19 +42,20 @@ fn is_frame(f: &[u8], k: u8, n: usize) -> bool
     (kind(f) == k) & (f.len() == n)
 }
 
-// How many values of 4 bytes there are in `n` bytes, behind kind, client and set.
-fn values_in(n: usize) -> usize
-    ensures { λ r. ⌜ r ≡ valuesIn n ⌝ }
+// How many values of 4 bytes there are in `n` bytes, behind the first `head`.
+fn values_in(head: usize, n: usize) -> usize
+    ensures { λ r. ⌜ r ≡ valuesIn head n ⌝ }
 {
-    if 10 <= n { (n - 10) / 4 } else { 0 }
+    if head <= n { (n - head) / 4 } else { 0 }
 }
 
-// A write: whole values, 0 to 64 of them.
-fn is_write(f: &[u8]) -> bool
-    ensures { λ r. ⌜ r ≡ isWrite (now (f .entry)) ⌝ }
+// A frame of that kind, with whole values behind its head, 0 to 64 of them.
+fn is_valued(f: &[u8], k: u8, head: usize) -> bool
+    requires { ⌜ head ≤ 18 ⌝ }
+    ensures { λ r. ⌜ r ≡ isValued k head (now (f .entry)) ⌝ }
 {
-    let values = values_in(f.len());
-    is_frame(f, 3, 10 + 4 * values) & (values <= 64)
+    let values = values_in(head, f.len());
+    is_frame(f, k, head + 4 * values) & (values <= 64)
 }
 
 // The frame of some bytes, of those that document 02 adds.
@@ -84,6 +85,17 @@ fn parse_later(f: &[u8]) -> Parsed
         let frame = StoreFrame::Compare { first, second };
         return Parsed::Frame { frame, length };
     }
+    if is_valued(f, 7, 18) {
+        let client = hex::number_at(f, 1, 1);
+        let reads = hex::number_at(f, 2, 8);
+        let writes = hex::number_at(f, 10, 8);
+        let frame = StoreFrame::Mixed {
+            client,
+            reads,
+            writes,
+        };
+        return Parsed::Frame { frame, length };
+    }
     Parsed::Malformed
 }
 
@@ -109,7 +121,7 @@ fn parse(f: &[u8]) -> Parsed
         let frame = StoreFrame::Read { client, set };
         return Parsed::Frame { frame, length };
     }
-    if is_write(f) {
+    if is_valued(f, 3, 10) {
         let client = hex::number_at(f, 1, 1);
         let set = hex::number_at(f, 2, 8);
         let frame = StoreFrame::Write { client, set };

@@ -1,12 +1,13 @@
 -- The word that a loop gathers of a stamp that is not to be initial passes exactly when the stamp
 -- is in range and has a writer.
 use mathlib.Core.Bool.{Bool, true, false, not, _&&_, _||_}
+use mathlib.Core.Logic.{_≢_}
 use mathlib.Core.Path.{_≡_, refl, sym, ap, _∙_}
 use Prim.Native.Nat.{ℕ, _+_, _-_, _*_, _/_, _%_, _^_, _≤_, _<_}
 use native.Mathlib.Nat.{div-eq-of-lt-le, mod-eq-of-lt, mod-eq-sub-mod, mod-add-mod, add-mod-right}
 use native.Mathlib.Omega.{arith}
 use lib.Dec.{eqb, ltb, leb}
-use borrow.Author.Tests.{ltb-true, lt-ltb, leb-true, leb-false, le-leb, ltb-false}
+use borrow.Author.Tests.{ltb-true, lt-ltb, leb-true, leb-false, le-leb, ltb-false, ne-eqb}
 use Rattle.basics.proofs.Cases.{by-test, test-ext, and-left, and-right, and-both, not-true}
 use Rattle.protocol.specs.Tables.{numberOf, writerOf}
 use Rattle.protocol.specs.Range.{fits, stampInRange}
@@ -113,6 +114,15 @@ stamp-word c items s m b =
     ap (λ (x : Bool). eqb s 0 || x)
     (own-word c s m b ∙ order (leb 1 (numberOf s)) (leb 1 (writerOf s) && leb (writerOf s) c)
     (fits (numberOf s)))
+
+-- so the word of a stamp that may be initial passes exactly when the stamp is in range
+pub initial-word : (c items s : ℕ) → s ≡ 0 → ownsTest 0 ≡ stampInRange (sized c items) s
+unfolding stampInRange
+initial-word c items s e = owns .empty ∙ rw e refl
+
+pub later-word : (c items s : ℕ) {word : ℕ} → c ≤ 8 → s < 2 ^ 64 → s ≢ 0 → word ≡ owned c s
+    → ownsTest word ≡ stampInRange (sized c items) s
+later-word c items s m b n e = ap ownsTest e ∙ rw (ne-eqb s 0 n) at (stamp-word c items s m b)
 
 -- the same from the stamp itself
 pub rest-sum : (c s : ℕ) → c ≤ 8 → (s + restOf c) % 2 ^ 64 ≡ (lowered s + (24 - c)) % 2 ^ 64

@@ -5,12 +5,11 @@ ghost use mathlib.Core.Path.{_≡_};
 ghost use Prim.Native.Nat.{_<_, _≤_, _-_};
 ghost use lib.Dec.{ltb};
 ghost use Rattle.itemset.specs.Set.{has};
-ghost use Rattle.protocol.specs.Range.{stampInRange, entryInRange, versionInRange};
+ghost use Rattle.protocol.specs.Range.{stampInRange, entryInRange};
 ghost use Rattle.gather.specs.Sized.{sized};
 ghost use Rattle.gather.specs.Words.{mixed, roomed, owned, restOf, stampsTest, entriesTest};
 ghost use Rattle.gather.specs.Words.{ownsTest, versionsTest};
 use protocol::Entry;
-use protocol::Version;
 
 // 2 to the power 36: a stamp in range has a number of 32 bits and a writer of 4.
 const STAMPS_END: u64 = 68719476736;
@@ -87,6 +86,18 @@ pub fn owned(stamp: u64, clients: u64, rest: u64) -> u64
     std::num::wrapping_add_u64(stamp, LOWERING) | std::num::wrapping_add_u64(stamp, rest)
 }
 
+// What a loop gathers so of a stamp that may be initial.
+pub fn owned_or_initial(stamp: u64, clients: u64, rest: u64) -> u64
+    requires { ⌜ (clients ≤ 8) × (rest ≡ restOf clients) ⌝ }
+    ensures { λ r. ⌜ ownsTest r ≡ stampInRange (sized clients 0) stamp ⌝ }
+{
+    if stamp == 0 {
+        0
+    } else {
+        owned(stamp, clients, rest)
+    }
+}
+
 // A choice, so that the compiler makes it once and not in the loop.
 pub fn rest(clients: u64) -> u64
     ensures { λ r. ⌜ r ≡ restOf clients ⌝ }
@@ -130,16 +141,4 @@ pub fn entry_in_range(clients: u64, items: u64, e: Entry) -> bool
     ensures { λ r. ⌜ r ≡ entryInRange (sized clients items) e ⌝ }
 {
     stamp_in_range(clients, e.stamp) & itemset::all_below(e.set, items)
-}
-
-pub fn version_in_range(clients: u64, items: u64, v: Version) -> bool
-    requires { ⌜ clients ≤ 8 ⌝ }
-    ensures { λ r. ⌜ r ≡ versionInRange (sized clients items) v ⌝ }
-{
-    (v.item < items)
-        & (v.value < 4294967296)
-        & stamp_in_range(clients, v.stamp)
-        & (v.stamp != 0)
-        & itemset::all_below(v.set, items)
-        & itemset::has(v.set, v.item)
 }

@@ -6,3 +6,4 @@ pub mod SetOf
 pub mod Least
 pub mod Bits
 pub mod Pass
+pub mod Visits

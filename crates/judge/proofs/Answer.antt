@@ -15,7 +15,7 @@ use Rattle.log.specs.Log.{tooLong, framesOf, shaped, malformed, malformedAt}
 use Rattle.log.proofs.Some.{firstFrom-none}
 use Rattle.findings.specs.Findings.{findings, faultAt, lowest, judged, checked}
 use Rattle.findings.proofs.WellFormed.{frame-is}
-use Rattle.judge_findings.specs.Marks.{SmallClients, AllSmall}
+use Rattle.judge_findings.specs.Owned.{SmallClients, AllSmall}
 use Rattle.judge_scan.specs.Scan.{Scanning, ScannedOf}
 use Rattle.judge_scan.proofs.Scanning.{scan-start}
 use Rattle.log.specs.Some.{firstFrom}

@@ -1,26 +1,30 @@
 -- The findings as the judge searches for them, item by item of a read and write by write, and the
 -- laws that take a definition to such a search.
-use mathlib.Core.Bool.{Bool, true, false, _&&_, _||_}
+use mathlib.Core.Bool.{Bool, true, false, cond, not, _&&_, _||_}
 use mathlib.Core.List.{List, []}
 use mathlib.Core.Path.{_≡_, refl, sym, ap, ap₂, _∙_}
-use Prim.Native.Nat.{ℕ, _≤_, _<_}
+use Prim.Native.Nat.{ℕ, _<_}
 use native.Mathlib.Omega.{arith}
-use lib.Dec.{ltb}
-use lib.ListN.{length, getD}
-use borrow.Author.Tests.{ltb-true, ltb-false, ne-eqb}
-use Rattle.basics.proofs.Cases.{by-test, not-both, test-ext}
+use lib.Dec.{eqb}
+use lib.ListN.{getD}
+use borrow.Author.Tests.{ne-eqb}
 use Rattle.itemset.specs.Set.{has}
 use Rattle.itemset.proofs.Laws.{has-empty}
 use Rattle.log.specs.Some.{some, someFrom}
-use Rattle.log.proofs.Some.{some-at, at-some, someFrom-at, at-someFrom, someFrom-or}
-use Rattle.log.proofs.Some.{someFrom-and, someFrom-ext}
-use Rattle.findings.specs.Findings.{holdsAt, faultAt, isUnwritten, fractures, owners, missesAt}
+use Rattle.log.proofs.Some.{someFrom-above, someFrom-or, someFrom-and, someFrom-ext}
+use Rattle.findings.specs.Findings.{holdsAt, faultAt, wrote, isUnwritten, fractures}
+use Rattle.findings.specs.Findings.{owners, missesAt}
 use Rattle.findings.proofs.Owners.{owners-none}
-use Rattle.log.specs.Log.{kindOf, clientOf, readsOwn, shown, shownStamp, shownValue}
+use Rattle.log.specs.Log.{kindOf, clientOf, readsOwn, shown, shownStamp, shownValue, written}
+use Rattle.log.specs.Log.{writtenStamp}
 use Rattle.judge_frames.specs.Cut.{frameIn, framesIn}
-use Rattle.judge_frames.proofs.Cuts.{length-framesIn, framesIn-at}
+use Rattle.judge_frames.proofs.Cuts.{framesIn-at, frames-some}
 use Rattle.judge_findings.specs.Owned.{Owned}
-use Rattle.judge_findings.specs.Tests.{faultsOf}
+use Rattle.judge_findings.specs.Tests.{fracturesBy, missesBy, faultsBy}
+use Rattle.judge_findings.specs.Writes.{lineOf, stampOf, itemsOf, Gathered}
+use Rattle.judge_findings.proofs.Gathering.{gathered-some}
+use Rattle.judge_findings.proofs.Tests.{faults-not, fractures-by, misses-by, nothing-has}
+use Rattle.judge_findings.proofs.Tests.{nothing-wrote, nothing-fractures, nothing-misses}
 use Rattle.judge.specs.Search.{findingOf}
 
 module _ (bytes starts : List ℕ) where
@@ -28,8 +32,9 @@ module _ (bytes starts : List ℕ) where
   unfoldable pub writeFault : ℕ → ℕ → ℕ → ℕ → Bool
   writeFault n line item write =
       let r = frameIn bytes starts line in
-      faultsOf r (owners (framesIn bytes starts n) write line) (clientOf r) item
-      (shownStamp r item) (frameIn bytes starts write)
+      let w = frameIn bytes starts write in
+      faultsBy r (owners (framesIn bytes starts n) write line) (written w) (writtenStamp w)
+      (clientOf r) item (shownStamp r item)
 
   -- line `line`, of n, shows the item and is at fault there
   unfoldable pub itemFault : ℕ → ℕ → ℕ → Bool
@@ -46,31 +51,6 @@ or-false : (a b d : Bool) → (a || (b || d)) ≡ (a || (b || (d || false)))
 or-false a b true = refl
 or-false a b false = refl
 
-anywhere : (p : List ℕ → Bool) (frames : List (List ℕ))
-    → someFrom (length frames) 0 (λ j. p (getD frames j [])) ≡ some p frames
-anywhere p frames =
-    test-ext (someFrom (length frames) 0 (λ j. p (getD frames j []))) (some p frames)
-    (λ e. (let f = someFrom-at (length frames) 0 (λ j. p (getD frames j [])) e in
-    at-some p frames [] (f .0) (omega (arith, f .2)) (f .3)))
-    (λ e. (let f = some-at p frames [] e in
-    at-someFrom (length frames) 0 (λ j. p (getD frames j [])) (f .0) (omega arith)
-    (omega (arith, f .1)) (f .2)))
-
--- a test that no line from `line` on passes
-above : (q : ℕ → Bool) (n line : ℕ) → line ≤ n → ((j : ℕ) → line ≤ j → q j ≡ false)
-    → someFrom n 0 q ≡ someFrom line 0 q
-above q n line l none =
-    test-ext (someFrom n 0 q) (someFrom line 0 q)
-    (λ e.
-    let f = someFrom-at n 0 q e in
-    at-someFrom line 0 q (f .0) (omega arith)
-    (by-test (ltb (f .0) line)
-    (λ t. omega (arith, ltb-true (f .0) line t))
-    (λ t. not-both (f .3) (none (f .0) (ltb-false (f .0) line t))))
-    (f .3))
-    (λ e. (let f = someFrom-at line 0 q e in
-    at-someFrom n 0 q (f .0) (omega arith) (omega (arith, f .2)) (f .3)))
-
 -- over the items: each of the three findings
 pub items-search : (p a b d : ℕ → Bool)
     → someFrom 64 0 (λ k. p k && (a k || (b k || d k)))
@@ -86,6 +66,75 @@ items-search p a b d =
     ∙ or-false (someFrom 64 0 (λ k. p k && a k)) (someFrom 64 0 (λ k. p k && b k))
     (someFrom 64 0 (λ k. p k && d k))
 
+-- ---- a search over the gathered writes is one over all lines
+
+module _ (bytes starts : List ℕ) (n : ℕ) (writes : List ℕ) (m : ℕ)
+    (g : Gathered bytes starts n writes m) where
+  abbrev at-write : ℕ → List ℕ
+  at-write w = frameIn bytes starts (lineOf writes w)
+
+  pub unwritten-gathered : (item stamp value : ℕ)
+      → cond (eqb stamp 0) (not (eqb value 0))
+      (not (someFrom m 0 (λ w. wrote item stamp value (at-write w))))
+      ≡ isUnwritten (framesIn bytes starts n) item stamp value
+  unfolding isUnwritten
+  unwritten-gathered item stamp value =
+      ap (λ (b : Bool). cond (eqb stamp 0) (not (eqb value 0)) (not b))
+      (gathered-some bytes starts n writes m g
+      (λ j. wrote item stamp value (frameIn bytes starts j))
+      (λ j e. nothing-wrote (frameIn bytes starts j) item stamp e value)
+      ∙ frames-some bytes starts (wrote item stamp value) n)
+
+  pub fractured-gathered : (r : List ℕ) (item stamp : ℕ)
+      → someFrom m 0 (λ w. fracturesBy r (itemsOf writes w) (stampOf writes w) item stamp)
+      ≡ some (fractures r item stamp) (framesIn bytes starts n)
+  fractured-gathered r item stamp =
+      someFrom-ext m 0 (λ w. fracturesBy r (itemsOf writes w) (stampOf writes w) item stamp)
+      (λ w. fractures r item stamp (at-write w))
+      (λ w _ l.
+      let e = g .entries .entry w (omega arith) in
+      ap₂ (λ (i s : ℕ). fracturesBy r i s item stamp) (e .items) (e .stamp)
+      ∙ fractures-by r (at-write w) item stamp)
+      ∙ gathered-some bytes starts n writes m g
+      (λ j. fractures r item stamp (frameIn bytes starts j))
+      (λ j e. nothing-fractures (frameIn bytes starts j) item stamp e r)
+      ∙ frames-some bytes starts (fractures r item stamp) n
+
+  pub missed-gathered : (line : ℕ) (table : List ℕ) (of item stamp : ℕ)
+      → Owned bytes starts n line table
+      → someFrom m 0 (λ w. missesBy (getD table (lineOf writes w) 0) (itemsOf writes w)
+      (stampOf writes w) of item stamp)
+      ≡ someFrom n 0 (λ j. missesAt (owners (framesIn bytes starts n) j line) of item stamp
+      (frameIn bytes starts j))
+  missed-gathered line table of item stamp owned =
+      someFrom-ext m 0
+      (λ w. missesBy (getD table (lineOf writes w) 0) (itemsOf writes w) (stampOf writes w) of item
+      stamp)
+      (λ w. missesAt (owners (framesIn bytes starts n) (lineOf writes w) line) of item stamp
+      (at-write w))
+      (λ w _ l.
+      let e = g .entries .entry w (omega arith) in
+      rw (owned .held (lineOf writes w) (g .within w (omega arith)), e .items, e .stamp)
+      (misses-by (owners (framesIn bytes starts n) (lineOf writes w) line) of (at-write w) item
+      stamp))
+      ∙ gathered-some bytes starts n writes m g
+      (λ j. missesAt (owners (framesIn bytes starts n) j line) of item stamp
+      (frameIn bytes starts j))
+      (λ j e. nothing-misses (frameIn bytes starts j) item stamp e
+      (owners (framesIn bytes starts n) j line) of)
+
+  pub faults-gathered : (line item : ℕ)
+      → someFrom m 0 (λ w. writeFault bytes starts n line item (lineOf writes w))
+      ≡ someFrom n 0 (writeFault bytes starts n line item)
+  unfolding writeFault
+  faults-gathered line item =
+      let r = frameIn bytes starts line in
+      gathered-some bytes starts n writes m g (writeFault bytes starts n line item)
+      (λ j e. sym (faults-not r (written (frameIn bytes starts j))
+      (writtenStamp (frameIn bytes starts j)) item (shownStamp r item)
+      (owners (framesIn bytes starts n) j line) (clientOf r)
+      (nothing-has (frameIn bytes starts j) item (shownStamp r item) e)))
+
 -- line i as it stands in the bytes is line i of the frames
 module _ (bytes starts : List ℕ) (n line : ℕ) (h : line < n) where
   abbrev frames : List (List ℕ)
@@ -94,33 +143,46 @@ module _ (bytes starts : List ℕ) (n line : ℕ) (h : line < n) where
   abbrev r : List ℕ
   r = frameIn bytes starts line
 
-  abbrev fractured : ℕ → ℕ → Bool
-  fractured item j = fractures r item (shownStamp r item) (getD frames j [])
-
-  abbrev missed : ℕ → ℕ → Bool
-  missed item j =
-      missesAt (owners frames j line) (clientOf r) item (shownStamp r item) (getD frames j [])
+  -- of the lines from this one on none is anybody's own
+  pub missed-above : (of item stamp : ℕ)
+      → someFrom n 0 (λ j. missesAt (owners frames j line) of item stamp (frameIn bytes starts j))
+      ≡ someFrom line 0 (λ j. missesAt (owners frames j line) of item stamp (getD frames j []))
+  unfolding missesAt
+  missed-above of item stamp =
+      someFrom-above
+      (λ j. missesAt (owners frames j line) of item stamp (frameIn bytes starts j)) n line
+      (omega arith) (λ j l _. rw (owners-none frames j line l, has-empty of))
+      ∙ someFrom-ext line 0
+      (λ j. missesAt (owners frames j line) of item stamp (frameIn bytes starts j))
+      (λ j. missesAt (owners frames j line) of item stamp (getD frames j []))
+      (λ j _ l. rw (framesIn-at bytes starts n j (omega arith)))
 
   -- the line is to see the client's own writes, and misses one
   abbrev misses : ℕ → Bool
-  misses item = readsOwn (kindOf r) && someFrom line 0 (missed item)
+  misses item = readsOwn (kindOf r) && someFrom line 0
+      (λ j. missesAt (owners frames j line) (clientOf r) item (shownStamp r item)
+      (getD frames j []))
 
   -- over the writes: any of them, and the client's own
   writes-search : (item : ℕ) → someFrom n 0 (writeFault bytes starts n line item)
       ≡ (some (fractures r item (shownStamp r item)) frames || misses item)
-  unfolding writeFault faultsOf missesAt
+  unfolding writeFault faultsBy
   writes-search item =
+      let stamp = shownStamp r item in
+      let fractured : ℕ → Bool = λ j. fractures r item stamp (frameIn bytes starts j) in
+      let missed : ℕ → Bool =
+      λ j. missesAt (owners frames j line) (clientOf r) item stamp (frameIn bytes starts j) in
       someFrom-ext n 0 (writeFault bytes starts n line item)
-      (λ j. fractured item j || (readsOwn (kindOf r) && missed item j))
-      (λ j _ g. rw (framesIn-at bytes starts n j (omega arith)))
-      ∙ someFrom-or n 0 (fractured item) (λ j. readsOwn (kindOf r) && missed item j)
+      (λ j. fractured j || (readsOwn (kindOf r) && missed j))
+      (λ j _ g.
+      ap₂ (λ (a b : Bool). a || (readsOwn (kindOf r) && b))
+      (fractures-by r (frameIn bytes starts j) item stamp)
+      (misses-by (owners frames j line) (clientOf r) (frameIn bytes starts j) item stamp))
+      ∙ someFrom-or n 0 fractured (λ j. readsOwn (kindOf r) && missed j)
       ∙ ap₂ _||_
-      (ap (λ (m : ℕ). someFrom m 0 (fractured item)) (sym (length-framesIn bytes starts n))
-      ∙ anywhere (fractures r item (shownStamp r item)) frames)
-      (someFrom-and n 0 (readsOwn (kindOf r)) (missed item)
-      ∙ ap (λ (b : Bool). readsOwn (kindOf r) && b)
-      (above (missed item) n line (omega arith)
-      (λ j l. rw (owners-none frames j line l, has-empty (clientOf r)))))
+      (frames-some bytes starts (fractures r item stamp) n)
+      (someFrom-and n 0 (readsOwn (kindOf r)) missed
+      ∙ ap (λ (b : Bool). readsOwn (kindOf r) && b) (missed-above (clientOf r) item stamp))
 
   pub fault-search : someFrom 64 0 (itemFault bytes starts n line) ≡ faultAt frames line
   unfolding itemFault some holdsAt
@@ -141,8 +203,15 @@ module _ (bytes starts : List ℕ) (n line : ℕ) (h : line < n) where
 
 -- ---- one turn of the search
 
-module _ (bytes starts : List ℕ) (n line item : ℕ) (r : List ℕ)
+module _ (bytes starts : List ℕ) (n : ℕ) (writes : List ℕ) (m : ℕ)
+    (g : Gathered bytes starts n writes m) (line item : ℕ) (r : List ℕ)
     (here : r ≡ frameIn bytes starts line) where
+  -- what the test for an unwritten item answers
+  abbrev tested : ℕ → ℕ → Bool
+  tested stamp value =
+      cond (eqb stamp 0) (not (eqb value 0)) (not (someFrom m 0
+      (λ w. wrote item stamp value (frameIn bytes starts (lineOf writes w)))))
+
   -- the item isn't shown
   pub item-not : (items : ℕ) → items ≡ shown r → (is : Bool) → is ≡ has items item → is ≡ false
       → itemFault bytes starts n line item ≡ false
@@ -153,62 +222,67 @@ module _ (bytes starts : List ℕ) (n line item : ℕ) (r : List ℕ)
   pub item-unwritten : (items stamp value : ℕ) → items ≡ shown r → (is : Bool)
       → is ≡ has items item → is ≡ true
       → stamp ≡ shownStamp r item → value ≡ shownValue r item
-      → (un : Bool) → un ≡ isUnwritten (framesIn bytes starts n) item stamp value → un ≡ true
+      → (un : Bool) → un ≡ tested stamp value → un ≡ true
       → itemFault bytes starts n line item ≡ true
   unfolding itemFault
   item-unwritten items stamp value e is h f s v un u t =
-      rw (← here, ← e, ← h, f, ← s, ← v, ← u, t)
+      let un-is = u ∙ unwritten-gathered bytes starts n writes m g item stamp value in
+      rw (← here, ← e, ← h, f, ← s, ← v, ← un-is, t)
 
   -- it is, and was written: what is left are the writes
   pub item-writes : (items stamp value : ℕ) → items ≡ shown r → (is : Bool)
       → is ≡ has items item → is ≡ true
       → stamp ≡ shownStamp r item → value ≡ shownValue r item
-      → (un : Bool) → un ≡ isUnwritten (framesIn bytes starts n) item stamp value → un ≡ false
-      → itemFault bytes starts n line item ≡ someFrom n 0 (writeFault bytes starts n line item)
+      → (un : Bool) → un ≡ tested stamp value → un ≡ false
+      → itemFault bytes starts n line item ≡ someFrom m 0
+      (λ w. writeFault bytes starts n line item (lineOf writes w))
   unfolding itemFault
-  item-writes items stamp value e is h f s v un u t = rw (← here, ← e, ← h, f, ← s, ← v, ← u, t)
+  item-writes items stamp value e is h f s v un u t =
+      let un-is = u ∙ unwritten-gathered bytes starts n writes m g item stamp value in
+      rw (← here, ← e, ← h, f, ← s, ← v, ← un-is, t)
+      (sym (faults-gathered bytes starts n writes m g line item))
 
-  pub write-fault : (own of stamp write : ℕ) (w : List ℕ)
-      → own ≡ owners (framesIn bytes starts n) write line → of ≡ clientOf r
-      → stamp ≡ shownStamp r item → w ≡ frameIn bytes starts write
-      → writeFault bytes starts n line item write ≡ faultsOf r own of item stamp w
+  pub write-fault : (own items at of stamp write : ℕ)
+      → own ≡ owners (framesIn bytes starts n) write line
+      → items ≡ written (frameIn bytes starts write)
+      → at ≡ writtenStamp (frameIn bytes starts write)
+      → of ≡ clientOf r → stamp ≡ shownStamp r item
+      → writeFault bytes starts n line item write ≡ faultsBy r own items at of item stamp
   unfolding writeFault
-  write-fault own of stamp write w o c s e = rw (← here, ← o, ← c, ← s, ← e)
+  write-fault own items at of stamp write o i t c s = rw (← here, ← o, ← i, ← t, ← c, ← s)
 
 -- ---- the lowest finding at a line
 
-module _ (bytes starts : List ℕ) (n line item : ℕ) (r : List ℕ) (h : line < n)
+module _ (bytes starts : List ℕ) (n : ℕ) (writes : List ℕ) (m : ℕ)
+    (g : Gathered bytes starts n writes m) (line item : ℕ) (r : List ℕ) (h : line < n)
     (here : r ≡ frameIn bytes starts line) (f : ℕ) where
   frame-at : getD (framesIn bytes starts n) line [] ≡ r
   frame-at = framesIn-at bytes starts n line h ∙ sym here
 
   pub finding-one : (b : Bool) (stamp value : ℕ)
-      → b ≡ isUnwritten (framesIn bytes starts n) item stamp value → f ≡ 1
+      → b ≡ cond (eqb stamp 0) (not (eqb value 0)) (not (someFrom m 0
+      (λ w. wrote item stamp value (frameIn bytes starts (lineOf writes w))))) → f ≡ 1
       → stamp ≡ shownStamp r item → value ≡ shownValue r item
       → b ≡ findingOf f (framesIn bytes starts n) line item
-  finding-one b stamp value t e s v = t ∙ rw (e, frame-at, s, v)
+  finding-one b stamp value t e s v =
+      t ∙ unwritten-gathered bytes starts n writes m g item stamp value ∙ rw (e, frame-at, s, v)
 
   pub finding-two : (b : Bool) (stamp : ℕ)
-      → b ≡ some (fractures r item stamp) (framesIn bytes starts n) → f ≡ 2
-      → stamp ≡ shownStamp r item → b ≡ findingOf f (framesIn bytes starts n) line item
-  finding-two b stamp t e s = t ∙ rw (e, frame-at, s)
+      → b ≡ someFrom m 0 (λ w. fracturesBy r (itemsOf writes w) (stampOf writes w) item stamp)
+      → f ≡ 2 → stamp ≡ shownStamp r item → b ≡ findingOf f (framesIn bytes starts n) line item
+  finding-two b stamp t e s =
+      t ∙ fractured-gathered bytes starts n writes m g r item stamp ∙ rw (e, frame-at, s)
 
   pub finding-three : (own b : Bool) (table : List ℕ) (of stamp : ℕ) → own ≡ readsOwn (kindOf r)
-      → b ≡ someFrom line 0 (λ j. missesAt (getD table j 0) of item stamp (frameIn bytes starts j))
+      → b ≡ someFrom m 0 (λ w. missesBy (getD table (lineOf writes w) 0) (itemsOf writes w)
+      (stampOf writes w) of item stamp)
       → Owned bytes starts n line table → (f ≡ 1 → ⊥) → (f ≡ 2 → ⊥) → of ≡ clientOf r
       → stamp ≡ shownStamp r item → (own && b) ≡ findingOf f (framesIn bytes starts n) line item
-  unfolding missesAt
   finding-three own b table of stamp w t owned one two o s =
       rw (ne-eqb f 1 one, ne-eqb f 2 two, frame-at, ← w, ← o, ← s)
       (ap (λ (x : Bool). own && x)
-      (t ∙ someFrom-ext line 0
-      (λ j. missesAt (getD table j 0) of item stamp (frameIn bytes starts j))
-      (λ j. missesAt (owners (framesIn bytes starts n) j line) of item stamp
-      (getD (framesIn bytes starts n) j []))
-      (λ j _ l. rw (
-        owned .held j (omega arith),
-        framesIn-at bytes starts n j (omega arith),
-      ))))
+      (t ∙ missed-gathered bytes starts n writes m g line table of item stamp owned
+      ∙ missed-above bytes starts n line h of item stamp))
 
 -- line i shows an item at which the finding holds
 pub holds-search : (bytes starts : List ℕ) (n line f items : ℕ) → line < n

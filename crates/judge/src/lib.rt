@@ -5,7 +5,7 @@ mod search;
 use crate::search::first_fault;
 use crate::search::lowest;
 use findings::Verdict;
-use judge_findings::marks::mark_lines;
+use judge_findings::writes::gather;
 use judge_limits::too_long;
 use judge_scan::Scanned;
 use judge_scan::scan;
@@ -16,19 +16,20 @@ ghost use mathlib.Core.Bool.{false};
 ghost use Rattle.log.specs.Log.{tooLong, framesOf};
 ghost use Rattle.judge_scan.specs.Scan.{Scanning};
 ghost use Rattle.findings.specs.Findings.{judged, checked, verdict, numberOf};
-ghost use Rattle.judge_findings.specs.Marks.{AllSmall, Table};
+ghost use Rattle.judge_findings.specs.Owned.{AllSmall};
+ghost use Rattle.judge.specs.Search.{Table};
 ghost use Rattle.findings.specs.Published.{Says};
 
-// Well-formed frames, marked: the first line at fault and there the lowest finding.
-fn judge_marked(bytes: &[u8], starts: &[usize], marks: &[u64], n: usize) -> Verdict
-    requires { ⌜ Table (now bytes) (now starts) n (now marks) ⌝ }
+// Well-formed frames, their writes gathered: the first line at fault and there the lowest finding.
+fn judge_gathered(bytes: &[u8], starts: &[usize], writes: &[u64], m: usize, n: usize) -> Verdict
+    requires { ⌜ Table (now bytes) (now starts) n (now writes) m ⌝ }
     ensures { λ r. ⌜ r ≡ judged (framesIn (now (bytes .entry)) (now (starts .entry)) n) ⌝ }
 {
     let mut owners = [0u64; 256];
-    let line = first_fault(bytes, starts, marks, &mut owners, n);
+    let line = first_fault(bytes, starts, writes, m, &mut owners, n);
     if line < n {
         Verdict::Judged {
-            finding: lowest(bytes, starts, marks, &owners, n, line),
+            finding: lowest(bytes, starts, writes, m, &owners, n, line),
             line: (line + 1) as u16,
         }
     } else {
@@ -44,9 +45,9 @@ fn judge_lines(bytes: &[u8], starts: &[usize], n: usize) -> Verdict
     requires { ⌜ (n ≤ 256) × AllSmall (now bytes) (now starts) n ⌝ }
     ensures { λ r. ⌜ r ≡ judged (framesIn (now (bytes .entry)) (now (starts .entry)) n) ⌝ }
 {
-    let mut marks = [0u64; 256];
-    mark_lines(bytes, starts, n, &mut marks);
-    judge_marked(bytes, starts, &marks, n)
+    let mut writes = [0u64; 768];
+    let m = gather(bytes, starts, n, &mut writes);
+    judge_gathered(bytes, starts, &writes, m, n)
 }
 
 // A log within the limits, decoded into `bytes` with its lines' starts in `starts`.

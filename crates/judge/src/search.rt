@@ -14,9 +14,8 @@ ghost use mathlib.Core.Path.{_≡_};
 ghost use Prim.Native.Nat.{_<_};
 ghost use Rattle.judge_frames.specs.Cut.{framesIn};
 ghost use Rattle.findings.specs.Findings.{findings, holdsAt, lowest as lowestOf, faultAt};
-ghost use Rattle.judge_findings.specs.Marks.{Table};
 ghost use Rattle.judge_findings.specs.Owned.{Owned};
-ghost use Rattle.judge.specs.Search.{findingOf};
+ghost use Rattle.judge.specs.Search.{findingOf, Table};
 ghost use Rattle.log.specs.Some.{firstFrom};
 
 // The first line at fault, counted from 0; `n` where there is none. The owners are then those at
@@ -24,11 +23,12 @@ ghost use Rattle.log.specs.Some.{firstFrom};
 pub fn first_fault(
     bytes: &[u8],
     starts: &[usize],
-    marks: &[u64],
+    writes: &[u64],
+    m: usize,
     owners: &mut [u64],
     n: usize,
 ) -> usize
-    requires { ⌜ Table (now bytes) (now starts) n (now marks)
+    requires { ⌜ Table (now bytes) (now starts) n (now writes) m
         × Owned (now bytes) (now starts) n 0 (now owners) ⌝ }
     ensures { λ r. ⌜ r ≡ firstFrom n 0 (faultAt
         (framesIn (now (bytes .entry)) (now (starts .entry)) n)) ⌝ }
@@ -48,17 +48,17 @@ pub fn first_fault(
             let item = k;
             k += 1;
             if itemset::has(items, item) {
-                let stamp = shown_stamp(r, item);
-                let value = shown_value(r, item);
-                if is_unwritten(bytes, starts, marks, n, item, stamp, value) {
+                let stamp = shown_stamp(r, items, item);
+                let value = shown_value(r, items, item);
+                if is_unwritten(bytes, starts, writes, m, item, stamp, value) {
                     found = line;
                     break 'lines;
                 }
                 let mut j = 0;
-                'writes: while j < n {
+                'writes: while j < m {
                     let write = j;
                     j += 1;
-                    if faults_at(bytes, starts, marks, owners, write, r, of, item, stamp) {
+                    if faults_at(writes, owners, write, r, of, item, stamp) {
                         found = line;
                         break 'lines;
                     }
@@ -77,26 +77,29 @@ fn holds(
     finding: u64,
     bytes: &[u8],
     starts: &[usize],
-    marks: &[u64],
+    writes: &[u64],
+    m: usize,
     owners: &[u64],
     n: usize,
     line: usize,
     item: u64,
 ) -> bool
-    requires { ⌜ Table (now bytes) (now starts) n (now marks)
+    requires { ⌜ Table (now bytes) (now starts) n (now writes) m
         × Owned (now bytes) (now starts) n line (now owners) × (line < n) ⌝ }
     ensures { λ b. ⌜ b ≡ findingOf finding (framesIn (now (bytes .entry)) (now (starts .entry)) n)
         line item ⌝ }
 {
     let r = frame(bytes, starts, line);
-    let stamp = shown_stamp(r, item);
+    let items = shown(r);
+    let stamp = shown_stamp(r, items, item);
     if finding == 1 {
-        return is_unwritten(bytes, starts, marks, n, item, stamp, shown_value(r, item));
+        let value = shown_value(r, items, item);
+        return is_unwritten(bytes, starts, writes, m, item, stamp, value);
     }
     if finding == 2 {
-        return is_fractured(bytes, starts, n, r, item, stamp);
+        return is_fractured(writes, m, r, item, stamp);
     }
-    reads_own(r) & is_missed(bytes, starts, owners, line, client(r), item, stamp)
+    reads_own(r) & is_missed(writes, owners, m, client(r), item, stamp)
 }
 
 // Line `line` shows an item at which the finding holds.
@@ -104,12 +107,13 @@ fn holds_at(
     finding: u64,
     bytes: &[u8],
     starts: &[usize],
-    marks: &[u64],
+    writes: &[u64],
+    m: usize,
     owners: &[u64],
     n: usize,
     line: usize,
 ) -> bool
-    requires { ⌜ Table (now bytes) (now starts) n (now marks)
+    requires { ⌜ Table (now bytes) (now starts) n (now writes) m
         × Owned (now bytes) (now starts) n line (now owners) × (line < n) ⌝ }
     ensures { λ b. ⌜ b ≡ holdsAt (findingOf finding)
         (framesIn (now (bytes .entry)) (now (starts .entry)) n) line ⌝ }
@@ -117,7 +121,7 @@ fn holds_at(
     let items = shown(frame(bytes, starts, line));
     let mut k = 0;
     while k < 64 {
-        if itemset::has(items, k) & holds(finding, bytes, starts, marks, owners, n, line, k) {
+        if itemset::has(items, k) & holds(finding, bytes, starts, writes, m, owners, n, line, k) {
             return true;
         }
         k += 1;
@@ -129,23 +133,24 @@ fn holds_at(
 pub fn lowest(
     bytes: &[u8],
     starts: &[usize],
-    marks: &[u64],
+    writes: &[u64],
+    m: usize,
     owners: &[u64],
     n: usize,
     line: usize,
 ) -> u8
-    requires { ⌜ Table (now bytes) (now starts) n (now marks)
+    requires { ⌜ Table (now bytes) (now starts) n (now writes) m
         × Owned (now bytes) (now starts) n line (now owners) × (line < n) ⌝ }
     ensures { λ r. ⌜ r ≡ lowestOf findings (framesIn (now (bytes .entry))
         (now (starts .entry)) n) line ⌝ }
 {
-    if holds_at(1, bytes, starts, marks, owners, n, line) {
+    if holds_at(1, bytes, starts, writes, m, owners, n, line) {
         return 1;
     }
-    if holds_at(2, bytes, starts, marks, owners, n, line) {
+    if holds_at(2, bytes, starts, writes, m, owners, n, line) {
         return 2;
     }
-    if holds_at(3, bytes, starts, marks, owners, n, line) {
+    if holds_at(3, bytes, starts, writes, m, owners, n, line) {
         return 3;
     }
     0

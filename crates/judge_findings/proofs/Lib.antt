@@ -1,4 +1,4 @@
 -- Laws of the definitions.
-pub mod Marking
+pub mod Gathering
 pub mod Owning
 pub mod Tests

@@ -1,4 +1,4 @@
 -- The definitions that the contracts of `judge_findings` cite.
-pub mod Marks
 pub mod Owned
 pub mod Tests
+pub mod Writes

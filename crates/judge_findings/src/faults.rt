@@ -1,76 +1,71 @@
 // The three findings at one item that a read shows, each a search over the writes of the log
 // (document 01: findings).
+use crate::writes::items_of;
+use crate::writes::line_of;
+use crate::writes::stamp_of;
 use judge_frames::cut::frame;
 use judge_frames::fields::reads_own;
 use judge_frames::fields::shown;
 use judge_frames::fields::shown_stamp;
-use judge_frames::fields::written;
-use judge_frames::fields::written_stamp;
 use judge_frames::fields::written_value;
+ghost use mathlib.Core.Bool.{cond, not};
 ghost use mathlib.Core.Path.{_≡_};
-ghost use Prim.Native.Nat.{_≤_, _<_};
+ghost use Prim.Native.Nat.{_+_, _*_, _≤_, _<_};
+ghost use lib.Dec.{eqb};
 ghost use lib.ListN.{length, getD};
-ghost use Rattle.itemset.specs.Set.{has};
-ghost use Rattle.judge_frames.specs.Cut.{frameIn, framesIn};
-ghost use Rattle.findings.specs.Findings.{wrote as wroteBy, isUnwritten, behind as isBehind};
-ghost use Rattle.findings.specs.Findings.{fractures as fracturesAt, missesAt};
-ghost use Rattle.judge_findings.specs.Marks.{markOf, Table};
-ghost use Rattle.judge_findings.specs.Tests.{behindAt, wroteOwn, faultsOf};
-ghost use Rattle.log.specs.Some.{some, someFrom};
+ghost use Rattle.judge_frames.specs.Cut.{frameIn};
+ghost use Rattle.findings.specs.Findings.{wrote};
+ghost use Rattle.judge_findings.specs.Tests.{behindAt, behindBy, fracturesBy, missesBy};
+ghost use Rattle.judge_findings.specs.Tests.{faultsBy};
+ghost use Rattle.judge_findings.specs.Writes.{lineOf, stampOf, itemsOf, Entry, Entries};
+ghost use Rattle.judge_findings.specs.Writes.{Within};
+ghost use Rattle.log.specs.Log.{shown as shownItems};
+ghost use Rattle.log.specs.Some.{someFrom};
 
-// `w` wrote the item with that stamp and value.
-fn wrote(w: &[u8], item: u64, stamp: u64, value: u64) -> bool
-    ensures { λ r. ⌜ r ≡ wroteBy item stamp value (now (w .entry)) ⌝ }
-{
-    if written_stamp(w) == stamp {
-        itemset::has(written(w), item) & (written_value(w, item) == value)
-    } else {
-        false
-    }
-}
-
-// Line `j` is a write of the item with that stamp and value.
+// Write `w` is of the item, with that stamp and value.
 fn wrote_at(
     bytes: &[u8],
     starts: &[usize],
-    marks: &[u64],
-    j: usize,
+    writes: &[u64],
+    w: usize,
     item: u64,
     stamp: u64,
     value: u64,
 ) -> bool
-    requires { ⌜ (j ≤ 65536) × (j < length (now marks))
-        × (getD (now marks) j 0 ≡ markOf (frameIn (now bytes) (now starts) j)) ⌝ }
-    ensures { λ r. ⌜ r ≡ wroteBy item stamp value
-        (frameIn (now (bytes .entry)) (now (starts .entry)) j) ⌝ }
+    requires { ⌜ (3 * w + 2 < length (now writes))
+        × Entry (now bytes) (now starts) (now writes) w ⌝ }
+    ensures { λ b. ⌜ b ≡ wrote item stamp value
+        (frameIn (now (bytes .entry)) (now (starts .entry)) (lineOf (now (writes .entry)) w)) ⌝ }
 {
-    if marks[j] == stamp {
-        wrote(frame(bytes, starts, j), item, stamp, value)
+    if stamp_of(writes, w) == stamp {
+        let f = frame(bytes, starts, line_of(writes, w));
+        let items = items_of(writes, w);
+        itemset::has(items, item) & (written_value(f, items, item) == value)
     } else {
         false
     }
 }
 
-// Some write wrote the item with that stamp and value.
+// Some write is.
 fn is_written(
     bytes: &[u8],
     starts: &[usize],
-    marks: &[u64],
-    n: usize,
+    writes: &[u64],
+    m: usize,
     item: u64,
     stamp: u64,
     value: u64,
 ) -> bool
-    requires { ⌜ Table (now bytes) (now starts) n (now marks) ⌝ }
-    ensures { λ r. ⌜ r ≡ some (wroteBy item stamp value)
-        (framesIn (now (bytes .entry)) (now (starts .entry)) n) ⌝ }
+    requires { ⌜ Entries (now bytes) (now starts) (now writes) m ⌝ }
+    ensures { λ b. ⌜ b ≡ someFrom m 0 (λ w. wrote item stamp value
+        (frameIn (now (bytes .entry)) (now (starts .entry)) (lineOf (now (writes .entry)) w))) ⌝ }
 {
-    let mut j = 0;
-    while j < n {
-        if wrote_at(bytes, starts, marks, j, item, stamp, value) {
+    let mut w = 0;
+    while w < m {
+        if wrote_at(bytes, starts, writes, w, item, stamp, value) {
             return true;
         }
-        j += 1;
+        w += 1;
     }
     false
 }
@@ -79,47 +74,48 @@ fn is_written(
 pub fn is_unwritten(
     bytes: &[u8],
     starts: &[usize],
-    marks: &[u64],
-    n: usize,
+    writes: &[u64],
+    m: usize,
     item: u64,
     stamp: u64,
     value: u64,
 ) -> bool
-    requires { ⌜ Table (now bytes) (now starts) n (now marks) ⌝ }
-    ensures { λ r. ⌜ r ≡ isUnwritten (framesIn (now (bytes .entry)) (now (starts .entry)) n) item
-        stamp value ⌝ }
+    requires { ⌜ Entries (now bytes) (now starts) (now writes) m ⌝ }
+    ensures { λ b. ⌜ b ≡ cond (eqb stamp 0) (not (eqb value 0)) (not (someFrom m 0 (λ w. wrote item
+        stamp value (frameIn (now (bytes .entry)) (now (starts .entry))
+        (lineOf (now (writes .entry)) w))))) ⌝ }
 {
     if stamp == 0 {
         return value != 0;
     }
-    if is_written(bytes, starts, marks, n, item, stamp, value) {
+    if is_written(bytes, starts, writes, m, item, stamp, value) {
         false
     } else {
         true
     }
 }
 
-// `r` shows the item, one of those written, with an earlier stamp than `stamp`.
+// `r`, which shows `items`, shows the item, one of those written, with an earlier stamp than
+// `stamp`.
 fn behind_at(r: &[u8], items: u64, written: u64, stamp: u64, item: u64) -> bool
+    requires { ⌜ items ≡ shownItems (now r) ⌝ }
     ensures { λ b. ⌜ b ≡ behindAt (now (r .entry)) items written stamp item ⌝ }
 {
     if itemset::has(items, item) & itemset::has(written, item) {
-        shown_stamp(r, item) < stamp
+        shown_stamp(r, items, item) < stamp
     } else {
         false
     }
 }
 
-// `r` shows an item that `w` wrote, with an earlier stamp than that of `w`.
-fn behind(r: &[u8], w: &[u8]) -> bool
-    ensures { λ b. ⌜ b ≡ isBehind (now (r .entry)) (now (w .entry)) ⌝ }
+// `r` shows one of the items written with an earlier stamp than `stamp`.
+fn behind(r: &[u8], written: u64, stamp: u64) -> bool
+    ensures { λ b. ⌜ b ≡ behindBy (now (r .entry)) written stamp ⌝ }
 {
     let items = shown(r);
-    let wrote = written(w);
-    let stamp = written_stamp(w);
     let mut k = 0;
     while k < 64 {
-        if behind_at(r, items, wrote, stamp, k) {
+        if behind_at(r, items, written, stamp, k) {
             return true;
         }
         k += 1;
@@ -127,127 +123,89 @@ fn behind(r: &[u8], w: &[u8]) -> bool
     false
 }
 
-// `w` wrote the item with that stamp, and another item that `r` shows with an earlier one.
-pub fn fractures(r: &[u8], item: u64, stamp: u64, w: &[u8]) -> bool
-    ensures { λ b. ⌜ b ≡ fracturesAt (now (r .entry)) item stamp (now (w .entry)) ⌝ }
+// Write `w` is of the item and has the stamp shown, and `r` shows another of its items with an
+// earlier one.
+fn fractures_at(writes: &[u64], w: usize, r: &[u8], item: u64, seen: u64) -> bool
+    requires { ⌜ 3 * w + 2 < length (now writes) ⌝ }
+    ensures { λ b. ⌜ b ≡ fracturesBy (now (r .entry)) (itemsOf (now (writes .entry)) w)
+        (stampOf (now (writes .entry)) w) item seen ⌝ }
 {
-    if written_stamp(w) == stamp {
-        itemset::has(written(w), item) & behind(r, w)
+    let written = items_of(writes, w);
+    let stamp = stamp_of(writes, w);
+    if stamp == seen {
+        itemset::has(written, item) & behind(r, written, stamp)
     } else {
         false
     }
 }
 
-// Line `write` counts as that client's own, and wrote the item.
-fn wrote_own(
-    bytes: &[u8],
-    starts: &[usize],
-    owners: &[u64],
-    write: usize,
-    of: u64,
-    item: u64,
-) -> bool
-    requires { ⌜ (write ≤ 65536) × (write < length (now owners)) ⌝ }
-    ensures { λ b. ⌜ b ≡ wroteOwn (getD (now (owners .entry)) write 0) of item
-        (frameIn (now (bytes .entry)) (now (starts .entry)) write) ⌝ }
+// Write `w` counts as that client's own, is of the item and is later than the stamp shown.
+fn misses_at(writes: &[u64], owners: &[u64], w: usize, of: u64, item: u64, seen: u64) -> bool
+    requires { ⌜ (3 * w + 2 < length (now writes))
+        × (lineOf (now writes) w < length (now owners)) ⌝ }
+    ensures { λ b. ⌜ b ≡ missesBy
+        (getD (now (owners .entry)) (lineOf (now (writes .entry)) w) 0)
+        (itemsOf (now (writes .entry)) w) (stampOf (now (writes .entry)) w) of item seen ⌝ }
 {
-    if itemset::has(owners[write], of) {
-        itemset::has(written(frame(bytes, starts, write)), item)
-    } else {
-        false
-    }
+    let line = line_of(writes, w);
+    itemset::has(owners[line], of)
+        & (itemset::has(items_of(writes, w), item) & (seen < stamp_of(writes, w)))
 }
 
-// Besides, with a later stamp.
-fn misses_at(
-    bytes: &[u8],
-    starts: &[usize],
-    owners: &[u64],
-    write: usize,
-    of: u64,
-    item: u64,
-    stamp: u64,
-) -> bool
-    requires { ⌜ (write ≤ 65536) × (write < length (now owners)) ⌝ }
-    ensures { λ b. ⌜ b ≡ missesAt (getD (now (owners .entry)) write 0) of item stamp
-        (frameIn (now (bytes .entry)) (now (starts .entry)) write) ⌝ }
-{
-    wrote_own(bytes, starts, owners, write, of, item)
-        & (stamp < written_stamp(frame(bytes, starts, write)))
-}
-
-// Line `write` has the read `r` of that client at fault at the item: fractured, or an own write
-// missed that it was to see. The mark tells which stamp is the later.
+// Write `w` has the read `r` of that client at fault at the item: fractured, or an own write missed
+// that it was to see. Most writes aren't of the item.
 pub fn faults_at(
-    bytes: &[u8],
-    starts: &[usize],
-    marks: &[u64],
+    writes: &[u64],
     owners: &[u64],
-    write: usize,
+    w: usize,
     r: &[u8],
     of: u64,
     item: u64,
-    stamp: u64,
+    seen: u64,
 ) -> bool
-    requires { ⌜ (write ≤ 65536) × (write < length (now marks)) × (write < length (now owners))
-        × (getD (now marks) write 0 ≡ markOf (frameIn (now bytes) (now starts) write)) ⌝ }
-    ensures { λ b. ⌜ b ≡ faultsOf (now (r .entry)) (getD (now (owners .entry)) write 0) of item
-        stamp (frameIn (now (bytes .entry)) (now (starts .entry)) write) ⌝ }
+    requires { ⌜ (3 * w + 2 < length (now writes))
+        × (lineOf (now writes) w < length (now owners)) ⌝ }
+    ensures { λ b. ⌜ b ≡ faultsBy (now (r .entry))
+        (getD (now (owners .entry)) (lineOf (now (writes .entry)) w) 0)
+        (itemsOf (now (writes .entry)) w) (stampOf (now (writes .entry)) w) of item seen ⌝ }
 {
-    let mark = marks[write];
-    if mark == stamp {
-        return fractures(r, item, stamp, frame(bytes, starts, write));
-    }
-    if stamp < mark {
-        reads_own(r) & wrote_own(bytes, starts, owners, write, of, item)
+    if itemset::has(items_of(writes, w), item) {
+        fractures_at(writes, w, r, item, seen)
+            | (reads_own(r) & misses_at(writes, owners, w, of, item, seen))
     } else {
         false
     }
 }
 
 // Finding 2, at an item shown with that stamp.
-pub fn is_fractured(
-    bytes: &[u8],
-    starts: &[usize],
-    n: usize,
-    r: &[u8],
-    item: u64,
-    stamp: u64,
-) -> bool
-    requires { ⌜ n ≤ 65536 ⌝ }
-    ensures { λ b. ⌜ b ≡ some (fracturesAt (now (r .entry)) item stamp)
-        (framesIn (now (bytes .entry)) (now (starts .entry)) n) ⌝ }
+pub fn is_fractured(writes: &[u64], m: usize, r: &[u8], item: u64, seen: u64) -> bool
+    requires { ⌜ 3 * m ≤ length (now writes) ⌝ }
+    ensures { λ b. ⌜ b ≡ someFrom m 0 (λ w. fracturesBy (now (r .entry))
+        (itemsOf (now (writes .entry)) w) (stampOf (now (writes .entry)) w) item seen) ⌝ }
 {
-    let mut j = 0;
-    while j < n {
-        if fractures(r, item, stamp, frame(bytes, starts, j)) {
+    let mut w = 0;
+    while w < m {
+        if fractures_at(writes, w, r, item, seen) {
             return true;
         }
-        j += 1;
+        w += 1;
     }
     false
 }
 
-// Finding 3, at an item shown with that stamp to that client, by the first `n` lines, those above.
-pub fn is_missed(
-    bytes: &[u8],
-    starts: &[usize],
-    owners: &[u64],
-    n: usize,
-    of: u64,
-    item: u64,
-    stamp: u64,
-) -> bool
-    requires { ⌜ (n ≤ 65536) × (n ≤ length (now owners)) ⌝ }
-    ensures { λ b. ⌜ b ≡ someFrom n 0 (λ j. missesAt (getD (now (owners .entry)) j 0) of item stamp
-        (frameIn (now (bytes .entry)) (now (starts .entry)) j)) ⌝ }
+// Finding 3, at an item shown with that stamp to that client.
+pub fn is_missed(writes: &[u64], owners: &[u64], m: usize, of: u64, item: u64, seen: u64) -> bool
+    requires { ⌜ (3 * m ≤ length (now writes)) × Within (now writes) m (length (now owners)) ⌝ }
+    ensures { λ b. ⌜ b ≡ someFrom m 0 (λ w. missesBy
+        (getD (now (owners .entry)) (lineOf (now (writes .entry)) w) 0)
+        (itemsOf (now (writes .entry)) w) (stampOf (now (writes .entry)) w) of item seen) ⌝ }
 {
-    let mut j = 0;
-    while j < n {
-        if misses_at(bytes, starts, owners, j, of, item, stamp) {
+    let mut w = 0;
+    while w < m {
+        if misses_at(writes, owners, w, of, item, seen) {
             return true;
         }
-        j += 1;
+        w += 1;
     }
     false
 }

@@ -1,5 +1,5 @@
-// The three findings at one item that a read shows, and two tables: one spares most looks at a
-// frame, the other has whose own each line's write is (document 01: findings; document 02, P6).
+// The three findings at one item that a read shows, and two tables: the lines that write, and whose
+// own each line's write is (document 01: findings; document 02, P6).
 pub mod faults;
-pub mod marks;
 pub mod owners;
+pub mod writes;

@@ -9,8 +9,7 @@ ghost use Prim.Native.Nat.{_≤_, _<_};
 ghost use lib.ListN.{length};
 ghost use Rattle.itemset.specs.Set.{has, insert};
 ghost use Rattle.log.specs.Log.{kindOf, handsOver};
-ghost use Rattle.judge_findings.specs.Marks.{SmallClients};
-ghost use Rattle.judge_findings.specs.Owned.{Passed};
+ghost use Rattle.judge_findings.specs.Owned.{Passed, SmallClients};
 
 // The clients, and if the giver is one of them also the receiver.
 fn with_heir(clients: u64, giver: u64, to: u64) -> u64

@@ -15,8 +15,7 @@ ghost use mathlib.Core.Path.{_≡_};
 ghost use Prim.Native.Nat.{_≤_};
 ghost use Rattle.log.specs.Log.{isClient, isWhole, entryNumber, entryWriter, entriesWhole};
 ghost use Rattle.log.specs.Log.{readShaped, writeShaped, handOverShaped, shaped as shapedAs};
-ghost use Rattle.log.specs.Log.{reaches as reachesOf};
-ghost use Rattle.judge_form.specs.Parsed.{parsed};
+ghost use Rattle.judge_form.specs.Parsed.{parsed, isWriteOf};
 
 // What a line's frame parses to.
 pub enum Parsed {
@@ -122,9 +121,9 @@ pub fn parse(f: &[u8]) -> Parsed
     }
 }
 
-// `w` is of that client, with that number or a greater one.
-pub fn reaches(w: &[u8], of: u64, number: u64) -> bool
-    ensures { λ r. ⌜ r ≡ reachesOf of number (now (w .entry)) ⌝ }
+// `w` is of that client, and has a number.
+pub fn is_write_of(w: &[u8], of: u64) -> bool
+    ensures { λ r. ⌜ r ≡ isWriteOf of (now (w .entry)) ⌝ }
 {
-    (client(w) == of) & (number <= write_number(w))
+    (client(w) == of) & (1 <= write_number(w))
 }

@@ -1,6 +1,6 @@
 -- Laws of frames cut out of an array of bytes: a search over them, and what storing behind them
 -- leaves as it was.
-use mathlib.Core.Bool.{Bool, true, false}
+use mathlib.Core.Bool.{Bool}
 use mathlib.Core.List.{List, [], _∷_, _++_, append-assoc, append-nil}
 use mathlib.Core.Path.{_≡_, refl, sym, ap, ap₂, _∙_}
 use Prim.Native.Nat.{ℕ, zero, suc, _+_, _-_, _≤_, _<_}
@@ -13,9 +13,9 @@ use lib.ListN.{drop-of-length-le, List·getD-append}
 use lib.Seq.{sets, sets-eq, take-all, take-at, drop-at, drop-drop, getD-at}
 use lib.Seq.{getD-set-other, drop-set-add, take-set-le, length-take-le, length-sets}
 use borrow.Author.Tests.{leb-true, le-leb}
-use Rattle.basics.proofs.Cases.{by-test}
-use Rattle.log.specs.Some.{some}
-use Rattle.log.proofs.Some.{some-here, some-next, some-end}
+use Rattle.basics.proofs.Cases.{by-test, test-ext}
+use Rattle.log.specs.Some.{some, someFrom}
+use Rattle.log.proofs.Some.{some-at, at-some, someFrom-at, at-someFrom}
 use Rattle.judge_frames.specs.Cut.{part, frameIn, framesIn}
 
 module _ (bytes starts : List ℕ) where
@@ -41,24 +41,23 @@ module _ (bytes starts : List ℕ) where
       before
       (eq-or-lt-of-le (le-of-suc-le-suc h))
 
-  -- ---- a search over the frames from the j-th on
+  -- ---- a search over the frames is one over their places
 
-  module _ (p : List ℕ → Bool) (n j : ℕ) where
-    pub cut-here : j < n → p (frameIn bytes starts j) ≡ true
-        → some p (drop j (framesIn bytes starts n)) ≡ true
-    cut-here h e =
-        some-here p (framesIn bytes starts n) j [] (omega (arith, length-framesIn n))
-        (ap p (framesIn-at n j h) ∙ e)
-
-    pub cut-next : j < n → p (frameIn bytes starts j) ≡ false
-        → some p (drop j (framesIn bytes starts n)) ≡ some p
-        (drop (j + 1) (framesIn bytes starts n))
-    cut-next h e =
-        some-next p (framesIn bytes starts n) j [] (omega (arith, length-framesIn n))
-        (ap p (framesIn-at n j h) ∙ e)
-
-    pub cut-end : n ≤ j → some p (drop j (framesIn bytes starts n)) ≡ false
-    cut-end h = some-end p (framesIn bytes starts n) j (omega (arith, length-framesIn n))
+  pub frames-some : (p : List ℕ → Bool) (n : ℕ)
+      → someFrom n 0 (λ j. p (frameIn bytes starts j)) ≡ some p (framesIn bytes starts n)
+  frames-some p n =
+      let frames = framesIn bytes starts n in
+      test-ext (someFrom n 0 (λ j. p (frameIn bytes starts j))) (some p frames)
+      (λ e.
+      let f = someFrom-at n 0 (λ j. p (frameIn bytes starts j)) e in
+      let inside : f .0 < n = omega (arith, f .2) in
+      at-some p frames [] (f .0) (omega (arith, length-framesIn n))
+      (ap p (framesIn-at n (f .0) inside) ∙ f .3))
+      (λ e.
+      let f = some-at p frames [] e in
+      let inside : f .0 < n = omega (arith, f .1, length-framesIn n) in
+      at-someFrom n 0 (λ j. p (frameIn bytes starts j)) (f .0) (omega arith) (omega arith)
+      (ap p (sym (framesIn-at n (f .0) inside)) ∙ f .2))
 
 -- ---- bytes stored behind the frames
 

@@ -54,21 +54,23 @@ pub fn has_read(f: &[u8]) -> bool
     ensures { λ r. ⌜ r ≡ hasRead (kindOf (now (f .entry))) ⌝ }
 {
     let kind = byte(f, 0);
-    (kind == 0x21) | (kind == 0x23)
+    (kind == 0x21) | ((kind == 0x23) | (kind == 0x24))
 }
 
 // Whether the frame's kind is to see its client's own writes.
 pub fn reads_own(f: &[u8]) -> bool
     ensures { λ r. ⌜ r ≡ readsOwn (kindOf (now (f .entry))) ⌝ }
 {
-    byte(f, 0) == 0x21
+    let kind = byte(f, 0);
+    (kind == 0x21) | (kind == 0x24)
 }
 
 // Whether the frame's kind has a write part.
 pub fn has_write(f: &[u8]) -> bool
     ensures { λ r. ⌜ r ≡ hasWrite (kindOf (now (f .entry))) ⌝ }
 {
-    byte(f, 0) == 0x20
+    let kind = byte(f, 0);
+    (kind == 0x20) | (kind == 0x24)
 }
 
 // Whether the frame is a hand-over.
@@ -101,27 +103,29 @@ pub fn shown_count(f: &[u8]) -> usize
     itemset::count(shown(f)) as usize
 }
 
-// How many of the items shown are below `item`: its place among them.
-fn shown_place(f: &[u8], item: u64) -> usize
-    ensures { λ r. ⌜ r ≡ rank (shownItems (now (f .entry))) item ⌝ }
+// How many of the items are below `item`: its place among them.
+fn place(items: u64, item: u64) -> usize
+    ensures { λ r. ⌜ r ≡ rank items item ⌝ }
     ensures { λ r. ⌜ r ≤ 64 ⌝ }
 {
-    itemset::rank(shown(f), item) as usize
+    itemset::rank(items, item) as usize
 }
 
-// The stamp with which the frame shows `item`.
-pub fn shown_stamp(f: &[u8], item: u64) -> u64
+// The stamp with which the frame, which shows `items`, shows `item`.
+pub fn shown_stamp(f: &[u8], items: u64, item: u64) -> u64
+    requires { ⌜ items ≡ shownItems (now f) ⌝ }
     ensures { λ r. ⌜ r ≡ shownStamp (now (f .entry)) item ⌝ }
 {
-    let at = 10 + 9 * shown_place(f, item);
+    let at = 10 + 9 * place(items, item);
     word(f, at) * 16 + byte(f, at + 4)
 }
 
-// The value with which the frame shows `item`.
-pub fn shown_value(f: &[u8], item: u64) -> u64
+// The value with which the frame, which shows `items`, shows `item`.
+pub fn shown_value(f: &[u8], items: u64, item: u64) -> u64
+    requires { ⌜ items ≡ shownItems (now f) ⌝ }
     ensures { λ r. ⌜ r ≡ shownValue (now (f .entry)) item ⌝ }
 {
-    word(f, 10 + 9 * shown_place(f, item) + 5)
+    word(f, 10 + 9 * place(items, item) + 5)
 }
 
 // Where the write part begins: behind the read part, or behind the client.
@@ -155,14 +159,6 @@ fn written_count(f: &[u8]) -> usize
     itemset::count(written(f)) as usize
 }
 
-// How many of the items written are below `item`: its place among them.
-fn written_place(f: &[u8], item: u64) -> usize
-    ensures { λ r. ⌜ r ≡ rank (writtenItems (now (f .entry))) item ⌝ }
-    ensures { λ r. ⌜ r ≤ 64 ⌝ }
-{
-    itemset::rank(written(f), item) as usize
-}
-
 // The number of the frame's write; 0 without a write part.
 pub fn write_number(f: &[u8]) -> u64
     ensures { λ r. ⌜ r ≡ numberOf (now (f .entry)) ⌝ }
@@ -182,11 +178,12 @@ pub fn written_stamp(f: &[u8]) -> u64
     write_number(f) * 16 + client(f)
 }
 
-// What the frame's write gave `item`.
-pub fn written_value(f: &[u8], item: u64) -> u64
+// What the frame, which wrote `items`, gave `item`.
+pub fn written_value(f: &[u8], items: u64, item: u64) -> u64
+    requires { ⌜ items ≡ writtenItems (now f) ⌝ }
     ensures { λ r. ⌜ r ≡ writtenValue (now (f .entry)) item ⌝ }
 {
-    word(f, write_at(f) + 12 + 4 * written_place(f, item))
+    word(f, write_at(f) + 12 + 4 * place(items, item))
 }
 
 // Where the frame ends: behind its last part.

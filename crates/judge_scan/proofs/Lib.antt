@@ -1,2 +1,3 @@
 -- The laws of scanning a log.
+mod Rising
 pub mod Scanning

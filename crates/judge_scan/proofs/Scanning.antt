@@ -1,7 +1,7 @@
 -- What scanning a log line by line keeps: the lines taken lie in the bytes, cut at the starts.
 use mathlib.Core.Bool.{true, false}
 use mathlib.Core.List.{List, [], _∷_, _++_, map}
-use mathlib.Core.Path.{_≡_, refl, sym, ap, ap₂, _∙_}
+use mathlib.Core.Path.{_≡_, refl, sym, ap, ap₂, _∙_, subst}
 use Prim.Native.Nat.{ℕ, suc, _+_, _-_, _/_, _≤_, _<_}
 use native.Mathlib.Nat.{le-refl, not-suc-le-zero, le-of-suc-le-suc, add-zero, sub-zero}
 use native.Mathlib.Numerals.{add-one}
@@ -9,7 +9,7 @@ use native.Mathlib.Omega.{arith}
 use lib.Dec.{eqb, leb, ltb}
 use lib.ListN.{length, getD, take, drop, set, length-set, length-drop, drop-of-length-le}
 use lib.Seq.{sets, take-take, take-suc, take-all, drop-drop, getD-drop, length-take-le, length-sets}
-use lib.Seq.{getD-set-same, getD-set-other}
+use lib.Seq.{getD-take, getD-set-same, getD-set-other}
 use borrow.Author.Tests.{lt-ltb, le-ltb, leb-true, leb-false}
 use Rattle.basics.specs.Lists.{counted}
 use Rattle.hex.specs.Line.{lineLength, lineEnd}
@@ -21,8 +21,9 @@ use Rattle.basics.proofs.Cases.{by-test}
 use Rattle.hex.proofs.Line.{lineEnd-ge}
 use Rattle.hex.proofs.Text.{length-bytesOf}
 use Rattle.judge_frames.proofs.Cuts.{part-new, framesIn-sets, framesIn-mark}
-use Rattle.log.proofs.Some.{firstFrom-here, firstFrom-next, firstFrom-end}
-use Rattle.judge_scan.specs.Scan.{Room, Scanning, Step, lineAt}
+use Rattle.log.proofs.Some.{firstFrom-here, firstFrom-next, firstFrom-end, firstFrom-ge}
+use Rattle.log.proofs.Some.{firstFrom-none}
+use Rattle.judge_scan.specs.Scan.{Room, Scanning, Step, Well, lineAt}
 
 -- ---- the frame of the line at a place
 
@@ -238,6 +239,16 @@ module _ (log : List ℕ) (at : ℕ) (bytes starts : List ℕ) (i : ℕ)
         omega (arith, s .count),
       )
 
+  -- the lines taken aren't malformed
+  taken-well : Well (framesIn bytes starts i)
+  taken-well =
+      subst Well (sym (s .taken))
+      (λ k l.
+      let below : k < i = omega (arith, l, length-take-le i frames (s .count)) in
+      rw (take-take k i frames (omega arith), getD-take i frames k [] below)
+      (firstFrom-none (length frames) 0 (malformedAt frames) k (omega arith)
+      (omega (arith, s .first, firstFrom-ge (length frames - i) i (malformedAt frames)))))
+
   module _ (h : at < length log) where
     pub scan-room : Room log at bytes starts i
     scan-room =
@@ -249,6 +260,7 @@ module _ (log : List ℕ) (at : ℕ) (bytes starts : List ℕ) (i : ℕ)
           few = omega (arith, s .ends);
           behind = s .behind;
           ascending = s .ascending;
+          well = taken-well;
         }
 
     next-line : drop i frames ≡ frameOf (lineAt log at)

@@ -23,6 +23,10 @@ lineAt log at = take (suc (lineLength (drop at log))) (drop at log)
 abbrev pub Ascending : List ℕ → ℕ → Type 0
 Ascending starts i = (j : ℕ) → j ≤ i → getD starts j 0 ≤ getD starts i 0
 
+-- none of the frames is malformed
+abbrev pub Well : List (List ℕ) → Type 0
+Well frames = (k : ℕ) → k < length frames → malformedAt frames k ≡ false
+
 -- there is room for line i, which begins at `at`
 pub record Room (log : List ℕ) (at : ℕ) (bytes starts : List ℕ) (i : ℕ) : Type 0 where
   pub short : length log ≤ 32768
@@ -32,6 +36,7 @@ pub record Room (log : List ℕ) (at : ℕ) (bytes starts : List ℕ) (i : ℕ) 
   pub few : i ≤ 256
   pub behind : 2 * getD starts i 0 ≤ at
   pub ascending : Ascending starts i
+  pub well : Well (framesIn bytes starts i)
 
 -- line i was taken: its frame joins those before
 pub record Step (log : List ℕ) (at i : ℕ) (bytes starts bytes' starts' : List ℕ)

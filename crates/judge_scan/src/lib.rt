@@ -2,11 +2,12 @@
 // (document 01: frames).
 use hex::Decoded;
 use judge_form::Parsed;
+use judge_form::is_write_of;
 use judge_form::parse;
-use judge_form::reaches;
 use judge_frames::cut::frame;
 use judge_frames::cut::part;
 use judge_frames::cut::start;
+use judge_frames::fields::write_number;
 ghost use mathlib.Core.Path.{_≡_};
 ghost use Prim.Native.Nat.{_+_, _/_, _≤_, _<_};
 ghost use lib.ListN.{length};
@@ -16,28 +17,30 @@ ghost use Rattle.hex.specs.Text.{bytesOf};
 ghost use Rattle.judge_frames.specs.Cut.{framesIn};
 ghost use Rattle.log.specs.Log.{reaches as reachesOf};
 ghost use Rattle.judge_form.specs.Parsed.{refused};
-ghost use Rattle.judge_scan.specs.Scan.{TakenOf, Room, Scanning, ScannedOf};
+ghost use Rattle.judge_scan.specs.Scan.{TakenOf, Room, Scanning, ScannedOf, Well};
 ghost use Rattle.log.specs.Some.{some};
 
-// One of the first `n` frames is of that client, with that number or a greater one.
+// One of the first `n` frames is of that client, with that number or a greater one. A client's
+// numbers rise, so its last write decides.
 fn reached(bytes: &[u8], starts: &[usize], n: usize, of: u64, number: u64) -> bool
-    requires { ⌜ n ≤ 65536 ⌝ }
+    requires { ⌜ (n ≤ 65536) × (1 ≤ number) × Well (framesIn (now bytes) (now starts) n) ⌝ }
     ensures { λ r. ⌜ r ≡ some (reachesOf of number)
         (framesIn (now (bytes .entry)) (now (starts .entry)) n) ⌝ }
 {
-    let mut j = 0;
-    while j < n {
-        if reaches(frame(bytes, starts, j), of, number) {
-            return true;
+    let mut j = n;
+    while 0 < j {
+        j -= 1;
+        let w = frame(bytes, starts, j);
+        if is_write_of(w, of) {
+            return number <= write_number(w);
         }
-        j += 1;
     }
     false
 }
 
 // The same of a number of 1 or more; 0, where there is no write part, rises over nothing.
 fn repeats(bytes: &[u8], starts: &[usize], n: usize, of: u64, number: u64) -> bool
-    requires { ⌜ n ≤ 65536 ⌝ }
+    requires { ⌜ (n ≤ 65536) × Well (framesIn (now bytes) (now starts) n) ⌝ }
     ensures { λ r. ⌜ r ≡ refused (framesIn (now (bytes .entry)) (now (starts .entry)) n)
         (Parsed.Frame of number) ⌝ }
 {

@@ -1,5 +1,5 @@
 -- What a block holds of a client depends on that client's words alone.
-use mathlib.Core.Bool.{true, false}
+use mathlib.Core.Bool.{Bool, true, false, cond}
 use mathlib.Core.List.{List}
 use mathlib.Core.Path.{_≡_, refl, ap, _∙_}
 use Prim.Native.Nat.{ℕ, _+_, _*_, _<_}
@@ -9,9 +9,11 @@ use Rattle.protocol.specs.declared.Entry.{Entry}
 use Rattle.protocol.specs.Tables.{Client, ReadPart, WritePart, Ended}
 use Rattle.protocol.specs.Range.{isWriting}
 use Rattle.protocol.proofs.FastRead.{first-in-set}
-use Rattle.layout.specs.Layout.{scalars, asked, values, lastStamps, lastValues, firsts}
-use Rattle.layout.specs.Layout.{entryWords, stageOf}
-use Rattle.layout.specs.Encodes.{numberOfMode, HeldRead, HeldWrite, HeldEnded, HoldsClient}
+use Rattle.layout.specs.Layout.{scalars, asked, values, lastStamps, lastValues, firsts, at}
+use Rattle.layout.specs.Layout.{entryWords, scalarAt, isMixedMode, isMixedKind, stageOf}
+use Rattle.layout.specs.Layout.{readValue, writtenValue}
+use Rattle.layout.specs.Encodes.{writesAlone, numberOfMode, HeldRead, HeldWrite, HeldEnded}
+use Rattle.layout.specs.Encodes.{HoldsClient}
 use Rattle.layout.proofs.SameEntry.{same-entry}
 use Rattle.layout.proofs.RowEntries.{entriesOf}
 use Rattle.layout.proofs.Room.{Narrow, NarrowClient}
@@ -19,16 +21,19 @@ use Rattle.layout.proofs.ClientWords.{Words, wordsOf, HasWords, KeptCli
 
 -- as `HoldsEnded`, `HoldsRead`, `HoldsWrite` and `HoldsClient`, of a client's words
 abbrev pub WordsEnded : Words → Ended → Type 0
-WordsEnded w e = HeldEnded (w scalars 5) (w scalars 6) (w scalars 7) (w lastStamps)
+WordsEnded w e = HeldEnded (w scalars 5) (w scalars 6) (w scalars 10) (w scalars 7) (w lastStamps)
     (w lastValues) e
 
 abbrev pub WordsRead : Words → ReadPart → Type 0
 WordsRead w p =
-    HeldRead (w scalars 2) (w scalars 3) (stageOf (w scalars 0)) (w asked) (w values)
-    (entriesOf (w firsts)) p
+    HeldRead (w scalars 2) (w scalars 3) (stageOf (w scalars 0)) (w asked)
+    (λ k. readValue (isMixedMode (w scalars 0)) (w values k)) (entriesOf (w firsts)) p
 
 abbrev pub WordsWrite : Words → WritePart → Type 0
-WordsWrite w p = HeldWrite (w scalars 2) (w scalars 3) (w scalars 4) (w values) p
+WordsWrite w p =
+    let mixed = isMixedMode (w scalars 0) in
+    HeldWrite (cond mixed (w scalars 8) (w scalars 2)) (cond mixed (w scalars 9) (w scalars 3))
+    (w scalars 4) (λ k. writtenValue mixed (w values k)) p
 
 -- what a transaction under way has no part in
 abbrev pub WordsRest : Words → Client → Type 0
@@ -36,7 +41,7 @@ WordsRest w c = (w scalars 1 ≡ c .count) × WordsEnded w (c .last)
 
 pub record WordsHold (w : Words) (c : Client) : Type 0 where
   pub mode : w scalars 0 ≡ numberOfMode c
-  pub read : isWriting c ≡ false → WordsRead w (c .read)
+  pub read : writesAlone c ≡ false → WordsRead w (c .read)
   pub write : isWriting c ≡ true → WordsWrite w (c .write)
   pub rest : WordsRest w c
 
@@ -76,26 +81,42 @@ same-write p n set awaited stamp answers h =
       values = λ k e. answers k (n k e) ∙ h .values k e;
     }
 
+same-cond : {m m′ : Bool} {x x′ y y′ : ℕ} → m′ ≡ m → x′ ≡ x → y′ ≡ y → cond m′ x′ y′ ≡ cond m x y
+same-cond m x y i = cond (m i) (x i) (y i)
+
+-- values told of the same words
+same-of : (f : Bool → ℕ → ℕ) {m m′ : Bool} {g g′ : ℕ → ℕ} → m′ ≡ m
+    → ((k : ℕ) → k < 64 → g′ k ≡ g k) → (k : ℕ) → k < 64 → f m′ (g′ k) ≡ f m (g k)
+same-of f m g k l i = f (m i) (g k l i)
+
 pub holds-words : {d : ℕ} {b : List ℕ} {w : Words} {c : Client} → HasWords d b w → NarrowClient c
     → WordsHold w c → HoldsClient b d c
 holds-words {d} {b} {w} {c} k n h =
     let e = c .last in
+    let word : (i : ℕ) → i < 16 → at b scalars (scalarAt d i) ≡ w scalars i = k .row scalars in
+    let mixed : isMixedMode (at b scalars (scalarAt d 0)) ≡ isMixedMode (w scalars 0) =
+    ap isMixedMode (word 0 (lit< tt)) in
+    let kind : isMixedKind (at b scalars (scalarAt d 5)) ≡ isMixedKind (w scalars 5) =
+    ap isMixedKind (word 5 (lit< tt)) in
     record {
-      mode = k .row scalars 0 (lit< tt) ∙ h .mode;
-      count = k .row scalars 1 (lit< tt) ∙ h .rest .0;
-      read = λ x. same-read (c .read) (n .read) (k .row scalars 2 (lit< tt))
-          (k .row scalars 3 (lit< tt)) (ap stageOf (k .row scalars 0 (lit< tt)))
-          (k .row asked) (k .row values)
+      mode = word 0 (lit< tt) ∙ h .mode;
+      count = word 1 (lit< tt) ∙ h .rest .0;
+      read = λ x. same-read (c .read) (n .read) (word 2 (lit< tt)) (word 3 (lit< tt))
+          (ap stageOf (word 0 (lit< tt))) (k .row asked) (same-of readValue mixed (k .row values))
           (λ j l. same-entry (k .row firsts (entryWords * j + 0) (omega arith))
           (k .row firsts (entryWords * j + 1) (omega arith))) (h .read x);
-      write = λ x. same-write (c .write) (n .write) (k .row scalars 2 (lit< tt))
-          (k .row scalars 3 (lit< tt)) (k .row scalars 4 (lit< tt)) (k .row values) (h .write x);
+      write = λ x. same-write (c .write) (n .write)
+          (same-cond mixed (word 8 (lit< tt)) (word 2 (lit< tt)))
+          (same-cond mixed (word 9 (lit< tt)) (word 3 (lit< tt))) (word 4 (lit< tt))
+          (same-of writtenValue mixed (k .row values)) (h .write x);
       last = record {
-        kind = k .row scalars 5 (lit< tt) ∙ h .rest .1 .kind;
-        read = λ x. same-read (e .read) (n .last .read x) (k .row scalars 6 (lit< tt)) refl refl
-            (k .row lastStamps) (k .row lastValues) (λ j l. refl) (h .rest .1 .read x);
-        write = λ x. same-write (e .write) (n .last .write x) (k .row scalars 6 (lit< tt)) refl
-            (k .row scalars 7 (lit< tt)) (k .row lastValues) (h .rest .1 .write x);
+        kind = word 5 (lit< tt) ∙ h .rest .1 .kind;
+        read = λ x. same-read (e .read) (n .last .read x) (word 6 (lit< tt)) refl refl
+            (k .row lastStamps) (same-of readValue kind (k .row lastValues)) (λ j l. refl)
+            (h .rest .1 .read x);
+        write = λ x. same-write (e .write) (n .last .write x)
+            (same-cond kind (word 10 (lit< tt)) (word 6 (lit< tt))) refl (word 7 (lit< tt))
+            (same-of writtenValue kind (k .row lastValues)) (h .rest .1 .write x);
       };
     }
 

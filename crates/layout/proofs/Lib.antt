@@ -5,6 +5,7 @@ pub mod Sections
 pub mod Past
 mod SameEntry
 pub mod RowEntries
+pub mod Halves
 pub mod Room
 pub mod Parts
 pub mod Kept

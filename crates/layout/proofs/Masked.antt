@@ -6,6 +6,7 @@ use Rattle.itemset.specs.Set.{has}
 use Rattle.protocol.specs.Tables.{Tables, Client, ReadPart, noRead, noWrite, Ended, nothing}
 use Rattle.protocol.specs.Tables.{showsRead, showsWrite, initial, resting}
 use Rattle.protocol.specs.Range.{isClient, isItem, isWriting, hasFirst}
+use Rattle.layout.specs.Encodes.{writesAlone}
 
 -- 0 outside s
 abbrev pub Only : ℕ → (ℕ → ℕ) → Type 0
@@ -24,13 +25,13 @@ pub record MaskedEnded (e : Ended) : Type 0 where
   pub hiddenRead : showsRead (e .kind) ≡ false → e .read ≡ noRead
   pub hiddenWrite : showsWrite (e .kind) ≡ false → e .write ≡ noWrite
 
--- a client has one part, and the other is empty
+-- a part that a client hasn't is empty
 pub record MaskedClient (c : Client) : Type 0 where
   pub asked : Only (c .read .set) (c .read .asked)
   pub answers : Only (c .read .set) (c .read .values)
   pub firsts : OnlyCome (c .read)
   pub values : Only (c .write .set) (c .write .values)
-  pub writing : isWriting c ≡ true → c .read ≡ noRead
+  pub writing : writesAlone c ≡ true → c .read ≡ noRead
   pub others : isWriting c ≡ false → c .write ≡ noWrite
   pub last : MaskedEnded (c .last)
 

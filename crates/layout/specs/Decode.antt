@@ -1,6 +1,6 @@
 -- The decoder: the tables that the words of a block are, initial outside the sizes, the counts and
 -- the sets; and which blocks are valid.
-use mathlib.Core.Bool.{Bool, cond, Bool·beq, _&&_}
+use mathlib.Core.Bool.{Bool, cond, not, Bool·beq, _&&_, _||_}
 use mathlib.Core.List.{List}
 use Prim.Native.Nat.{ℕ, zero, suc, _+_, min}
 use lib.Dec.{leb, ltb, eqb}
@@ -23,8 +23,9 @@ use Rattle.layout.specs.Layout.{asked, values, lastStamps, lastValues, f
 use Rattle.layout.specs.Layout.{messages, needed, at, clientsAt, partitionsAt, itemsAt}
 use Rattle.layout.specs.Layout.{versionsAt, messagesAt, modeAt, countAt, setAt, awaitedAt}
 use Rattle.layout.specs.Layout.{stampAt, lastKindAt, lastSetAt, lastStampAt, latestAt, viewAt}
-use Rattle.layout.specs.Layout.{itemAt, firstAt, versionAt, messageAt, modes, isWriteMode}
-use Rattle.layout.specs.Layout.{idle, stageOf}
+use Rattle.layout.specs.Layout.{writeSetAt, writeAwaitedAt, lastWriteSetAt, itemAt, firstAt}
+use Rattle.layout.specs.Layout.{versionAt, messageAt, modes, isWriteMode, isMixedMode}
+use Rattle.layout.specs.Layout.{isMixedKind, idle, stageOf, readValue, writtenValue}
 
 -- ---- parts and messages
 
@@ -90,27 +91,34 @@ viewIn b d k = record { stamp = at b views (viewAt d k); set = at b views (viewA
 abbrev pub firstIn : List ℕ → ℕ → ℕ → Entry
 firstIn b d k = record { stamp = at b firsts (firstAt d k 0); set = at b firsts (firstAt d k 1) }
 
--- the words of the transaction under way, as a read part and as a write part
+-- the words of the transaction under way, as a read part and as a write part: a mixed one's write
+-- part has its set and awaited items apart from the read part's
 abbrev pub readIn : List ℕ → ℕ → ReadPart
 readIn b d =
-    readOf (at b scalars (setAt d)) (at b scalars (awaitedAt d)) (stageOf (at b scalars (modeAt d)))
-    (λ j. at b asked (itemAt d j)) (λ j. at b values (itemAt d j)) (firstIn b d)
+    let mode = at b scalars (modeAt d) in
+    readOf (at b scalars (setAt d)) (at b scalars (awaitedAt d)) (stageOf mode)
+    (λ j. at b asked (itemAt d j)) (λ j. readValue (isMixedMode mode) (at b values (itemAt d j)))
+    (firstIn b d)
 
 abbrev pub writeIn : List ℕ → ℕ → WritePart
 writeIn b d =
-    writeOf (at b scalars (setAt d)) (at b scalars (awaitedAt d)) (at b scalars (stampAt d))
-    (λ j. at b values (itemAt d j))
+    let mixed = isMixedMode (at b scalars (modeAt d)) in
+    writeOf (cond mixed (at b scalars (writeSetAt d)) (at b scalars (setAt d)))
+    (cond mixed (at b scalars (writeAwaitedAt d)) (at b scalars (awaitedAt d)))
+    (at b scalars (stampAt d)) (λ j. writtenValue mixed (at b values (itemAt d j)))
 
 -- and those of the last ended one, of which nothing is awaited and no first reply kept
 abbrev pub lastReadIn : List ℕ → ℕ → ReadPart
 lastReadIn b d =
+    let mixed = isMixedKind (at b scalars (lastKindAt d)) in
     readOf (at b scalars (lastSetAt d)) 0 0 (λ j. at b lastStamps (itemAt d j))
-    (λ j. at b lastValues (itemAt d j)) (λ j. initial)
+    (λ j. readValue mixed (at b lastValues (itemAt d j))) (λ j. initial)
 
 abbrev pub lastWriteIn : List ℕ → ℕ → WritePart
 lastWriteIn b d =
-    writeOf (at b scalars (lastSetAt d)) 0 (at b scalars (lastStampAt d))
-    (λ j. at b lastValues (itemAt d j))
+    let mixed = isMixedKind (at b scalars (lastKindAt d)) in
+    writeOf (cond mixed (at b scalars (lastWriteSetAt d)) (at b scalars (lastSetAt d))) 0
+    (at b scalars (lastStampAt d)) (λ j. writtenValue mixed (at b lastValues (itemAt d j)))
 
 -- it has the parts that its kind shows, and no others
 abbrev pub endedIn : List ℕ → ℕ → Ended
@@ -122,15 +130,15 @@ endedIn b d =
       write = cond (showsWrite kind) (lastWriteIn b d) noWrite;
     }
 
--- of a writing client the words of the transaction under way are those of a write part, of any
--- other those of a read part
+-- of a writing client the words of the transaction under way are those of a write part, of one in a
+-- mixed transaction those of both parts, of any other those of a read part
 unfoldable pub clientIn : List ℕ → ℕ → Client
 clientIn b d =
-    let writes = isWriteMode (at b scalars (modeAt d)) in
+    let mode = at b scalars (modeAt d) in
     record {
       count = at b scalars (countAt d);
-      read = cond writes noRead (readIn b d);
-      write = cond writes (writeIn b d) noWrite;
+      read = cond (isWriteMode mode) noRead (readIn b d);
+      write = cond (isWriteMode mode || isMixedMode mode) (writeIn b d) noWrite;
       last = endedIn b d;
     }
 
@@ -164,11 +172,23 @@ tablesOf b =
       messages = table (min (at b header messagesAt) mostMessages) (messageIn b);
     }
 
--- the mode is one that there is, and idle exactly when no item is awaited
+-- nothing is awaited, of a mixed transaction in neither part
+abbrev pub awaitsNone : List ℕ → ℕ → Bool
+awaitsNone b d =
+    eqb (at b scalars (awaitedAt d)) 0
+    && (not (isMixedMode (at b scalars (modeAt d))) || eqb (at b scalars (writeAwaitedAt d)) 0)
+
+-- a mixed transaction has both parts
+unfoldable pub hasParts : List ℕ → ℕ → Bool
+hasParts b d =
+    not (isMixedMode (at b scalars (modeAt d)))
+    || (not (eqb (at b scalars (setAt d)) 0) && not (eqb (at b scalars (writeSetAt d)) 0))
+
+-- the mode is one that there is, with its parts, and idle exactly when no item is awaited
 abbrev pub modeFits : List ℕ → ℕ → Bool
 modeFits b d =
     let mode = at b scalars (modeAt d) in
-    ltb mode modes && Bool·beq (eqb mode idle) (eqb (at b scalars (awaitedAt d)) 0)
+    ltb mode modes && Bool·beq (eqb mode idle) (awaitsNone b d) && hasParts b d
 
 -- modes, kinds and counts are the numbers of some
 unfoldable pub wellFormed : List ℕ → Bool

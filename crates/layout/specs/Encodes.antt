@@ -1,8 +1,9 @@
 -- When a block holds tables, word by word, with no mention of the decoder.
-use mathlib.Core.Bool.{true, false, cond}
+use mathlib.Core.Bool.{Bool, true, false, cond, not, _&&_}
 use mathlib.Core.List.{List}
 use mathlib.Core.Path.{_≡_}
 use Prim.Native.Nat.{ℕ, zero, suc, _+_, _^_, _≤_, _<_}
+use lib.Dec.{eqb}
 use lib.ListN.{length, getD}
 use Rattle.itemset.specs.Set.{has}
 use Rattle.protocol.specs.declared.Version.{Version}
@@ -17,15 +18,25 @@ use Rattle.layout.specs.Layout.{lastStamps, lastValues, firsts, versions
 use Rattle.layout.specs.Layout.{at}
 use Rattle.layout.specs.Layout.{clientsAt, partitionsAt, itemsAt, versionsAt, messagesAt}
 use Rattle.layout.specs.Layout.{modeAt, countAt, setAt, awaitedAt, stampAt, lastKindAt}
-use Rattle.layout.specs.Layout.{lastSetAt, lastStampAt, latestAt, viewAt, itemAt, versionAt}
-use Rattle.layout.specs.Layout.{firstAt, messageWords, messageAt, idle, writing, stageOf}
-use Rattle.layout.specs.Layout.{readMode}
+use Rattle.layout.specs.Layout.{lastSetAt, lastStampAt, writeSetAt, writeAwaitedAt}
+use Rattle.layout.specs.Layout.{lastWriteSetAt, latestAt, viewAt, itemAt, versionAt, firstAt}
+use Rattle.layout.specs.Layout.{messageWords, messageAt, idle, writing, mixing, isMixedMode}
+use Rattle.layout.specs.Layout.{isMixedKind, stageOf, readMode, readValue, writtenValue}
 use Rattle.layout.specs.Store.{wordOf}
 
 -- ---- the numbers
 
+-- with a write part alone, and with a read part beside it
+abbrev pub writesAlone : Client → Bool
+writesAlone c = isWriting c && eqb (c .read .set) 0
+
+abbrev pub isMixed : Client → Bool
+isMixed c = isWriting c && not (eqb (c .read .set) 0)
+
 abbrev pub numberOfMode : Client → ℕ
-numberOfMode c = cond (isIdle c) idle (cond (isWriting c) writing (readMode (c .read .stage)))
+numberOfMode c =
+    cond (isIdle c) idle
+    (cond (isWriting c) (cond (eqb (c .read .set) 0) writing mixing) (readMode (c .read .stage)))
 
 -- ---- field by field
 
@@ -81,37 +92,43 @@ pub record HeldWrite (s awaits σ : ℕ) (vs : ℕ → ℕ) (p : WritePart) : Ty
   pub values : (k : ℕ) → has (p .set) k ≡ true → vs k ≡ p .values k
 
 -- and an ended transaction's: its kind and the parts that it shows, with nothing awaited and no
--- first reply kept
-pub record HeldEnded (n s σ : ℕ) (stamps vs : ℕ → ℕ) (e : Ended) : Type 0 where
+-- first reply kept; r is the set of a mixed one's write part
+pub record HeldEnded (n s r σ : ℕ) (stamps vs : ℕ → ℕ) (e : Ended) : Type 0 where
   pub kind : n ≡ e .kind
-  pub read : showsRead (e .kind) ≡ true → HeldRead s 0 0 stamps vs (λ k. initial) (e .read)
-  pub write : showsWrite (e .kind) ≡ true → HeldWrite s 0 σ vs (e .write)
+  pub read : showsRead (e .kind) ≡ true
+      → HeldRead s 0 0 stamps (λ k. readValue (isMixedKind n) (vs k)) (λ k. initial) (e .read)
+  pub write : showsWrite (e .kind) ≡ true
+      → HeldWrite (cond (isMixedKind n) r s) 0 σ (λ k. writtenValue (isMixedKind n) (vs k))
+      (e .write)
 
 -- the last ended transaction of client d
 abbrev pub HoldsEnded : List ℕ → ℕ → Ended → Type 0
 HoldsEnded b d e =
     HeldEnded (at b scalars (lastKindAt d)) (at b scalars (lastSetAt d))
-    (at b scalars (lastStampAt d)) (λ k. at b lastStamps (itemAt d k))
-    (λ k. at b lastValues (itemAt d k)) e
+    (at b scalars (lastWriteSetAt d)) (at b scalars (lastStampAt d))
+    (λ k. at b lastStamps (itemAt d k)) (λ k. at b lastValues (itemAt d k)) e
 
 -- the words of the transaction under way, as a read part and as a write part of client d
 abbrev pub HoldsRead : List ℕ → ℕ → ReadPart → Type 0
 HoldsRead b d p =
-    HeldRead (at b scalars (setAt d)) (at b scalars (awaitedAt d))
-    (stageOf (at b scalars (modeAt d))) (λ k. at b asked (itemAt d k))
-    (λ k. at b values (itemAt d k))
+    let mode = at b scalars (modeAt d) in
+    HeldRead (at b scalars (setAt d)) (at b scalars (awaitedAt d)) (stageOf mode)
+    (λ k. at b asked (itemAt d k)) (λ k. readValue (isMixedMode mode) (at b values (itemAt d k)))
     (λ k. record { stamp = at b firsts (firstAt d k 0); set = at b firsts (firstAt d k 1) }) p
 
 abbrev pub HoldsWrite : List ℕ → ℕ → WritePart → Type 0
 HoldsWrite b d p =
-    HeldWrite (at b scalars (setAt d)) (at b scalars (awaitedAt d)) (at b scalars (stampAt d))
-    (λ k. at b values (itemAt d k)) p
+    let mixed = isMixedMode (at b scalars (modeAt d)) in
+    HeldWrite (cond mixed (at b scalars (writeSetAt d)) (at b scalars (setAt d)))
+    (cond mixed (at b scalars (writeAwaitedAt d)) (at b scalars (awaitedAt d)))
+    (at b scalars (stampAt d)) (λ k. writtenValue mixed (at b values (itemAt d k))) p
 
--- they are those of the write part, where there is one, and else of the read part
+-- they are those of the write part, where there is one, and of the read part unless the write part
+-- is alone
 pub record HoldsClient (b : List ℕ) (d : ℕ) (c : Client) : Type 0 where
   pub mode : at b scalars (modeAt d) ≡ numberOfMode c
   pub count : at b scalars (countAt d) ≡ c .count
-  pub read : isWriting c ≡ false → HoldsRead b d (c .read)
+  pub read : writesAlone c ≡ false → HoldsRead b d (c .read)
   pub write : isWriting c ≡ true → HoldsWrite b d (c .write)
   pub last : HoldsEnded b d (c .last)
 

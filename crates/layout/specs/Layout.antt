@@ -1,7 +1,7 @@
 -- The sections of the block and the place of each field in its section (docs/LAYOUT.md).
 use mathlib.Core.Bool.{Bool, cond}
 use mathlib.Core.List.{List}
-use Prim.Native.Nat.{ℕ, _+_, _-_, _*_}
+use Prim.Native.Nat.{ℕ, _+_, _-_, _*_, _/_, _%_, _^_}
 use lib.Dec.{eqb}
 use lib.ListN.{getD, set}
 use Rattle.protocol.specs.Range.{capacities}
@@ -134,7 +134,7 @@ versionsAt = 3
 abbrev pub messagesAt : ℕ
 messagesAt = 4
 
--- scalars: sixteen words for each client, from client 1 on, of which eight are fields
+-- scalars: sixteen words for each client, from client 1 on, of which eleven are fields
 abbrev pub scalarAt : ℕ → ℕ → ℕ
 scalarAt d f = clientWords * (d - 1) + f
 
@@ -162,6 +162,16 @@ lastSetAt d = scalarAt d 6
 abbrev pub lastStampAt : ℕ → ℕ
 lastStampAt d = scalarAt d 7
 
+-- of a mixed transaction: its write part's set and awaited items, and the last one's set
+abbrev pub writeSetAt : ℕ → ℕ
+writeSetAt d = scalarAt d 8
+
+abbrev pub writeAwaitedAt : ℕ → ℕ
+writeAwaitedAt d = scalarAt d 9
+
+abbrev pub lastWriteSetAt : ℕ → ℕ
+lastWriteSetAt d = scalarAt d 10
+
 -- latest and views: stamp and set of an entry
 abbrev pub latestAt : ℕ → ℕ
 latestAt k = entryWords * k
@@ -187,8 +197,8 @@ messageAt i f = messageWords * i + f
 
 -- ---- modes
 
--- what a client's transaction under way is: none, a read, a write, and a fast read in its first
--- and in its second part
+-- what a client's transaction under way is: none, a read, a write, a fast read in its first and in
+-- its second part, and a mixed one, with a read and a write part
 abbrev pub idle : ℕ
 idle = 0
 
@@ -204,12 +214,22 @@ inFirstPart = 3
 abbrev pub inSecondPart : ℕ
 inSecondPart = 4
 
+abbrev pub mixing : ℕ
+mixing = 5
+
 -- how many there are
 abbrev pub modes : ℕ
-modes = 5
+modes = 6
 
 abbrev pub isWriteMode : ℕ → Bool
 isWriteMode mode = eqb mode writing
+
+abbrev pub isMixedMode : ℕ → Bool
+isMixedMode mode = eqb mode mixing
+
+-- and what the last ended one was
+abbrev pub isMixedKind : ℕ → Bool
+isMixedKind kind = eqb kind 4
 
 -- the stage of the read part in a mode that isn't a write's, 0 where that isn't a fast read's
 abbrev pub stageOf : ℕ → ℕ
@@ -218,3 +238,31 @@ stageOf mode = cond (eqb mode inFirstPart) 1 (cond (eqb mode inSecondPart) 2 0)
 -- the mode of a read part of this stage
 abbrev pub readMode : ℕ → ℕ
 readMode stage = cond (eqb stage 0) reading (stage + 2)
+
+-- ---- values
+
+-- a mixed transaction's word for an item holds two values: the answer read in its low 32 bits, and
+-- the value written in its high 32 bits
+abbrev pub lowHalf : ℕ → ℕ
+lowHalf w = w % 2 ^ 32
+
+abbrev pub highHalf : ℕ → ℕ
+highHalf w = w / 2 ^ 32 % 2 ^ 32
+
+abbrev pub bothHalves : ℕ → ℕ → ℕ
+bothHalves low high = high % 2 ^ 32 * 2 ^ 32 + low % 2 ^ 32
+
+-- the answer read and the value written that a word is; any other transaction's word is one value
+abbrev pub readValue : Bool → ℕ → ℕ
+readValue mixed w = cond mixed (lowHalf w) w
+
+abbrev pub writtenValue : Bool → ℕ → ℕ
+writtenValue mixed w = cond mixed (highHalf w) w
+
+-- the word of a value to be written: a mixed transaction's has no answer yet
+abbrev pub writtenWord : Bool → ℕ → ℕ
+writtenWord mixed v = cond mixed (bothHalves 0 v) v
+
+-- the word with this answer: a mixed transaction's keeps the value written
+abbrev pub withAnswer : Bool → ℕ → ℕ → ℕ
+withAnswer mixed w v = cond mixed (bothHalves v (highHalf w)) v

@@ -8,6 +8,7 @@ ghost use Rattle.layout.specs.Layout.{itemsAt, versionsAt, messagesAt};
 ghost use Rattle.layout.specs.Store.{storeSizes, blank, freshBlock};
 
 pub mod entry;
+pub mod values;
 
 // The most clients, partitions and items that a fresh start allows, and the most stored versions
 // and messages in flight that there are words for.
@@ -24,8 +25,8 @@ pub const MOST_MESSAGES: u64 = 128;
 // The most items that a write has; no word depends on it.
 pub const MOST_WRITE_ITEMS: u64 = 12;
 
-// The modes of a client: no transaction under way, a read, a write, and a fast read in its first
-// and in its second part. A mode is below `MODES`.
+// The modes of a client: no transaction under way, a read, a write, a fast read in its first and in
+// its second part, and a mixed transaction. A mode is below `MODES`.
 pub const IDLE: u64 = 0;
 
 pub const READING: u64 = 1;
@@ -36,7 +37,9 @@ pub const FIRST_PART: u64 = 3;
 
 pub const SECOND_PART: u64 = 4;
 
-pub const MODES: u64 = 5;
+pub const MIXING: u64 = 5;
+
+pub const MODES: u64 = 6;
 
 // The words of the header, of a client's scalars, of an entry, a version and a message.
 pub const HEADER_WORDS: u64 = 16;

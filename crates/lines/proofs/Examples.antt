@@ -11,7 +11,7 @@ use Rattle.hex.specs.Number.{numberAt, bigEndian}
 use Rattle.hex.specs.Text.{isHex, bytesOf, hexText}
 use Rattle.protocol.specs.Calls.{bytesOfAnswer}
 use Rattle.store_frames.specs.Answers.{answerLine}
-use Rattle.store_frames.specs.StoreFrames.{frameBytes, parsed, parsedLater}
+use Rattle.store_frames.specs.StoreFrames.{frameBytes, isValued, parsed, parsedLater}
 use Rattle.lines.specs.Lines.{parsedAnswer, parsedBlock, parsedOutput}
 use Rattle.lines.specs.Input.{lastLine, linesFrom, linesOf, inputReply, keptAfter}
 use Rattle.lines.specs.Input.{byteReply, byteBlock, endReply, endBlock}
@@ -59,6 +59,6 @@ rows =
 
 examples : map reading rows ≡ rows
 unfolding rows reading bytes times linesFrom lastLine inputReply byteReply byteBlock keptAfter
-    endReply endBlock parsedAnswer parsedBlock parsedOutput answerLine frameBytes parsed parsedLater
-    bytesOfAnswer isHex bytesOf hexText pair digit hexDigit numberAt bigEndian
+    endReply endBlock parsedAnswer parsedBlock parsedOutput answerLine frameBytes isValued parsed
+    parsedLater bytesOfAnswer isHex bytesOf hexText pair digit hexDigit numberAt bigEndian
 examples = refl

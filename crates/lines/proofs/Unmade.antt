@@ -22,7 +22,8 @@ use Rattle.gather.specs.Sized.{sizes}
 use Rattle.block_calls.specs.Calls.{freshRefusalOn, freshAnswerOn, freshAfter, refusalOn, answerOn}
 use Rattle.block_calls.specs.Calls.{blockAfter}
 use Rattle.store_frames.specs.declared.StoreFrame.the-variants.{Fresh, Read, Write, Deliver, Show}
-use Rattle.store_frames.specs.declared.StoreFrame.the-variants.{FastRead, Clear, HandOver, Compare}
+use Rattle.store_frames.specs.declared.StoreFrame.the-variants.{FastRead, Mixed, Clear, HandOver}
+use Rattle.store_frames.specs.declared.StoreFrame.the-variants.{Compare}
 use Rattle.store_frames.specs.declared.Parsed.{Parsed}
 use Rattle.store_frames.specs.declared.Parsed.the-variants.{Frame, Malformed}
 use Rattle.store_frames.specs.Answers.{answerLine}
@@ -44,6 +45,7 @@ isOther (Frame (Write client s) n) = true
 isOther (Frame (Deliver place) n) = true
 isOther (Frame (Show client) n) = true
 isOther (Frame (FastRead client s) n) = true
+isOther (Frame (Mixed client r s) n) = true
 isOther (Frame Clear n) = true
 isOther (Frame (HandOver giver receiver) n) = true
 isOther (Frame (Compare first second) n) = true
@@ -70,6 +72,7 @@ module _ (b : List ℕ) (zeros : Zeros b) where
   other-answer f o (Frame (Deliver place) n) e = refused _
   other-answer f o (Frame (Show client) n) e = refused _
   other-answer f o (Frame (FastRead client s) n) e = refused _
+  other-answer f o (Frame (Mixed client r s) n) e = refused _
   other-answer f o (Frame Clear n) e = refused _
   other-answer f o (Frame (HandOver giver receiver) n) e = refused _
   other-answer f o (Frame (Compare first second) n) e = refused _
@@ -83,6 +86,7 @@ module _ (b : List ℕ) (zeros : Zeros b) where
   other-block f o (Frame (Deliver place) n) e = kept _
   other-block f o (Frame (Show client) n) e = kept _
   other-block f o (Frame (FastRead client s) n) e = kept _
+  other-block f o (Frame (Mixed client r s) n) e = kept _
   other-block f o (Frame Clear n) e = kept _
   other-block f o (Frame (HandOver giver receiver) n) e = kept _
   other-block f o (Frame (Compare first second) n) e = kept _
@@ -104,6 +108,7 @@ module _ (b : List ℕ) (zeros : Zeros b) where
   unmade-parsed f o (Frame (Deliver place) n) h = kept _
   unmade-parsed f o (Frame (Show client) n) h = kept _
   unmade-parsed f o (Frame (FastRead client s) n) h = kept _
+  unmade-parsed f o (Frame (Mixed client r s) n) h = kept _
   unmade-parsed f o (Frame Clear n) h = kept _
   unmade-parsed f o (Frame (HandOver giver receiver) n) h = kept _
   unmade-parsed f o (Frame (Compare first second) n) h = kept _

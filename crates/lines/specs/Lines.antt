@@ -7,17 +7,18 @@ use lib.ListN.{replicate}
 use Rattle.protocol.specs.declared.Answer.{Answer}
 use Rattle.protocol.specs.declared.Answer.the-variants.{Refused}
 use Rattle.protocol.specs.LogFrame.{mostLogFrame}
-use Rattle.protocol.specs.Calls.{startRead, startFastRead, startWrite, deliver, show, clear}
-use Rattle.protocol.specs.Calls.{handOver, compare}
+use Rattle.protocol.specs.Calls.{startRead, startFastRead, startWrite, startMixed, deliver, show}
+use Rattle.protocol.specs.Calls.{clear, handOver, compare}
 use Rattle.gather.specs.Sized.{sizes}
 use Rattle.block_calls.specs.Calls.{freshAnswerOn, freshAfter, answerOn, outputOn, blockAfter}
 use Rattle.store_frames.specs.declared.StoreFrame.{StoreFrame}
 use Rattle.store_frames.specs.declared.StoreFrame.the-variants.{Fresh, Read, Write, Deliver, Show}
-use Rattle.store_frames.specs.declared.StoreFrame.the-variants.{FastRead, Clear, HandOver, Compare}
+use Rattle.store_frames.specs.declared.StoreFrame.the-variants.{FastRead, Mixed, Clear, HandOver}
+use Rattle.store_frames.specs.declared.StoreFrame.the-variants.{Compare}
 use Rattle.store_frames.specs.declared.Parsed.{Parsed}
 use Rattle.store_frames.specs.declared.Parsed.the-variants.{Frame, Malformed}
 use Rattle.store_frames.specs.Answers.{answerLine}
-use Rattle.store_frames.specs.StoreFrames.{frameBytes, storeFrameOf, valueBytes}
+use Rattle.store_frames.specs.StoreFrames.{frameBytes, storeFrameOf, valueBytes, mixedBytes}
 
 -- ---- the call of a frame, whose bytes are f, with this output lent
 
@@ -29,6 +30,7 @@ callAnswer b f output (Write client s) = answerOn b (startWrite client s (valueB
 callAnswer b f output (Deliver place) = answerOn b (deliver place)
 callAnswer b f output (Show client) = answerOn b (show client output)
 callAnswer b f output (FastRead client s) = answerOn b (startFastRead client s)
+callAnswer b f output (Mixed client r s) = answerOn b (startMixed client r s (mixedBytes f))
 callAnswer b f output Clear = answerOn b clear
 callAnswer b f output (HandOver giver receiver) = answerOn b (handOver giver receiver)
 callAnswer b f output (Compare first second) = answerOn b (compare first second)
@@ -41,6 +43,7 @@ callBlock b f output (Write client s) = blockAfter b (startWrite client s (value
 callBlock b f output (Deliver place) = blockAfter b (deliver place)
 callBlock b f output (Show client) = blockAfter b (show client output)
 callBlock b f output (FastRead client s) = blockAfter b (startFastRead client s)
+callBlock b f output (Mixed client r s) = blockAfter b (startMixed client r s (mixedBytes f))
 callBlock b f output Clear = blockAfter b clear
 callBlock b f output (HandOver giver receiver) = blockAfter b (handOver giver receiver)
 callBlock b f output (Compare first second) = blockAfter b (compare first second)
@@ -52,6 +55,7 @@ callOutput b f output (Write client s) = output
 callOutput b f output (Deliver place) = output
 callOutput b f output (Show client) = outputOn b (show client output)
 callOutput b f output (FastRead client s) = output
+callOutput b f output (Mixed client r s) = output
 callOutput b f output Clear = output
 callOutput b f output (HandOver giver receiver) = output
 callOutput b f output (Compare first second) = output

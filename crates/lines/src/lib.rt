@@ -16,7 +16,8 @@ ghost use Rattle.store_frames.specs.StoreFrames.{frameBytes, storeFrameOf, pars
 ghost use Rattle.lines.specs.Lines.{callAnswer, callBlock, callOutput, parsedAnswer};
 ghost use Rattle.lines.specs.Lines.{parsedBlock, parsedOutput, blank, lineReply, lineBlock};
 
-// The call of a frame, whose bytes are `f`. A write's values are those from byte 10 on.
+// The call of a frame, whose bytes are `f`. A write's values are those from byte 10 on, a mixed
+// start's those from byte 18 on.
 fn call(b: &mut [u64], frame: StoreFrame, f: &[u8], shown: &mut [u8]) -> Answer
     requires { ⌜ Parsed.Frame frame (length (now f)) ≡ parsed (now f) ⌝ }
     ensures { λ r. ⌜ r ≡ callAnswer (now (b .entry)) (now (f .entry)) (now (shown .entry)) frame ⌝ }
@@ -39,6 +40,11 @@ fn call(b: &mut [u64], frame: StoreFrame, f: &[u8], shown: &mut [u8]) -> Answer
         StoreFrame::Clear => store_calls::clear(b),
         StoreFrame::HandOver { giver, receiver } => store_calls::hand_over(b, giver, receiver),
         StoreFrame::Compare { first, second } => store_calls::compare(b, first, second),
+        StoreFrame::Mixed {
+            client,
+            reads,
+            writes,
+        } => store_calls::start_mixed(b, client, reads, writes, &f[18..]),
     }
 }
 

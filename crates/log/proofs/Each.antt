@@ -1,11 +1,11 @@
--- The bytes of a list's elements one after another, as many each: what stands where, and when such
--- bytes are a given list.
-use mathlib.Core.List.{List, [], _∷_, _++_}
-use mathlib.Core.Path.{_≡_, refl, sym, ap, ap₂, _∙_}
+-- The bytes of a list's elements one after another, as many each: what stands where, and when a
+-- given list begins with such bytes.
+use mathlib.Core.List.{List, [], _∷_, _++_, append-assoc}
+use mathlib.Core.Path.{_≡_, sym, ap, ap₂, _∙_}
 use Prim.Native.Nat.{ℕ, zero, suc, _+_, _*_, _≤_, _<_}
 use native.Mathlib.Nat.{mul-suc, mul-zero, not-suc-le-zero}
 use native.Mathlib.Omega.{arith}
-use lib.ListN.{length, getD, take, drop, length-append, length-drop, take-append-drop}
+use lib.ListN.{length, getD, take, drop, length-append, take-append-drop}
 use lib.Seq.{drop-drop}
 use Rattle.hex.specs.Number.{numberAt}
 use Rattle.hex.proofs.Number.{numberAt-append, numberAt-append-add}
@@ -42,14 +42,12 @@ module _ (g : ℕ → List ℕ) (w : ℕ) where
         ∙ numberAt-append-add n (g x) (each g xs) (w * i + j)
         ∙ each-at xs i j n (omega arith) h
 
-  pub each-whole : (xs s : List ℕ) → length s ≡ w * length xs
-      → ((i : ℕ) → i < length xs → g (getD xs i 0) ≡ take w (drop (w * i) s)) → each g xs ≡ s
+  pub each-begins : (xs s : List ℕ)
+      → ((i : ℕ) → i < length xs → g (getD xs i 0) ≡ take w (drop (w * i) s))
+      → s ≡ each g xs ++ drop (w * length xs) s
   unfolding each
-  each-whole [] [] e h = refl
-  each-whole [] (y ∷ ys) e h = absurd (omega (arith, mul-zero w))
-  each-whole (x ∷ xs) s e h =
-      let long : length (drop w s) ≡ w * length xs =
-      omega (arith, length-drop w s, mul-suc w (length xs)) in
+  each-begins [] s h = ap (λ (n : ℕ). drop n s) (sym (mul-zero w))
+  each-begins (x ∷ xs) s h =
       let head : g x ≡ take w s = h 0 (omega arith)
       ∙ ap (λ (n : ℕ). take w (drop n s)) (mul-zero w) in
       let rest : (i : ℕ) → i < length xs → g (getD xs i 0) ≡ take w (drop (w * i) (drop w s)) =
@@ -57,5 +55,10 @@ module _ (g : ℕ → List ℕ) (w : ℕ) where
       (let at : w * suc i ≡ w + w * i = omega (arith, mul-suc w i) in
       h (suc i) (omega arith)
       ∙ ap (take w) (ap (λ (n : ℕ). drop n s) at ∙ sym (drop-drop (w * i) w s))) in
-      ap₂ (λ (a b : List ℕ). a ++ b) head (each-whole xs (drop w s) long rest)
-      ∙ take-append-drop w s
+      let past : w + w * length xs ≡ w * suc (length xs) = omega (arith, mul-suc w (length xs)) in
+      let behind : drop (w * length xs) (drop w s) ≡ drop (w * suc (length xs)) s =
+      drop-drop (w * length xs) w s ∙ ap (λ (n : ℕ). drop n s) past in
+      sym (take-append-drop w s)
+      ∙ ap₂ (λ (a b : List ℕ). a ++ b) (sym head)
+      (each-begins xs (drop w s) rest ∙ ap (λ (b : List ℕ). each g xs ++ b) behind)
+      ∙ sym (append-assoc (g x) (each g xs) (drop (w * suc (length xs)) s))

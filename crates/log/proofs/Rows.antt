@@ -22,6 +22,10 @@ use Rattle.log.specs.Log.{shaped, reaches, malformed, malformedAt, first
 unfoldable pub line : ℕ → ℕ → List ℕ
 line n digits = hexText (bigEndian n digits) ++ 0x0a ∷ []
 
+-- n bytes of a line, before others
+unfoldable pub part : ℕ → ℕ → List ℕ
+part n digits = hexText (bigEndian n digits)
+
 -- ---- the first malformed line
 
 record Row : Type 0 where
@@ -43,11 +47,8 @@ rows =
       log = line 28 0x2102_0000000000000003_00000001_01_00000007_00000000_00_00000000;
       bad = 0;
     }
-    -- kinds: 1f, 24, 25, a0, a1, a2, a3
+    -- kinds: 1f, 25, a0, a1, a2, a3, a4
     ∷ record { log = line 18 0x1f01_0000000000000001_00000001_00000007; bad = 1 }
-    ∷ record { log = line 18 0x2401_0000000000000001_00000001_00000007; bad = 1 }
-    ∷ record { log = line 19 0x2401_0000000000000001_00000001_01_00000007; bad = 1 }
-    ∷ record { log = line 3 0x24_01_02; bad = 1 }
     ∷ record { log = line 18 0x2501_0000000000000001_00000001_00000007; bad = 1 }
     ∷ record { log = line 19 0x2501_0000000000000001_00000001_01_00000007; bad = 1 }
     ∷ record { log = line 3 0x25_01_02; bad = 1 }
@@ -55,6 +56,18 @@ rows =
     ∷ record { log = line 19 0xa101_0000000000000001_00000001_01_00000007; bad = 1 }
     ∷ record { log = line 3 0xa2_01_02; bad = 1 }
     ∷ record { log = line 19 0xa301_0000000000000001_00000001_01_00000007; bad = 1 }
+    ∷ record {
+      log =
+          part 19 0xa401_0000000000000001_00000001_02_00000007
+          ++ line 16 0x0000000000000001_00000001_00000008;
+      bad = 1;
+    }
+    ∷ record {
+      log =
+          part 19 0x2501_0000000000000001_00000001_02_00000007
+          ++ line 16 0x0000000000000001_00000001_00000008;
+      bad = 1;
+    }
     -- the kind and the client alone
     ∷ record { log = line 2 0x2001; bad = 1 }
     ∷ record { log = line 2 0x2101; bad = 1 }
@@ -121,6 +134,171 @@ rows =
           ++ line 3 0x22_01_02
           ++ line 18 0x2001_0000000000000001_00000001_00000007;
       bad = 5;
+    }
+    -- mixed transactions: reads and writes one item, two and one, one and two; the same, others
+    ∷ record {
+      log =
+          part 19 0x2401_0000000000000001_00000001_02_00000007
+          ++ line 16 0x0000000000000001_00000001_00000008;
+      bad = 0;
+    }
+    ∷ record {
+      log =
+          part 28 0x2401_0000000000000003_00000001_02_00000007_00000000_00_00000000
+          ++ line 16 0x0000000000000001_00000001_00000008;
+      bad = 0;
+    }
+    ∷ record {
+      log =
+          part 19 0x2401_0000000000000001_00000001_02_00000007
+          ++ line 20 0x8000000000000002_00000001_00000008_00000009;
+      bad = 0;
+    }
+    -- either part alone, the write part first, the fields of a hand-over
+    ∷ record { log = line 19 0x2401_0000000000000001_00000001_02_00000007; bad = 1 }
+    ∷ record { log = line 18 0x2401_0000000000000001_00000001_00000007; bad = 1 }
+    ∷ record {
+      log =
+          part 18 0x2401_0000000000000001_00000001_00000008
+          ++ line 17 0x0000000000000001_00000001_02_00000007;
+      bad = 1;
+    }
+    ∷ record { log = line 3 0x24_01_02; bad = 1 }
+    -- an empty set to read, an empty set to write, both
+    ∷ record {
+      log = part 10 0x2401_0000000000000000
+          ++ line 16 0x0000000000000001_00000001_00000008;
+      bad = 1;
+    }
+    ∷ record {
+      log = part 19 0x2401_0000000000000001_00000001_02_00000007
+          ++ line 12 0x0000000000000000_00000001;
+      bad = 1;
+    }
+    ∷ record {
+      log = part 10 0x2401_0000000000000000
+          ++ line 12 0x0000000000000000_00000001;
+      bad = 1;
+    }
+    -- an entry too few, a value too few, a value too many, a byte too many, the number missing
+    ∷ record {
+      log =
+          part 19 0x2401_0000000000000003_00000001_02_00000007
+          ++ line 16 0x0000000000000001_00000001_00000008;
+      bad = 1;
+    }
+    ∷ record {
+      log =
+          part 19 0x2401_0000000000000001_00000001_02_00000007
+          ++ line 16 0x0000000000000003_00000001_00000008;
+      bad = 1;
+    }
+    ∷ record {
+      log =
+          part 19 0x2401_0000000000000001_00000001_02_00000007
+          ++ line 20 0x0000000000000001_00000001_00000008_00000009;
+      bad = 1;
+    }
+    ∷ record {
+      log =
+          part 19 0x2401_0000000000000001_00000001_02_00000007
+          ++ line 17 0x0000000000000001_00000001_00000008_00;
+      bad = 1;
+    }
+    ∷ record {
+      log = part 19 0x2401_0000000000000001_00000001_02_00000007
+          ++ line 12 0x0000000000000001_00000008;
+      bad = 1;
+    }
+    -- number 0; clients 0, 8, 9; stamps shown: 0 and client 1, 1 and client 0, client 9
+    ∷ record {
+      log =
+          part 19 0x2401_0000000000000001_00000001_02_00000007
+          ++ line 16 0x0000000000000001_00000000_00000008;
+      bad = 1;
+    }
+    ∷ record {
+      log =
+          part 19 0x2400_0000000000000001_00000001_02_00000007
+          ++ line 16 0x0000000000000001_00000001_00000008;
+      bad = 1;
+    }
+    ∷ record {
+      log =
+          part 19 0x2408_0000000000000001_00000001_02_00000007
+          ++ line 16 0x0000000000000001_00000001_00000008;
+      bad = 0;
+    }
+    ∷ record {
+      log =
+          part 19 0x2409_0000000000000001_00000001_02_00000007
+          ++ line 16 0x0000000000000001_00000001_00000008;
+      bad = 1;
+    }
+    ∷ record {
+      log =
+          part 19 0x2401_0000000000000001_00000000_01_00000007
+          ++ line 16 0x0000000000000001_00000001_00000008;
+      bad = 1;
+    }
+    ∷ record {
+      log =
+          part 19 0x2401_0000000000000001_00000001_00_00000007
+          ++ line 16 0x0000000000000001_00000001_00000008;
+      bad = 1;
+    }
+    ∷ record {
+      log =
+          part 19 0x2401_0000000000000001_00000001_09_00000007
+          ++ line 16 0x0000000000000001_00000001_00000008;
+      bad = 1;
+    }
+    -- its number rises with those of its client's writes: over a write above, under one below, over
+    -- another mixed transaction; an equal one is malformed; another client's doesn't count
+    ∷ record {
+      log =
+          line 18 0x2001_0000000000000001_00000001_00000007
+          ++ part 19 0x2401_0000000000000001_00000001_02_00000007
+          ++ line 16 0x0000000000000001_00000002_00000008
+          ++ line 18 0x2001_0000000000000001_00000003_00000007;
+      bad = 0;
+    }
+    ∷ record {
+      log =
+          line 18 0x2001_0000000000000001_00000002_00000007
+          ++ part 19 0x2401_0000000000000001_00000001_02_00000007
+          ++ line 16 0x0000000000000001_00000002_00000008;
+      bad = 2;
+    }
+    ∷ record {
+      log =
+          part 19 0x2401_0000000000000001_00000001_02_00000007
+          ++ line 16 0x0000000000000001_00000002_00000008
+          ++ line 18 0x2001_0000000000000001_00000002_00000007;
+      bad = 2;
+    }
+    ∷ record {
+      log =
+          part 19 0x2401_0000000000000001_00000001_02_00000007
+          ++ line 16 0x0000000000000001_00000002_00000008
+          ++ part 19 0x2401_0000000000000001_00000001_02_00000007
+          ++ line 16 0x0000000000000001_00000001_00000008;
+      bad = 2;
+    }
+    ∷ record {
+      log =
+          part 19 0x2401_0000000000000001_00000001_02_00000007
+          ++ line 16 0x0000000000000001_00000002_00000008
+          ++ line 18 0x2002_0000000000000001_00000001_00000007;
+      bad = 0;
+    }
+    -- what it shows doesn't: number 5 shown, and then its client's 2
+    ∷ record {
+      log =
+          part 19 0x2401_0000000000000001_00000005_02_00000007
+          ++ line 16 0x0000000000000001_00000001_00000008
+          ++ line 18 0x2001_0000000000000001_00000002_00000007;
+      bad = 0;
     }
     -- clients 0, 5, 8, 9, 11 (17)
     ∷ record { log = line 18 0x2000_0000000000000001_00000001_00000007; bad = 1 }
@@ -273,7 +451,7 @@ kinds =
     ∷ record { number = 0x21; read = true; write = false; hand-over = false; own = true }
     ∷ record { number = 0x22; read = false; write = false; hand-over = true; own = false }
     ∷ record { number = 0x23; read = true; write = false; hand-over = false; own = false }
-    ∷ record { number = 0x24; read = false; write = false; hand-over = false; own = false }
+    ∷ record { number = 0x24; read = true; write = true; hand-over = false; own = true }
     ∷ record { number = 0x25; read = false; write = false; hand-over = false; own = false }
     ∷ []
 
@@ -306,7 +484,7 @@ limits =
     ∷ []
 
 malformed-rows : all (λ (r : Row). eqb (firstBad (r .log)) (r .bad)) rows ≡ true
-unfolding all rows firstBad line hexText bigEndian hexDigit
+unfolding all rows firstBad line part hexText bigEndian hexDigit
     digit pair lineLength numberAt isHex bytesOf some every onesIn firstFrom
     linesOf frameOf shown writeAt written numberOf endOf
     entriesWhole readShaped writeShaped handOverShaped shaped reaches malformed

@@ -7,10 +7,9 @@ use Prim.Native.Nat.{ℕ, zero, suc, _+_, _-_, _≤_, _<_}
 use native.Mathlib.Nat.{sub-eq-zero-of-le}
 use native.Mathlib.Numerals.{add-one}
 use native.Mathlib.Omega.{arith}
-use lib.Dec.{eqb}
-use lib.ListN.{length, getD, drop, drop-of-length-le}
-use lib.Seq.{drop-cons}
-use borrow.Author.Tests.{eqb-true, eqb-false}
+use lib.Dec.{eqb, ltb}
+use lib.ListN.{length, getD}
+use borrow.Author.Tests.{eqb-true, eqb-false, ltb-true, ltb-false}
 use Rattle.basics.proofs.Cases.{by-test, not-both, or-cases, or-left, or-right, test-ext}
 use Rattle.basics.specs.Lists.{In}
 use Rattle.basics.proofs.Lists.{in-getD}
@@ -46,22 +45,7 @@ module _ {A : Type 0} where
   pub at-some : (p : A → Bool) (xs : List A) (d : A) (j : ℕ) → j < length xs
       → p (getD xs j d) ≡ true → some p xs ≡ true
   at-some p xs d j h e = in-some p xs (getD xs j d) (in-getD xs j d h) e
-
   -- the rest of a list, from its j-th element on
-  pub some-end : (p : A → Bool) (xs : List A) (j : ℕ) → length xs ≤ j → some p (drop j xs) ≡ false
-  unfolding some
-  some-end p xs j h = rw (drop-of-length-le xs h)
-
-  pub some-here : (p : A → Bool) (xs : List A) (j : ℕ) (d : A) → j < length xs
-      → p (getD xs j d) ≡ true → some p (drop j xs) ≡ true
-  unfolding some
-  some-here p xs j d h e = rw (drop-cons xs j d h)
-      (or-left (p (getD xs j d)) (some p (drop (suc j) xs)) e)
-
-  pub some-next : (p : A → Bool) (xs : List A) (j : ℕ) (d : A) → j < length xs
-      → p (getD xs j d) ≡ false → some p (drop j xs) ≡ some p (drop (j + 1) xs)
-  unfolding some
-  some-next p xs j d h e = rw (drop-cons xs j d h, e, add-one j)
 
 -- ---- someFrom: one of the d numbers from k on passes the test
 
@@ -111,6 +95,21 @@ someFrom-ext d k p q h =
     (λ e. (let f = someFrom-at d k q e in
     at-someFrom d k p (f .0) (f .1) (f .2) (h (f .0) (f .1) (f .2) ∙ f .3)))
 
+-- from a number on, nothing passes the test
+pub someFrom-above : (p : ℕ → Bool) (n k : ℕ) → k ≤ n
+    → ((j : ℕ) → k ≤ j → j < n → p j ≡ false) → someFrom n 0 p ≡ someFrom k 0 p
+someFrom-above p n k l none =
+    test-ext (someFrom n 0 p) (someFrom k 0 p)
+    (λ e.
+    let f = someFrom-at n 0 p e in
+    at-someFrom k 0 p (f .0) (omega arith)
+    (by-test (ltb (f .0) k)
+    (λ t. omega (arith, ltb-true (f .0) k t))
+    (λ t. not-both (f .3) (none (f .0) (ltb-false (f .0) k t) (omega (arith, f .2)))))
+    (f .3))
+    (λ e. (let f = someFrom-at k 0 p e in
+    at-someFrom n 0 p (f .0) (omega arith) (omega (arith, f .2)) (f .3)))
+
 pub someFrom-or : (d k : ℕ) (p q : ℕ → Bool)
     → someFrom d k (λ j. p j || q j) ≡ (someFrom d k p || someFrom d k q)
 someFrom-or d k p q =
@@ -158,6 +157,12 @@ unfolding firstFrom
 firstFrom-le zero k p = omega arith
 firstFrom-le (suc d) k p = by-test (p k) (λ e. rw e (omega arith))
     (λ e. rw e (omega (arith, firstFrom-le d (suc k) p)))
+
+pub firstFrom-ge : (d k : ℕ) (p : ℕ → Bool) → k ≤ firstFrom d k p
+unfolding firstFrom
+firstFrom-ge zero k p = omega arith
+firstFrom-ge (suc d) k p = by-test (p k) (λ e. rw e (omega arith))
+    (λ e. rw e (omega (arith, firstFrom-ge d (suc k) p)))
 
 pub firstFrom-holds : (d k : ℕ) (p : ℕ → Bool) → firstFrom d k p < k + d
     → p (firstFrom d k p) ≡ true

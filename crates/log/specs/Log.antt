@@ -1,6 +1,7 @@
 -- A log as lines, a line as its frame, a frame as its parts, and which line is malformed (document
--- 01: frames, log frames, refusals 15 and 16; document 02, P6: hand-overs, P7: fast reads). A later
--- kind of frame joins at `hasRead`, `hasWrite`, `readsOwn`, `isKind`, `endOf` and `shaped`.
+-- 01: frames, log frames, refusals 15 and 16; document 02, P6: hand-overs, P7: fast reads, P8:
+-- mixed transactions). A later kind of frame joins at `hasRead`, `hasWrite`, `readsOwn`, `isKind`,
+-- `endOf` and `shaped`.
 use mathlib.Core.Bool.{Bool, cond, not, _&&_, _||_}
 use mathlib.Core.List.{List, [], _∷_, map}
 use Prim.Native.Nat.{ℕ, _+_, _*_}
@@ -57,19 +58,20 @@ kindOf f = getD f 0 0
 abbrev pub clientOf : List ℕ → ℕ
 clientOf f = getD f 1 0
 
--- which parts a kind has: `20` is a write, `21` a read, `22` a hand-over, `23` a fast read
+-- which parts a kind has: `20` is a write, `21` a read, `22` a hand-over, `23` a fast read, `24` a
+-- mixed transaction
 abbrev pub hasRead : ℕ → Bool
-hasRead kind = eqb kind 0x21 || eqb kind 0x23
+hasRead kind = eqb kind 0x21 || (eqb kind 0x23 || eqb kind 0x24)
 
 abbrev pub hasWrite : ℕ → Bool
-hasWrite kind = eqb kind 0x20
+hasWrite kind = eqb kind 0x20 || eqb kind 0x24
 
 abbrev pub handsOver : ℕ → Bool
 handsOver kind = eqb kind 0x22
 
 -- the kinds whose read part is to see its client's own writes: a fast read's isn't
 abbrev pub readsOwn : ℕ → Bool
-readsOwn kind = eqb kind 0x21
+readsOwn kind = eqb kind 0x21 || eqb kind 0x24
 
 -- the kinds of log frames
 abbrev pub isKind : ℕ → Bool

@@ -176,6 +176,23 @@ got-view t d v e =
     subst (λ (f : ℕ → Entry). v .stamp ≤ f k .stamp) (sym (put-same (t .view) d view))
     (le-trans here (end-ge last grown (c .write .set) (c .write .stamp) k))
 
+-- and where it ends a transaction, the write
+pub ended-view-got : (t : Tables) (d : ℕ) (v : Version) (e : Entry)
+    → isLast ofRead (t .client d) (v .item) ≡ true → (j : ℕ)
+    → has (t .client d .write .set) j ≡ true
+    → t .client d .write .stamp ≤ delivered t (Got d v e) .view d j .stamp
+unfolding delivered
+ended-view-got t d v e is-last j h =
+    let c = t .client d in
+    let k = v .item in
+    let grown : ℕ → Entry = put (t .view d) k (offered (t .view d k) v e) in
+    let last = isLast ofRead c k in
+    let view : ℕ → Entry = cond last (seen grown (c .write .set) (c .write .stamp)) grown in
+    let entered : c .write .stamp ≤ view j .stamp =
+    rw is-last (seen-ge grown (c .write .set) (c .write .stamp) j h) in
+    subst (λ (f : ℕ → Entry). c .write .stamp ≤ f j .stamp) (sym (put-same (t .view) d view))
+    entered
+
 -- and a first reply
 pub first-view : (t : Tables) (d : ℕ) (v : Version) (e : Entry)
     → v .stamp ≤ delivered t (FirstReply d v e) .view d (v .item) .stamp

@@ -24,7 +24,7 @@ use Rattle.protocol.specs.Tables.{ofWrite, writerOf, withClient, withVie
 use Rattle.protocol.specs.Tables.{withVersions}
 use Rattle.protocol.specs.Message.{partsOf, kindOf, isPrepare, isPrepared, isAnyGet, isAnyGot}
 use Rattle.protocol.specs.Message.{isFirstGet, isFirstReply, itemOf, ownerOf}
-use Rattle.protocol.specs.FastRead.{firstReplied, secondGets}
+use Rattle.protocol.specs.FastRead.{firstKept, firstReplied, secondGets}
 use Rattle.protocol.specs.Steps.{isLast, prepared, got, gotFirst, offered, committed, commits}
 use Rattle.protocol.specs.Steps.{Delivery, answerOf, deliveryOf, delivered, joined, touches}
 use Rattle.protocol.specs.Calls.{outcomeOf, soughtBy}
@@ -39,6 +39,11 @@ isAnswer m = isPrepared m || isAnyGot m
 
 -- ---- the sorts
 
+-- c′ writes nothing, or has the sets and the stamp of c
+abbrev pub KeepsParts : Client → Client → Type 0
+KeepsParts c c′ = (c′ .write .set ≡ 0) ⊎ ((c′ .read .set ≡ c .read .set)
+    × (c′ .write .set ≡ c .write .set) × (c′ .write .stamp ≡ c .write .stamp))
+
 -- what changes beside the messages: the sizes stay, counts rise, views and latest grow, only the
 -- client of an answer changes, and only a prepare's version is stored
 pub record Work (t : Tables) (m : Message) (u : Tables) : Type 0 where
@@ -48,6 +53,7 @@ pub record Work (t : Tables) (m : Message) (u : Tables) : Type 0 where
   pub view : (d k : ℕ) → t .view d k .stamp ≤ u .view d k .stamp
   pub latest : (k : ℕ) → t .latest k .stamp ≤ u .latest k .stamp
   pub client : (d : ℕ) → (isAnswer m && eqb (ownerOf m) d) ≡ false → u .client d ≡ t .client d
+  pub parts : (d : ℕ) → KeepsParts (t .client d) (u .client d)
   pub versions : length (u .versions) ≡ length (t .versions) + cond (isPrepare m) 1 0
   pub stores : (v : Version) → In v (u .versions) → In v (t .versions) ⊎ (m ≡ Prepare v)
 
@@ -106,16 +112,17 @@ module _ (t : Tables) (m : Message) where
         view = λ d k. le-refl (t .view d k .stamp);
         latest = l;
         client = λ d e. refl;
+        parts = λ d. inr (refl, refl, refl);
         versions = n;
         stores = s;
       }
 
   -- one client changes, and its view
   answer-work : (c : Client) (view : ℕ → Entry) → isAnswer m ≡ true
-      → t .client (ownerOf m) .count ≤ c .count
+      → t .client (ownerOf m) .count ≤ c .count → KeepsParts (t .client (ownerOf m)) c
       → ((k : ℕ) → t .view (ownerOf m) k .stamp ≤ view k .stamp)
       → Work t m (withView (withClient t (ownerOf m) c) (ownerOf m) view)
-  answer-work c view a n g =
+  answer-work c view a n p g =
       record {
         sizes = refl;
         messages = refl;
@@ -125,6 +132,8 @@ module _ (t : Tables) (m : Message) where
         latest = λ k. le-refl (t .latest k .stamp);
         client = λ d e. put-other (t .client) (ownerOf m) c d
             (λ q. eqb-false (ownerOf m) d (rw a at e) (sym q));
+        parts = put-every (λ (e : ℕ) (x : Client). KeepsParts (t .client e) x) (t .client)
+            (ownerOf m) c p (λ e n. inr (refl, refl, refl));
         versions = rw (answer-kind m a) (omega arith);
         stores = λ v i. inl i;
       }
@@ -138,9 +147,20 @@ end-count : (last : Bool) (n : ℕ) (c c′ : Client) → c .count ≡ n → c�
 end-count true n c c′ e e′ = omega arith
 end-count false n c c′ e e′ = omega arith
 
+-- at the end it writes nothing, and before it its sets and stamp stay
+end-parts : (last : Bool) (c c′ o : Client) → c′ .write .set ≡ 0 → KeepsParts o c
+    → KeepsParts o (cond last c′ c)
+end-parts true c c′ o e p = inl e
+end-parts false c c′ o e p = p
+
 end-outcome : (last : Bool) (n : ℕ) → n ≤ 2 → cond last n 0 ≤ 2
 end-outcome true n l = l
 end-outcome false n l = omega arith
+
+-- a first reply leaves the read part's set
+replied-set : (n : ℕ) (p : ReadPart) (v : Version) → firstReplied n p v .set ≡ p .set
+replied-set n p v = by-cond (λ (q : ReadPart). q .set ≡ p .set) (eqb (firstKept p v .awaited) 0) _ _
+    (λ e. refl) (λ e. refl)
 
 -- the view with what a reply offers to it
 grown-ge : (view : ℕ → Entry) (v : Version) (e : Entry) (j : ℕ)
@@ -168,6 +188,7 @@ delivery-sort t (Prepared k stamp) =
     record {
       work = answer-work t (Prepared k stamp) (prepared c k) _ refl
           (end-count last (c .count) _ _ refl refl)
+          (end-parts last _ _ c refl (inr (refl, refl, refl)))
           (end-ge last (t .view d) (c .write .set) stamp);
       joins = ends last stamp (inl refl);
       outcome = inr (refl, end-outcome last 2 (omega arith));
@@ -193,6 +214,7 @@ delivery-sort t (Got d v e) =
     record {
       work = answer-work t (Got d v e) (got c k (v .value)) _ refl
           (end-count last (c .count) _ _ refl refl)
+          (end-parts last _ _ c refl (inr (refl, refl, refl)))
           (λ j. le-trans (grown-ge (t .view d) v e j)
           (end-ge last _ (c .write .set) (c .write .stamp) j));
       joins = ends last (c .write .stamp) (inr refl);
@@ -217,7 +239,9 @@ delivery-sort t (FirstReply d v e) =
     let last = eqb (p .awaited) 0 in
     record {
       work = answer-work t (FirstReply d v e) (gotFirst n c v) _ refl
-          (end-count last (c .count) _ _ refl refl) (grown-ge (t .view d) v e);
+          (end-count last (c .count) _ _ refl refl)
+          (end-parts last _ _ c refl (inr (replied-set n (c .read) v, refl, refl)))
+          (grown-ge (t .view d) v e);
       joins = fetches n p refl;
       outcome = inr (refl, end-outcome last 1 (omega arith));
     }

@@ -8,8 +8,8 @@ use Prim.Native.Nat.{ℕ}
 use lib.Dec.{eqb}
 use lib.ListN.{length, drop}
 use Rattle.basics.specs.Lists.{all}
-use Rattle.protocol.specs.Calls.{startRead, startFastRead, startWrite, deliver, show, clear}
-use Rattle.protocol.specs.Calls.{handOver, compare}
+use Rattle.protocol.specs.Calls.{startRead, startFastRead, startWrite, startMixed, deliver}
+use Rattle.protocol.specs.Calls.{show, clear, handOver, compare}
 use Rattle.protocol.proofs.Examples.Table.{Row, freshly, on, onEach, _⇒_, _keeping_}
 use Rattle.protocol.proofs.Examples.Table.{value, room, anything, right, messagesAre}
 use Rattle.protocol.proofs.Examples.Table.{entryIs}
@@ -21,6 +21,7 @@ use Rattle.protocol.proofs.Examples.Falls.{falls}
 use Rattle.protocol.proofs.Examples.HandOver.{handOvers}
 use Rattle.protocol.proofs.Examples.Fast.{fasts}
 use Rattle.protocol.proofs.Examples.Far.{far, done, shows, ranged}
+use Rattle.protocol.proofs.Examples.Mixed.{mixes}
 use Rattle.protocol.proofs.Examples.Numbers.{numbers}
 use Rattle.protocol.proofs.Examples.Widest.{widest}
 use Rattle.protocol.proofs.Examples.Pinned.{pinned}
@@ -35,6 +36,7 @@ pub mod Cleared
 pub mod HandOver
 pub mod Fast
 pub mod Far
+pub mod Mixed
 
 -- the greatest value's four bytes
 abbrev greatest : List ℕ
@@ -355,6 +357,7 @@ outOfRange =
     record {
       start = onEach faults;
       lines = startRead 1 1 ⇒ "01" ∷ startFastRead 1 1 ⇒ "01" ∷ startWrite 9 0 [] ⇒ "01"
+          ∷ startMixed 9 0 0 [] ⇒ "01"
           ∷ deliver 0 ⇒ "01"
           ∷ show 1 (room 1) ⇒ "01" keeping "ee" ∷ clear ⇒ "01" ∷ handOver 1 1 ⇒ "01"
           ∷ compare 9 9 ⇒ "01" ∷ [];
@@ -384,7 +387,7 @@ rows =
     ∷ firstOfSeveral
     ∷ strays
     ∷ outOfRange
-    ∷ numbers ++ (falls ++ (widest ++ (clearings ++ (handOvers ++ (fasts ++ pinned)))))
+    ∷ numbers ++ (falls ++ (widest ++ (clearings ++ (handOvers ++ (fasts ++ (mixes ++ pinned))))))
 
 pub examples : all right rows ≡ true
 unfolding all right

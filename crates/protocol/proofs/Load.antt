@@ -9,7 +9,7 @@ use native.Mathlib.Omega.{arith}
 use lib.Dec.{eqb}
 use lib.ListN.{length, length-append, length-map}
 use borrow.Author.Tests.{eqb-true, eqb-false, ne-eqb}
-use Rattle.basics.proofs.Cases.{by-test, and-right}
+use Rattle.basics.proofs.Cases.{by-test, not-both, and-right}
 use Rattle.basics.specs.Lists.{without}
 use Rattle.basics.proofs.Lists.{length-without}
 use Rattle.itemset.specs.Set.{has, count, remove}
@@ -26,11 +26,12 @@ use Rattle.protocol.specs.FastRead.{fastReader, firstGets, firstKept, fi
 use Rattle.protocol.specs.FastRead.{secondPart, secondGets}
 use Rattle.protocol.specs.Steps.{reader, gets, writer, prepares, isLast, ended, struck}
 use Rattle.protocol.specs.Steps.{answered, prepared, got, commits, delivered, joined}
-use Rattle.protocol.specs.Steps.{gotFirst, messageAt}
-use Rattle.protocol.specs.Calls.{startRead, startFastRead, startWrite, deliver, effect}
+use Rattle.protocol.specs.Steps.{gotFirst, messageAt, mixer, mixedMessages}
+use Rattle.protocol.specs.Calls.{startRead, startFastRead, startWrite, startMixed, deliver}
+use Rattle.protocol.specs.Calls.{effect}
 use Rattle.protocol.proofs.Ranges.Values.{IsClient, MessageInRange}
 use Rattle.protocol.proofs.Ranges.Tables.{InRange}
-use Rattle.protocol.proofs.Refusals.{AcceptedStart, AcceptedDeliver, Expected}
+use Rattle.protocol.proofs.Refusals.{AcceptedStart, AcceptedMixed, AcceptedDeliver, Expected}
 use Rattle.protocol.proofs.Refusals.{accepted-message, tells-prepared, tells-got}
 use Rattle.protocol.proofs.Refusals.{tells-first-reply}
 use Rattle.protocol.proofs.Delivered.{delivered-work}
@@ -68,6 +69,14 @@ arrived-of c = refl
 
 -- ---- Starts
 
+-- one message for each item of its set
+length-gets : (t : Tables) (d s : ℕ) → s < 2 ^ t .sizes .items → length (gets t d s) ≡ count s
+length-gets t d s h = simp length-map (length-members s (t .sizes .items) h)
+
+length-prepares : (t : Tables) (d s : ℕ) (bytes : List ℕ) → s < 2 ^ t .sizes .items
+    → length (prepares t d s bytes) ≡ count s
+length-prepares t d s bytes h = simp length-map (length-members s (t .sizes .items) h)
+
 -- client d of t, idle, is replaced by one of whose messages none has arrived, and messages join
 load-start : (t : Tables) (d : ℕ) (c : Client) (ms : List Message) → IsClient (t .sizes) d
     → arrived (t .client d) ≡ 0 → arrived c ≡ 0
@@ -89,9 +98,10 @@ start-rests caps t d s a =
     let r = a .valid .inRange .client d (a .client) in
     arrived-none c
     (by-test (eqb (c .write .set) 0) (λ e. eqb-true (c .write .set) 0 e)
-    (λ e. absurd (r .alone (eqb-false (c .write .set) 0 e) .1 (a .idle .write))))
+    (λ e. not-both (rw (a .idle .read, a .idle .write) refl)
+    (r .busy (eqb-false (c .write .set) 0 e))))
     (by-test (eqb (c .read .stage) 0) (λ e. eqb-true (c .read .stage) 0 e)
-    (λ e. absurd (r .fast (eqb-false (c .read .stage) 0 e) (a .idle .read))))
+    (λ e. absurd (r .fast (eqb-false (c .read .stage) 0 e) .1 (a .idle .read))))
 
 module _ (caps : Capacities) (t : Tables) (d s : ℕ) (a : AcceptedStart caps t d s) where
   pub load-read : load (effect t (startRead d s)) ≡ load t + count s
@@ -99,7 +109,7 @@ module _ (caps : Capacities) (t : Tables) (d s : ℕ) (a : AcceptedStart caps t 
   load-read =
       load-start t d (reader t d s) (gets t d s) (a .client) (start-rests caps t d s a)
       (arrived-none (reader t d s) refl refl)
-      ∙ ap (λ (n : ℕ). load t + n) (simp length-map (length-members s (t .sizes .items) (a .set)))
+      ∙ ap (λ (n : ℕ). load t + n) (length-gets t d s (a .set))
 
   pub load-fast-read : load (effect t (startFastRead d s)) ≡ load t + count s
   unfolding effect
@@ -114,7 +124,23 @@ module _ (caps : Capacities) (t : Tables) (d s : ℕ) (a : AcceptedStart caps t 
       load-start t d (writer t d s bytes) (prepares t d s bytes) (a .client)
       (start-rests caps t d s a)
       (omega (arith, arrived-of (writer t d s bytes)))
-      ∙ ap (λ (n : ℕ). load t + n) (simp length-map (length-members s (t .sizes .items) (a .set)))
+      ∙ ap (λ (n : ℕ). load t + n) (length-prepares t d s bytes (a .set))
+
+-- both sets' items, a shared one twice
+pub load-mixed : (caps : Capacities) (t : Tables) (d r s : ℕ) (bytes : List ℕ)
+    → AcceptedMixed caps t d r s bytes
+    → load (effect t (startMixed d r s bytes)) ≡ load t + (count r + count s)
+unfolding effect
+load-mixed caps t d r s bytes a =
+    load-start t d (mixer t d r s bytes) (mixedMessages t d r s bytes) (a .read .client)
+    (start-rests caps t d r (a .read))
+    (omega (arith, arrived-of (mixer t d r s bytes)))
+    ∙ omega (
+      arith,
+      length-append (gets t d r) (prepares t d s bytes),
+      length-gets t d r (a .read .set),
+      length-prepares t d s bytes (a .write .start .set),
+    )
 
 -- ---- Deliveries
 

@@ -1,5 +1,5 @@
--- A read, of either kind, occupies no version, a write one for each item of its set, and a delivery
--- none more: a delivered prepare leaves and its version stays.
+-- A read, of either kind, occupies no version, a write, alone or mixed, one for each item of its
+-- set, and a delivery none more: a delivered prepare leaves and its version stays.
 use mathlib.Core.Bool.{Bool, true, false, cond}
 use mathlib.Core.List.{List, [], _∷_, map}
 use mathlib.Core.Path.{_≡_, refl, _∙_}
@@ -17,9 +17,10 @@ use Rattle.protocol.specs.Message.{isPrepare}
 use Rattle.protocol.specs.Range.{Capacities, occupied}
 use Rattle.protocol.specs.FastRead.{firstGets}
 use Rattle.protocol.specs.Steps.{asks, gets, valueOf, nextStamp, version, prepares, joined}
-use Rattle.protocol.specs.Steps.{messageAt}
-use Rattle.protocol.specs.Calls.{startRead, startFastRead, startWrite, deliver, effect}
-use Rattle.protocol.proofs.Refusals.{AcceptedStart, AcceptedDeliver}
+use Rattle.protocol.specs.Steps.{messageAt, mixedMessages}
+use Rattle.protocol.specs.Calls.{startRead, startFastRead, startWrite, startMixed, deliver}
+use Rattle.protocol.specs.Calls.{effect}
+use Rattle.protocol.proofs.Refusals.{AcceptedStart, AcceptedMixed, AcceptedDeliver}
 use Rattle.protocol.proofs.Delivered.{delivered-work, joined-prepare}
 
 -- ---- Prepares among the messages of one kind
@@ -40,6 +41,17 @@ counted-prepares t d s bytes h =
     counted-each (λ k. Prepare (version k (valueOf s bytes k) (nextStamp t d) s)) true
     (members (t .sizes .items) s) (λ k. refl)
     ∙ length-members s (t .sizes .items) h
+
+-- and none for the gets of a mixed transaction
+pub counted-mixed : (t : Tables) (d r s : ℕ) (bytes : List ℕ) → s < 2 ^ t .sizes .items
+    → counted isPrepare (mixedMessages t d r s bytes) ≡ count s
+counted-mixed t d r s bytes h =
+    counted-append isPrepare (gets t d r) (prepares t d s bytes)
+    ∙ omega (
+      arith,
+      counted-each (λ k. Get d k (asks t d k)) false (members (t .sizes .items) r) (λ k. refl),
+      counted-prepares t d s bytes h,
+    )
 
 -- ---- Starts
 
@@ -71,6 +83,18 @@ module _ (caps : Capacities) (t : Tables) (d s : ℕ) (a : AcceptedStart caps t 
         counted-append isPrepare (t .messages) (prepares t d s bytes),
         counted-prepares t d s bytes (a .set),
       )
+
+-- of a mixed transaction the items written
+pub occupied-mixed : (caps : Capacities) (t : Tables) (d r s : ℕ) (bytes : List ℕ)
+    → AcceptedMixed caps t d r s bytes
+    → occupied (effect t (startMixed d r s bytes)) ≡ occupied t + count s
+unfolding effect occupied
+occupied-mixed caps t d r s bytes a =
+    omega (
+      arith,
+      counted-append isPrepare (t .messages) (mixedMessages t d r s bytes),
+      counted-mixed t d r s bytes (a .write .start .set),
+    )
 
 -- ---- Deliveries
 

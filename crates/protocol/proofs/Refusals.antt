@@ -4,6 +4,7 @@ use mathlib.Core.List.{List, [], _∷_}
 use mathlib.Core.Logic.{_↔_, _≢_, inl, inr}
 use mathlib.Core.Path.{_≡_, refl, sym, ap}
 use Prim.Native.Nat.{ℕ, _+_, _*_, _^_, _≤_, _<_}
+use native.Mathlib.Omega.{arith}
 use lib.Dec.{eqb}
 use lib.ListN.{length}
 use borrow.Author.Tests.{eqb-false, ltb-true}
@@ -19,9 +20,10 @@ use Rattle.protocol.specs.Tables.{Sizes, Tables, Client, writerOf, Ended
 use Rattle.protocol.specs.Tables.{ofRead, ofWrite, awaitedOf}
 use Rattle.protocol.specs.Range.{Capacities, load, occupied}
 use Rattle.protocol.specs.Steps.{messageAt, greatestOf}
-use Rattle.protocol.specs.Calls.{startRead, startFastRead, startWrite, deliver, show, clear}
+use Rattle.protocol.specs.Calls.{startRead, startFastRead, startWrite, startMixed, deliver}
+use Rattle.protocol.specs.Calls.{show, clear}
 use Rattle.protocol.specs.Calls.{handOver, compare, Test, test, first, unexpected, missing}
-use Rattle.protocol.specs.Calls.{isNothing, refusal, freshRefusal, shownFrame}
+use Rattle.protocol.specs.Calls.{isNothing, writeTests, refusal, freshRefusal, shownFrame}
 use Rattle.protocol.proofs.Tells.{tells}
 use Rattle.protocol.proofs.Each.{Each}
 use Rattle.protocol.proofs.Ranges.Values.{SizesInRange, tells-sizes, IsClient}
@@ -116,11 +118,88 @@ accepted-write caps t d s bytes = (
   λ a. simp tests (search first-empty),
 )
 
--- a write is refused by 9 for want of versions alone
-pub refused-full : (caps : Capacities) (t : Tables) (d s : ℕ) (bytes : List ℕ)
-    → refusal caps t (startWrite d s bytes) ≡ 9 → caps .versions < occupied t + count s
+-- a mixed start what a read of r and a write of s test, and the load for both
+pub record AcceptedMixed (caps : Capacities) (t : Tables) (d r s : ℕ) (bytes : List ℕ)
+    : Type 0 where
+  pub read : AcceptedStart caps t d r
+  pub write : AcceptedWrite caps t d s bytes
+  pub load : load t + (count r + count s) ≤ caps .load
+
+-- the tests of a mixed start, one by one
+record MixedTests (caps : Capacities) (t : Tables) (d r s : ℕ) (bytes : List ℕ) : Type 0 where
+  valid : Valid caps t
+  client : IsClient (t .sizes) d
+  idle : Idle (t .client d)
+  someRead : r ≢ 0
+  reads : r < 2 ^ t .sizes .items
+  someWritten : s ≢ 0
+  writes : s < 2 ^ t .sizes .items
+  values : length bytes ≡ 4 * count s
+  narrow : count s ≤ caps .widest
+  numberLeft : greatestOf t d ≢ 4294967295
+  load : load t + (count r + count s) ≤ caps .load
+  occupied : occupied t + count s ≤ caps .versions
+
+mixed-tests : (caps : Capacities) (t : Tables) (d r s : ℕ) (bytes : List ℕ)
+    → (refusal caps t (startMixed d r s bytes) ≡ 0) ↔ MixedTests caps t d r s bytes
 unfolding refusal
-refused-full caps t d s bytes e =
+mixed-tests caps t d r s bytes = (
+  λ e. let f = simp tests at e in
+      search,
+  λ a. simp tests (search first-empty),
+)
+
+pub accepted-mixed : (caps : Capacities) (t : Tables) (d r s : ℕ) (bytes : List ℕ)
+    → (refusal caps t (startMixed d r s bytes) ≡ 0) ↔ AcceptedMixed caps t d r s bytes
+accepted-mixed caps t d r s bytes = (
+  λ e. let f = mixed-tests caps t d r s bytes .0 e in
+      record {
+        read = record {
+          valid = f .valid;
+          client = f .client;
+          idle = f .idle;
+          some = f .someRead;
+          set = f .reads;
+          load = omega (arith, f .load);
+        };
+        write = record {
+          start = record {
+            valid = f .valid;
+            client = f .client;
+            idle = f .idle;
+            some = f .someWritten;
+            set = f .writes;
+            load = omega (arith, f .load);
+          };
+          values = f .values;
+          narrow = f .narrow;
+          numberLeft = f .numberLeft;
+          occupied = f .occupied;
+        };
+        load = f .load;
+      },
+  λ a. mixed-tests caps t d r s bytes .1
+      (record {
+        valid = a .read .valid;
+        client = a .read .client;
+        idle = a .read .idle;
+        someRead = a .read .some;
+        reads = a .read .set;
+        someWritten = a .write .start .some;
+        writes = a .write .start .set;
+        values = a .write .values;
+        narrow = a .write .narrow;
+        numberLeft = a .write .numberLeft;
+        load = a .load;
+        occupied = a .write .occupied;
+      }),
+)
+
+-- a write, alone or in a mixed transaction, is refused by 9 for want of versions alone
+pub refused-full : (caps : Capacities) (t : Tables) (d : ℕ) (bad : Bool) (s : ℕ) (bytes : List ℕ)
+    (joining : ℕ) → first (writeTests caps t d bad s bytes joining) ≡ 9
+    → caps .versions < occupied t + count s
+refused-full caps t d bad s bytes joining e =
     ltb-true (caps .versions) (occupied t + count s)
     (first-last 9 _ refl
     (first-later 9 8 _ _ refl (first-later 9 7 _ _ refl (first-later 9 17 _ _ refl

@@ -222,6 +222,12 @@ module _ (d : ℕ) (e : Ended) (shows : showsRead (e .kind) ≡ true) (rest : Li
 
 -- ---- what a write's frame begins with, its number among it
 
+length-first : (byte d : ℕ) → length (byte ∷ bigEndian 1 d) ≡ 2
+length-first byte d = omega (arith, length-bigEndian 1 d)
+
+regroup-set : (a b c v : List ℕ) → a ++ b ++ c ++ v ≡ a ++ b ++ (c ++ v)
+regroup-set a b c v = simp append-assoc
+
 regroup-write : (a b c v rest : List ℕ)
     → a ++ [] ++ (b ++ c ++ v) ++ rest ≡ a ++ b ++ c ++ (v ++ rest)
 regroup-write a b c v rest = simp (append-assoc, append-nil)
@@ -250,6 +256,15 @@ module _ (d : ℕ) (e : Ended) (kind : e .kind ≡ 2) (rest : List ℕ) where
       (length-head 0x20 d (part .set))
       ∙ ap (λ (b : ℕ). 0x20 ∷ b ∷ bigEndian 8 (part .set)) (mod-eq-of-lt h)
 
+  pub write-set : part .set < 2 ^ 64 → numberAt 8 (frame d e ++ rest) 2 ≡ part .set
+  write-set h =
+      ap (λ (l : List ℕ). numberAt 8 l 2)
+      (write-split ∙ regroup-set (0x20 ∷ bigEndian 1 d) (bigEndian 8 (part .set)) number
+      (written ++ rest))
+      ∙ ap (numberAt 8 _) (sym (length-first 0x20 d))
+      ∙ numberAt-append-bigEndian 8 (part .set) (0x20 ∷ bigEndian 1 d)
+      (number ++ (written ++ rest)) h
+
   pub write-number : numberOf (part .stamp) < 2 ^ 32
       → numberAt 4 (frame d e ++ rest) 10 ≡ numberOf (part .stamp)
   write-number h =
@@ -262,3 +277,71 @@ pub length-frame-write : (d : ℕ) (e : Ended) → e .kind ≡ 2 → e .write .s
 length-frame-write d e kind below =
     length-frame d e (rw kind refl)
     ∙ rw kind (omega (arith, length-write (e .write), length-members (e .write .set) 64 below))
+
+-- ---- what a mixed transaction's frame has behind its read part: the write's set and number
+
+pub length-frame-mixed : (d : ℕ) (e : Ended) → e .kind ≡ 4 → e .read .set < 2 ^ 64
+    → e .write .set < 2 ^ 64
+    → length (frame d e) ≡ 22 + 9 * count (e .read .set) + 4 * count (e .write .set)
+length-frame-mixed d e kind below below′ =
+    length-frame d e (rw kind refl)
+    ∙ rw kind (omega (
+      arith,
+      length-read (e .read),
+      length-write (e .write),
+      length-members (e .read .set) 64 below,
+      length-members (e .write .set) 64 below′,
+    ))
+
+regroup-mixed : (a r b c v rest : List ℕ)
+    → a ++ r ++ (b ++ c ++ v) ++ rest ≡ (a ++ r ++ b) ++ c ++ (v ++ rest)
+regroup-mixed a r b c v rest = simp append-assoc
+
+module _ (d : ℕ) (e : Ended) (kind : e .kind ≡ 4) (below : e .read .set < 2 ^ 64)
+    (rest : List ℕ) where
+  -- what comes before the set, the number, and what comes behind it
+  abbrev ahead : List ℕ
+  ahead = (0x24 ∷ bigEndian 1 d) ++ readBytes (e .read)
+
+  abbrev numbered : List ℕ
+  numbered = bigEndian 4 (numberOf (e .write .stamp))
+
+  abbrev behind : List ℕ
+  behind = listed (λ k. bigEndian 4 (e .write .values k)) (members 64 (e .write .set)) ++ rest
+
+  length-ahead : length ahead ≡ 10 + 9 * count (e .read .set)
+  length-ahead =
+      length-append (0x24 ∷ bigEndian 1 d) (readBytes (e .read))
+      ∙ omega (
+        arith,
+        length-first 0x24 d,
+        length-read (e .read),
+        length-members (e .read .set) 64 below,
+      )
+
+  mixed-split : frame d e ++ rest ≡ (ahead ++ bigEndian 8 (e .write .set)) ++ numbered ++ behind
+  unfolding writeBytes
+  mixed-split =
+      ap (λ (l : List ℕ). l ++ rest) (parts d e (rw kind refl))
+      ∙ rw kind (regroup-mixed (0x24 ∷ bigEndian 1 d) (readBytes (e .read))
+      (bigEndian 8 (e .write .set)) numbered
+      (listed (λ k. bigEndian 4 (e .write .values k)) (members 64 (e .write .set))) rest)
+
+  pub mixed-set : e .write .set < 2 ^ 64
+      → numberAt 8 (frame d e ++ rest) (10 + 9 * count (e .read .set)) ≡ e .write .set
+  mixed-set h =
+      ap₂ (numberAt 8)
+      (mixed-split ∙ regroup-set ahead (bigEndian 8 (e .write .set)) numbered behind)
+      (sym length-ahead)
+      ∙ numberAt-append-bigEndian 8 (e .write .set) ahead (numbered ++ behind) h
+
+  pub mixed-number : numberOf (e .write .stamp) < 2 ^ 32
+      → numberAt 4 (frame d e ++ rest) (18 + 9 * count (e .read .set))
+      ≡ numberOf (e .write .stamp)
+  mixed-number h =
+      let place : length (ahead ++ bigEndian 8 (e .write .set)) ≡ 18 + 9 * count (e .read .set) =
+      length-append ahead (bigEndian 8 (e .write .set))
+      ∙ omega (arith, length-ahead, length-bigEndian 8 (e .write .set)) in
+      ap₂ (numberAt 4) mixed-split (sym place)
+      ∙ numberAt-append-bigEndian 4 (numberOf (e .write .stamp))
+      (ahead ++ bigEndian 8 (e .write .set)) behind h

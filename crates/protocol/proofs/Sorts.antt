@@ -1,6 +1,6 @@
--- The sorts of accepted calls, with what their tests tell: the start of a read, of a fast read or
--- of a write, a delivery, and a call apart, which leaves messages alone and stores nothing. All
--- laws of accepted calls go by them.
+-- The sorts of accepted calls, with what their tests tell: the start of a read, of a fast read, of
+-- a write or of a mixed transaction, a delivery, and a call apart, which leaves messages alone and
+-- stores nothing. All laws of accepted calls go by them.
 use mathlib.Core.Bool.{true, false}
 use mathlib.Core.List.{List, [], Sublistᴰ, Sublistᴰ·refl}
 use mathlib.Core.Path.{_≡_, refl}
@@ -15,14 +15,16 @@ use Rattle.protocol.specs.Range.{Capacities}
 use Rattle.protocol.specs.Steps.{stored}
 use Rattle.protocol.specs.Clear.{unused, cleared, gone}
 use Rattle.protocol.specs.HandOver.{handedOver, standing}
-use Rattle.protocol.specs.Calls.{Call, startRead, startFastRead, startWrite, deliver, show}
-use Rattle.protocol.specs.Calls.{clear, handOver, compare, refusal, quiet, effects}
+use Rattle.protocol.specs.Calls.{Call, startRead, startFastRead, startWrite, startMixed}
+use Rattle.protocol.specs.Calls.{deliver, show, clear, handOver, compare, refusal, quiet}
+use Rattle.protocol.specs.Calls.{effects}
 use Rattle.protocol.proofs.Cleared.{cleared-sublist, stored-cleared}
 use Rattle.protocol.proofs.Ranges.Values.{IsClient}
 use Rattle.protocol.proofs.Ranges.Tables.{Valid}
-use Rattle.protocol.proofs.Refusals.{AcceptedStart, AcceptedWrite, AcceptedDeliver}
-use Rattle.protocol.proofs.Refusals.{accepted-read, accepted-fast-read, accepted-write}
-use Rattle.protocol.proofs.Refusals.{accepted-deliver, accepted-show, accepted-clear}
+use Rattle.protocol.proofs.Refusals.{AcceptedStart, AcceptedWrite, AcceptedMixed}
+use Rattle.protocol.proofs.Refusals.{AcceptedDeliver, accepted-read, accepted-fast-read}
+use Rattle.protocol.proofs.Refusals.{accepted-write, accepted-mixed, accepted-deliver}
+use Rattle.protocol.proofs.Refusals.{accepted-show, accepted-clear}
 use Rattle.protocol.proofs.Refusals.{accepted-hand-over, accepted-compare}
 use Rattle.protocol.proofs.HandOver.{handed-taken, handed-grows}
 
@@ -106,6 +108,8 @@ module _ (caps : Capacities) (t : Tables) where
     readsFast : (d s : ℕ) → AcceptedStart caps t d s → Sort (startFastRead d s)
     writes : (d s : ℕ) (bytes : List ℕ) → AcceptedWrite caps t d s bytes
         → Sort (startWrite d s bytes)
+    mixes : (d r s : ℕ) (bytes : List ℕ) → AcceptedMixed caps t d r s bytes
+        → Sort (startMixed d r s bytes)
     delivers : (i : ℕ) → AcceptedDeliver caps t i → Sort (deliver i)
     apart : (c : Call) → Valid caps t → Apart t c → Sort c
 
@@ -113,6 +117,7 @@ module _ (caps : Capacities) (t : Tables) where
   sort (startRead d s) e = reads d s (accepted-read caps t d s .0 e)
   sort (startFastRead d s) e = readsFast d s (accepted-fast-read caps t d s .0 e)
   sort (startWrite d s bytes) e = writes d s bytes (accepted-write caps t d s bytes .0 e)
+  sort (startMixed d r s bytes) e = mixes d r s bytes (accepted-mixed caps t d r s bytes .0 e)
   sort (deliver i) e = delivers i (accepted-deliver caps t i .0 e)
   sort (show d output) e =
       apart (show d output) (accepted-show caps t d output .0 e .valid)

@@ -20,15 +20,18 @@ use Rattle.protocol.specs.Range.{occupied}
 use Rattle.protocol.specs.FastRead.{startedFastRead, firstGets}
 use Rattle.protocol.specs.Steps.{startedRead, startedWrite, deliveredAt, messageAt, stored}
 use Rattle.protocol.specs.Steps.{deliveryOf, gets, prepares, writer, joined, greatestOf}
+use Rattle.protocol.specs.Steps.{mixer, mixedMessages, startedMixed}
 use Rattle.protocol.specs.Clear.{cleared, gone}
 use Rattle.protocol.specs.HandOver.{handedOver, standing}
 use Rattle.protocol.specs.LogFrame.{frame, handOverFrame}
 
--- The calls that follow a fresh start. A write brings its value bytes, a showing the lent output.
+-- The calls that follow a fresh start. A write brings its value bytes, a mixed start its read set
+-- and its write set with their value bytes, a showing the lent output.
 pub data Call : Type 0 where
   startRead : (client set : ℕ) → Call
   startFastRead : (client set : ℕ) → Call
   startWrite : (client set : ℕ) (values : List ℕ) → Call
+  startMixed : (client reads writes : ℕ) (values : List ℕ) → Call
   deliver : (place : ℕ) → Call
   show : (client : ℕ) (output : List ℕ) → Call
   clear : Call
@@ -99,23 +102,32 @@ readTests caps t d s =
     ∷ test 8 (ltb (caps .load) (load t + count s))
     ∷ []
 
--- 17: 'Twelve becomes the limit for writing; reads may still take 64', 'It refuses such a write
--- with 17, tested after 6 and before 7' (document 02, P4); twelve is this store's `widest`
+-- Of a write of s, alone or in a mixed transaction: whether a set is bad, the items of s, its value
+-- bytes, and how many messages would join. 17: 'Twelve becomes the limit for writing; reads may
+-- still take 64', 'It refuses such a write with 17, tested after 6 and before 7' (document 02, P4);
+-- twelve is this store's `widest`. '9 and 17 [count] the written ones' (P8).
+abbrev pub writeTests : Capacities → Tables → ℕ → Bool → ℕ → List ℕ → ℕ → List Test
+writeTests caps t d bad s bytes joining =
+    test 1 (not (valid caps t))
+    ∷ test 3 (not (isClient (t .sizes) d))
+    ∷ test 4 (not (isIdle (t .client d)))
+    ∷ test 5 bad
+    ∷ test 6 (not (eqb (length bytes) (4 * count s)))
+    ∷ test 17 (ltb (caps .widest) (count s))
+    ∷ test 7 (eqb (greatestOf t d) 4294967295)
+    ∷ test 8 (ltb (caps .load) (load t + joining))
+    ∷ test 9 (ltb (caps .versions) (occupied t + count s))
+    ∷ []
+
+-- A mixed start's 'refusals are those of a read and a write, 5 for either set'; '8 counts both
+-- sets' lines, a shared one twice' (document 02, P8).
 unfoldable pub refusal : Capacities → Tables → Call → ℕ
 refusal caps t (startRead d s) = first (readTests caps t d s)
 refusal caps t (startFastRead d s) = first (readTests caps t d s)
 refusal caps t (startWrite d s bytes) =
-    first
-    (test 1 (not (valid caps t))
-    ∷ test 3 (not (isClient (t .sizes) d))
-    ∷ test 4 (not (isIdle (t .client d)))
-    ∷ test 5 (badSet t s)
-    ∷ test 6 (not (eqb (length bytes) (4 * count s)))
-    ∷ test 17 (ltb (caps .widest) (count s))
-    ∷ test 7 (eqb (greatestOf t d) 4294967295)
-    ∷ test 8 (ltb (caps .load) (load t + count s))
-    ∷ test 9 (ltb (caps .versions) (occupied t + count s))
-    ∷ [])
+    first (writeTests caps t d (badSet t s) s bytes (count s))
+refusal caps t (startMixed d r s bytes) =
+    first (writeTests caps t d (badSet t r || badSet t s) s bytes (count r + count s))
 refusal caps t (deliver i) =
     first
     (test 1 (not (valid caps t))
@@ -218,6 +230,8 @@ effects t (startRead d s) = started d (startedRead t d s) (gets t d s) []
 effects t (startFastRead d s) = started d (startedFastRead t d s) (firstGets t d s) []
 effects t (startWrite d s bytes) = started d (startedWrite t d s bytes) (prepares t d s bytes)
     (writer t d s bytes .write ∷ [])
+effects t (startMixed d r s bytes) = started d (startedMixed t d r s bytes)
+    (mixedMessages t d r s bytes) (mixer t d r s bytes .write ∷ [])
 effects t (deliver i) =
     let m = messageAt t i in
     record {
@@ -251,6 +265,7 @@ unfoldable pub lent : Call → List ℕ
 lent (startRead d s) = []
 lent (startFastRead d s) = []
 lent (startWrite d s bytes) = []
+lent (startMixed d r s bytes) = []
 lent (deliver i) = []
 lent (show d output) = output
 lent clear = []

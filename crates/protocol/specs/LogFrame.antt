@@ -31,11 +31,14 @@ writeBytes p =
     bigEndian 8 (p .set) ++ bigEndian 4 (numberOf (p .stamp))
     ++ listed (λ k. bigEndian 4 (p .values k)) (members 64 (p .set))
 
--- the byte of a kind: `21` of a read, `20` of a write, `23` of a fast read
+-- the byte of a kind: `21` of a read, `20` of a write, `23` of a fast read, `24` of a mixed
+-- transaction
 abbrev pub frameByte : ℕ → ℕ
-frameByte kind = cond (eqb kind 1) 0x21 (cond (eqb kind 2) 0x20 0x23)
+frameByte kind =
+    cond (eqb kind 1) 0x21 (cond (eqb kind 2) 0x20 (cond (eqb kind 3) 0x23 0x24))
 
--- kind, client, and the parts that the kind shows; empty where none has ended
+-- kind, client, and the parts that the kind shows; empty where none has ended. 'Log frame `24` is
+-- desk, read part as in `21`, write part as in `20`, the desk given once' (document 02, P8)
 unfoldable pub frame : ℕ → Ended → List ℕ
 frame d e =
     let kind = e .kind in
@@ -44,9 +47,10 @@ frame d e =
     ++ cond (showsRead kind) (readBytes (e .read)) []
     ++ cond (showsWrite kind) (writeBytes (e .write)) [])
 
--- the most bytes that one has: a read part of all 64 items
+-- the most bytes that one has: a read part and a write part of all 64 items. (A store's own calls
+-- write at most 12 items, but tables in range may hold more.)
 abbrev pub mostLogFrame : ℕ
-mostLogFrame = 10 + 9 * 64
+mostLogFrame = 22 + 9 * 64 + 4 * 64
 
 -- 'A log frame `22` giver, receiver' (document 02, P6)
 abbrev pub handOverFrame : ℕ → ℕ → List ℕ

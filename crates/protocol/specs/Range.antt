@@ -102,12 +102,13 @@ endedInRange z e =
     isKind kind && (not (showsRead kind) || readPartInRange z (e .read))
     && (not (showsWrite kind) || writePartInRange z (e .write))
 
--- a write part awaits an item, and there is no read part beside it; a fast read awaits one too
+-- a client with a write part awaits an item, of that or of a read part beside it; so does a fast
+-- read, which has no write part beside it
 unfoldable pub clientInRange : Sizes → Client → Bool
 clientInRange z c =
     fits (c .count) && readPartInRange z (c .read) && writePartInRange z (c .write)
-    && (eqb (c .write .set) 0 || (eqb (c .read .set) 0 && not (eqb (c .write .awaited) 0)))
-    && (eqb (c .read .stage) 0 || not (eqb (c .read .awaited) 0))
+    && (eqb (c .write .set) 0 || not (isIdle c))
+    && (eqb (c .read .stage) 0 || (eqb (c .write .set) 0 && not (eqb (c .read .awaited) 0)))
     && endedInRange z (c .last)
 
 -- p holds of every client
@@ -131,7 +132,8 @@ abbrev pub arrivedFirst : ReadPart → ℕ
 arrivedFirst p = cond (isFirstPart p) (count (p .set) - count (p .awaited)) 0
 
 -- the prepared replies that have come, the items of the write part no longer awaited, and the first
--- replies
+-- replies. Of a mixed transaction 'its prepared replies count until it ends' (document 02, P8);
+-- gots that have come count never.
 unfoldable pub arrived : Client → ℕ
 arrived c = count (c .write .set) - count (c .write .awaited) + arrivedFirst (c .read)
 

@@ -83,6 +83,22 @@ abbrev pub startedWrite : Tables → ℕ → ℕ → List ℕ → Tables
 startedWrite t d s bytes = withMessages (withClient t d (writer t d s bytes))
     (t .messages ++ prepares t d s bytes)
 
+-- ---- Start a mixed transaction (document 02, P8)
+
+-- 'A mixed start takes a read set and a write set with values'. 'Its reads show the entries chosen
+-- at the start, also for lines it writes': its parts are those of a read and of a write, started at
+-- once.
+abbrev pub mixer : Tables → ℕ → ℕ → ℕ → List ℕ → Client
+mixer t d r s bytes = withRead (writer t d s bytes) (reader t d r .read)
+
+-- 'its gets join first, then its prepares'
+abbrev pub mixedMessages : Tables → ℕ → ℕ → ℕ → List ℕ → List Message
+mixedMessages t d r s bytes = gets t d r ++ prepares t d s bytes
+
+abbrev pub startedMixed : Tables → ℕ → ℕ → ℕ → List ℕ → Tables
+startedMixed t d r s bytes = withMessages (withClient t d (mixer t d r s bytes))
+    (t .messages ++ mixedMessages t d r s bytes)
+
 -- ---- Stored versions
 
 -- of item k, with exactly this stamp
@@ -149,17 +165,23 @@ abbrev pub endedWrite : WritePart → WritePart
 endedWrite p =
     record { set = p .set; awaited = 0; stamp = p .stamp; values = p .values }
 
--- the transaction of c, as an ended one: a write where it has a write part, and else a read or a
--- fast read
+-- the kind of a transaction with these parts: a mixed one has both, a write has a write part alone,
+-- and a read or a fast read has a read part alone
+abbrev pub kindEnded : ReadPart → WritePart → ℕ
+kindEnded p w =
+    cond (eqb (w .set) 0) (cond (eqb (p .stage) 0) 1 3) (cond (eqb (p .set) 0) 2 4)
+
+-- the transaction of c, as an ended one
 abbrev pub ended : Client → Ended
 ended c =
     record {
-      kind = cond (eqb (c .write .set) 0) (cond (eqb (c .read .stage) 0) 1 3) 2;
+      kind = kindEnded (c .read) (c .write);
       read = endedRead (c .read);
       write = endedWrite (c .write);
     }
 
--- Prepared: with the last reply the client is idle
+-- Prepared: with the last reply the client is idle. A mixed transaction 'ends, with outcome 02,
+-- when all replies of both kinds are in' (document 02, P8), so with a prepared reply or with a got.
 abbrev pub prepared : Client → ℕ → Client
 prepared c k = cond (isLast ofWrite c k) (rested c (ended c)) (struck c k)
 
@@ -181,7 +203,8 @@ abbrev pub offered : Entry → Version → Entry → Entry
 offered present v latest = laterOf (laterOf present latest) (entryOf v)
 
 -- At the end of a transaction with a write part its commits join, and each written item's view
--- entry becomes the later of itself and this write
+-- entry becomes the later of itself and this write: 'written lines enter the view and commits go
+-- then' (document 02, P8)
 abbrev pub seen : (ℕ → Entry) → ℕ → ℕ → ℕ → Entry
 seen view s stamp k = cond (has s k) (laterOf (view k) (record { stamp = stamp; set = s })) (view k)
 

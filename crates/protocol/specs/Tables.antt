@@ -36,8 +36,9 @@ entryOf v = record { stamp = v .stamp; set = v .set }
 
 -- ---- Client (desk)
 
--- The transaction under way has a read part and a write part. Either may be empty: an ordinary read
--- has no write part, an ordinary write no read part, and an idle client has neither.
+-- The transaction under way has a read part and a write part: a mixed one (document 02, P8) has
+-- both. Either may be empty: an ordinary read has no write part, an ordinary write no read part,
+-- and an idle client has neither.
 
 -- its items, those whose reply is still awaited, the stamps asked for, and the answers so far; its
 -- stage, 0 of an ordinary read, 1 and 2 in the first and the second part of a fast read (document
@@ -77,8 +78,8 @@ noRead =
 abbrev pub noWrite : WritePart
 noWrite = record { set = 0; awaited = 0; stamp = 0; values = λ k. 0 }
 
--- The last ended transaction: its kind, 0 none yet, 1 a read, 2 a write, 3 a fast read, and its
--- parts as they ended, with nothing awaited and no first reply.
+-- The last ended transaction: its kind, 0 none yet, 1 a read, 2 a write, 3 a fast read, 4 a mixed
+-- transaction, and its parts as they ended, with nothing awaited and no first reply.
 pub record Ended : Type 0 where
   pub kind : ℕ
   pub read : ReadPart
@@ -89,13 +90,13 @@ nothing = record { kind = 0; read = noRead; write = noWrite }
 
 -- the kinds that there are, and which parts each shows; a later kind joins here
 unfoldable pub isKind : ℕ → Bool
-isKind kind = ltb kind 4
+isKind kind = ltb kind 5
 
 abbrev pub showsRead : ℕ → Bool
-showsRead kind = eqb kind 1 || eqb kind 3
+showsRead kind = eqb kind 1 || eqb kind 3 || eqb kind 4
 
 abbrev pub showsWrite : ℕ → Bool
-showsWrite kind = eqb kind 2
+showsWrite kind = eqb kind 2 || eqb kind 4
 
 pub record Client : Type 0 where
   -- the number of its last write started, 0 before the first

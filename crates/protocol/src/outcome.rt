@@ -1,5 +1,5 @@
 // The outcomes of deliveries: no transaction has ended by it, a read has, ordinary or fast, or a
-// write.
+// write has, alone or in a mixed transaction.
 
 pub const NONE_ENDED: u64 = 0;
 

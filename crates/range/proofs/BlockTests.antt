@@ -159,15 +159,15 @@ module _ (b : List ℕ) where
 -- ---- From the outcomes of the tests
 
 pub tables-tests : (b : List ℕ) (clients partitions items versions messages : ℕ)
-    {entries client stored flight : Bool} {full used : ℕ}
+    {entries client stored flight fits : Bool} {full : ℕ}
     → entries ≡ every (suc clients) (λ i. every items (λ k. entryInRange (sized clients items)
     (entryFrom b (entriesAt i) k)))
     → client ≡ every clients (λ i. clientTest b (suc i) clients items)
     → stored ≡ every versions (λ i. versionInRange (sized clients items) (versionIn b i))
     → flight ≡ every messages (λ i. messageTest b i clients partitions items)
     → full ≡ messages + total clients (λ d. arrived (clientIn b d))
-    → used ≡ versions + counted isPrepare (table messages (messageIn b))
-    → (entries && client && stored && flight && leb full mostMessages && leb used mostVersions)
+    → fits ≡ leb (versions + counted isPrepare (table messages (messageIn b))) mostVersions
+    → (entries && client && stored && flight && leb full mostMessages && fits)
     ≡ tablesTest b clients partitions items versions messages
 unfolding tablesTest
 tables-tests b clients partitions items versions messages p q r s t u =

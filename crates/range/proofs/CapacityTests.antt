@@ -13,8 +13,7 @@ use Rattle.itemset.specs.Set.{count}
 use Rattle.itemset.proofs.Counts.{count-empty}
 use Rattle.protocol.specs.Message.{kinds, isPrepare}
 use Rattle.protocol.specs.Range.{arrived}
-use Rattle.layout.specs.Layout.{at, scalars, modeAt, setAt}
-use Rattle.layout.specs.Layout.{awaitedAt}
+use Rattle.layout.specs.Layout.{at, scalars, modeAt, setAt, awaitedAt, writeSetAt, writeAwaitedAt}
 use Rattle.layout.specs.Decode.{clientIn, kindIn, messageOf, messageIn}
 use Rattle.layout.proofs.Held.{kind-read, last-kind}
 
@@ -22,15 +21,15 @@ module _ (b : List ℕ) (d : ℕ) where
   abbrev mode : ℕ
   mode = at b scalars (modeAt d)
 
-  arrived-none : mode ≢ 2 → mode ≢ 3 → arrived (clientIn b d) ≡ 0
+  arrived-none : mode ≢ 2 → mode ≢ 3 → mode ≢ 5 → arrived (clientIn b d) ≡ 0
   unfolding arrived clientIn
-  arrived-none n m =
-      rw (ne-eqb mode 2 n, ne-eqb mode 3 m)
+  arrived-none n m x =
+      rw (ne-eqb mode 2 n, ne-eqb mode 3 m, ne-eqb mode 5 x)
       (by-test (eqb mode 4) (λ e. rw e (omega (arith, count-empty)))
       (λ e. rw e (omega (arith, count-empty))))
 
-  pub arrived-other : mode ≢ 2 → mode ≢ 3 → 0 ≡ arrived (clientIn b d)
-  arrived-other n m = sym (arrived-none n m)
+  pub arrived-other : mode ≢ 2 → mode ≢ 3 → mode ≢ 5 → 0 ≡ arrived (clientIn b d)
+  arrived-other n m x = sym (arrived-none n m x)
 
   -- of a write, and of the first part of a fast read
   pub arrived-come : (s a : ℕ) → s ≡ at b scalars (setAt d) → a ≡ at b scalars (awaitedAt d)
@@ -41,6 +40,13 @@ module _ (b : List ℕ) (d : ℕ) where
       (λ e. rw (eqb-true mode 2 e, p, q) (omega arith))
       (λ e. let first : mode ≡ 3 = omega (arith, eqb-false mode 2 e) in
       rw (first, p, q) (omega (arith, count-empty)))
+
+  -- of a mixed transaction
+  pub arrived-mixed : (s a : ℕ) → s ≡ at b scalars (writeSetAt d)
+      → a ≡ at b scalars (writeAwaitedAt d)
+      → mode ≡ 5 → count s - count a ≡ arrived (clientIn b d)
+  unfolding arrived clientIn
+  arrived-mixed s a p q e = rw (e, p, q) (omega arith)
 
 pub prepare-kind : (b : List ℕ) (i : ℕ) → isPrepare (messageIn b i) ≡ eqb (kindIn b i) 1
 unfolding messageIn messageOf

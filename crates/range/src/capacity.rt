@@ -3,20 +3,37 @@
 // prepares).
 ghost use mathlib.Core.Bool.{cond};
 ghost use mathlib.Core.Path.{_≡_};
-ghost use Prim.Native.Nat.{_+_, _*_, _≤_, _<_};
+ghost use Prim.Native.Nat.{_+_, _-_, _*_, _≤_, _<_};
 ghost use lib.ListN.{length};
+ghost use lib.Dec.{leb};
 ghost use Rattle.basics.specs.Lists.{counted, table};
+ghost use Rattle.itemset.specs.Set.{count};
 ghost use Rattle.protocol.specs.Message.{isPrepare};
 ghost use Rattle.protocol.specs.Range.{arrived, total};
 ghost use Rattle.layout.specs.Layout.{mostClients, mostItems, mostVersions, mostMessages, needed};
 ghost use Rattle.layout.specs.Decode.{clientIn, messageIn};
 use layout::FIRST_PART;
+use layout::MIXING;
+use layout::MOST_VERSIONS;
 use layout::WRITING;
 use protocol::message_kind::PREPARE;
 use range_message::message_word;
 
-// The prepared replies that have come to client `d`, which writes, or the first replies, in the
-// first part of a fast read.
+// How many of the items of `set` are no longer awaited.
+fn come(set: u64, awaited: u64) -> u64
+    ensures { λ r. ⌜ r ≡ count set - count awaited ⌝ }
+    ensures { λ r. ⌜ r ≤ mostItems ⌝ }
+{
+    let all = itemset::count(set);
+    let left = itemset::count(awaited);
+    if all < left {
+        return 0;
+    }
+    all - left
+}
+
+// The prepared replies that have come to client `d`, which writes, in a mixed transaction too, or
+// the first replies, in the first part of a fast read.
 fn arrived_at(b: &[u64], d: u64) -> u64
     requires { ⌜ (1 ≤ d) × (d ≤ mostClients) ⌝ }
     ensures { λ r. ⌜ r ≡ arrived (clientIn (now (b .entry)) d) ⌝ }
@@ -26,15 +43,16 @@ fn arrived_at(b: &[u64], d: u64) -> u64
     if mode < WRITING {
         return 0;
     }
-    if FIRST_PART < mode {
-        return 0;
+    if mode <= FIRST_PART {
+        return come(client_fields::set_of(b, d), client_fields::awaited(b, d));
     }
-    let set = itemset::count(client_fields::set_of(b, d));
-    let awaited = itemset::count(client_fields::awaited(b, d));
-    if set < awaited {
-        return 0;
+    if mode == MIXING {
+        return come(
+            client_fields::write_set(b, d),
+            client_fields::write_awaited(b, d),
+        );
     }
-    set - awaited
+    0
 }
 
 fn arrived_all(b: &[u64], clients: u64) -> u64
@@ -94,4 +112,19 @@ pub fn occupied_of(b: &[u64], versions: u64, messages: u64) -> u64
         (table messages (messageIn (now (b .entry)))) ⌝ }
 {
     versions + prepares(b, messages)
+}
+
+// Whether they are no more than a block holds. Prepares are counted only where all the messages
+// would be too many.
+pub fn occupied_fits(b: &[u64], versions: u64, messages: u64) -> bool
+    requires { ⌜ (versions ≤ mostVersions) × (messages ≤ mostMessages)
+        × (needed ≤ length (now b)) ⌝ }
+    ensures { λ r. ⌜ r ≡ leb (versions + counted isPrepare
+        (table messages (messageIn (now (b .entry))))) mostVersions ⌝ }
+{
+    if versions + messages <= MOST_VERSIONS {
+        true
+    } else {
+        occupied_of(b, versions, messages) <= MOST_VERSIONS
+    }
 }

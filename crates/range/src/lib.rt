@@ -53,7 +53,7 @@ fn tables_in_range(
         & range_message::versions_in_range(b, versions, clients, items)
         & range_message::messages_in_range(b, messages, clients, partitions, items)
         & (capacity::load_of(b, clients, messages) <= MOST_MESSAGES)
-        & (capacity::occupied_of(b, versions, messages) <= MOST_VERSIONS)
+        & capacity::occupied_fits(b, versions, messages)
 }
 
 fn long_block(b: &[u64]) -> bool

@@ -1,6 +1,6 @@
 // Clients (document 01: desks): the transaction under way and the last ended one, with the stamps
 // and values of their items.
-ghost use mathlib.Core.Bool.{not, _||_};
+ghost use mathlib.Core.Bool.{cond, not, _&&_, _||_};
 ghost use mathlib.Core.Path.{_≡_};
 ghost use Prim.Native.Nat.{suc, _+_, _≤_, _<_};
 ghost use lib.ListN.{length, getD};
@@ -8,12 +8,13 @@ ghost use Rattle.basics.specs.Lists.{every};
 ghost use Rattle.itemset.specs.Set.{has};
 ghost use Rattle.protocol.specs.Range.{fits, each, stampInRange, entryInRange};
 ghost use Rattle.layout.specs.Layout.{mostClients, mostItems, needed, base, scalars, lastValues};
-ghost use Rattle.layout.specs.Layout.{at, modeAt, setAt, itemAt};
+ghost use Rattle.layout.specs.Layout.{at, modeAt, setAt, awaitedAt, lastKindAt, lastSetAt};
+ghost use Rattle.layout.specs.Layout.{lastWriteSetAt, itemAt, isMixedKind};
 ghost use Rattle.layout.specs.Decode.{firstIn};
 ghost use Rattle.gather.specs.Sized.{sized};
-ghost use Rattle.range_client.specs.Clients.{askedTest, lastReadTest, lastWriteTest};
-ghost use Rattle.range_client.specs.Clients.{lastTest, stateTest, firstsTest, runningTest};
-ghost use Rattle.range_client.specs.Clients.{clientTest};
+ghost use Rattle.range_client.specs.Clients.{restTest, stateTest, firstsTest, askedTest};
+ghost use Rattle.range_client.specs.Clients.{mixedTest, runningTest, lastReadTest};
+ghost use Rattle.range_client.specs.Clients.{lastWriteTest, lastTest, clientTest};
 
 pub mod entry;
 
@@ -32,11 +33,14 @@ use layout::FIRSTS;
 use layout::IDLE;
 use layout::LAST_STAMPS;
 use layout::LAST_VALUES;
+use layout::MIXING;
 use layout::MODES;
 use layout::MOST_ITEMS;
 use layout::SECOND_PART;
 use layout::VALUES;
 use layout::WRITING;
+use protocol::kind::MIXED;
+use protocol::kind::NONE;
 use protocol::kind::is_kind;
 use protocol::kind::shows_read;
 use protocol::kind::shows_write;
@@ -138,7 +142,7 @@ fn some_values_in_range(b: &[u64], start: u64, d: u64, set: u64, items: u64) -> 
     ok
 }
 
-// The same, likewise.
+// The same, likewise: only words that a mixed transaction left may be out of range.
 fn values_in_range(b: &[u64], start: u64, d: u64, set: u64, items: u64) -> bool
     requires { ⌜ (start ≤ base lastValues) × (1 ≤ d) × (d ≤ mostClients) × (items ≤ mostItems)
         × (needed ≤ length (now b)) ⌝ }
@@ -154,17 +158,44 @@ fn values_in_range(b: &[u64], start: u64, d: u64, set: u64, items: u64) -> bool
     some_values_in_range(b, start, d, set, items)
 }
 
+// The values of an ended transaction of this kind. A mixed one has two in the halves of a word,
+// both in range whatever the word.
+fn last_values_in_range(b: &[u64], d: u64, kind: u64, set: u64, items: u64) -> bool
+    requires { ⌜ (1 ≤ d) × (d ≤ mostClients) × (items ≤ mostItems) × (needed ≤ length (now b)) ⌝ }
+    ensures { λ r. ⌜ r ≡ (isMixedKind kind || each (sized 0 items) set
+        (λ k. fits (at (now (b .entry)) lastValues (itemAt d k)))) ⌝ }
+{
+    if kind == MIXED {
+        true
+    } else {
+        values_in_range(b, LAST_VALUES, d, set, items)
+    }
+}
+
+// The items that an ended transaction of this kind wrote.
+fn last_written_set(b: &[u64], d: u64, kind: u64) -> u64
+    requires { ⌜ (1 ≤ d) × (d ≤ mostClients) ⌝ }
+    ensures { λ r. ⌜ r ≡ cond (isMixedKind kind) (at (now (b .entry)) scalars (lastWriteSetAt d))
+        (at (now (b .entry)) scalars (lastSetAt d)) ⌝ }
+{
+    if kind == MIXED {
+        client_fields::last_write_set(b, d)
+    } else {
+        client_fields::last_set(b, d)
+    }
+}
+
 // The read part of the last ended transaction, where its kind shows one.
 fn read_in_range(b: &[u64], d: u64, kind: u64, clients: u64, items: u64) -> bool
     requires { ⌜ (1 ≤ d) × (d ≤ mostClients) × (clients ≤ mostClients) × (items ≤ mostItems)
-        × (needed ≤ length (now b)) ⌝ }
+        × (needed ≤ length (now b)) × (kind ≡ at (now b) scalars (lastKindAt d)) ⌝ }
     ensures { λ r. ⌜ r ≡ lastReadTest (now (b .entry)) d kind clients items ⌝ }
 {
     if shows_read(kind) {
         let set = client_fields::last_set(b, d);
         itemset::all_below(set, items)
             & (stamps_in_range(b, LAST_STAMPS, d, set, clients, items)
-                & values_in_range(b, LAST_VALUES, d, set, items))
+                & last_values_in_range(b, d, kind, set, items))
     } else {
         true
     }
@@ -173,14 +204,14 @@ fn read_in_range(b: &[u64], d: u64, kind: u64, clients: u64, items: u64) -> bool
 // Its write part, likewise.
 fn write_in_range(b: &[u64], d: u64, kind: u64, clients: u64, items: u64) -> bool
     requires { ⌜ (1 ≤ d) × (d ≤ mostClients) × (clients ≤ mostClients) × (items ≤ mostItems)
-        × (needed ≤ length (now b)) ⌝ }
+        × (needed ≤ length (now b)) × (kind ≡ at (now b) scalars (lastKindAt d)) ⌝ }
     ensures { λ r. ⌜ r ≡ lastWriteTest (now (b .entry)) d kind clients items ⌝ }
 {
     if shows_write(kind) {
-        let set = client_fields::last_set(b, d);
+        let set = last_written_set(b, d, kind);
         itemset::all_below(set, items)
             & stamp_in_range(clients, client_fields::last_stamp(b, d))
-            & values_in_range(b, LAST_VALUES, d, set, items)
+            & last_values_in_range(b, d, kind, set, items)
     } else {
         true
     }
@@ -192,9 +223,25 @@ fn last_in_range(b: &[u64], d: u64, clients: u64, items: u64) -> bool
     ensures { λ r. ⌜ r ≡ lastTest (now (b .entry)) d clients items ⌝ }
 {
     let kind = client_fields::last_kind(b, d);
+    if kind == NONE {
+        return true;
+    }
     is_kind(kind)
         & read_in_range(b, d, kind, clients, items)
         & write_in_range(b, d, kind, clients, items)
+}
+
+// Whether it is idle exactly when it awaits nothing: a mixed transaction may await prepared replies
+// alone.
+fn rest_in_range(b: &[u64], d: u64, mode: u64, awaited: u64) -> bool
+    requires { ⌜ (1 ≤ d) × (d ≤ mostClients) × (mode ≡ at (now b) scalars (modeAt d))
+        × (awaited ≡ at (now b) scalars (awaitedAt d)) ⌝ }
+    ensures { λ r. ⌜ r ≡ restTest (now (b .entry)) d ⌝ }
+{
+    if (mode == IDLE) == (awaited == 0) {
+        return true;
+    }
+    (mode == MIXING) & (client_fields::write_awaited(b, d) != 0)
 }
 
 // Its mode, count, set and awaited items: it is idle exactly when it awaits none, and those lie in
@@ -211,7 +258,7 @@ fn state_in_range(b: &[u64], d: u64, mode: u64, set: u64, items: u64) -> bool
         & itemset::all_below(set, items)
         & itemset::all_below(awaited, items)
         & (awaited & set == awaited)
-        & ((mode == IDLE) == (awaited == 0))
+        & rest_in_range(b, d, mode, awaited)
 }
 
 // The first replies that have come: those of the items of `set` that aren't in `awaited`, at first
@@ -252,23 +299,39 @@ fn firsts_in_range(b: &[u64], d: u64, mode: u64, set: u64, clients: u64, items: 
     true
 }
 
-// The transaction under way, if it is no write: a stamp and a value for each item, and its first
-// replies. With none under way it has no items, and nothing more to look at.
+// The transaction under way, if it only reads: a stamp and a value for each item, and its first
+// replies.
 fn asked_in_range(b: &[u64], d: u64, mode: u64, set: u64, clients: u64, items: u64) -> bool
     requires { ⌜ (1 ≤ d) × (d ≤ mostClients) × (clients ≤ mostClients) × (items ≤ mostItems)
         × (needed ≤ length (now b)) × (mode ≡ at (now b) scalars (modeAt d))
         × (set ≡ at (now b) scalars (setAt d)) ⌝ }
     ensures { λ r. ⌜ r ≡ askedTest (now (b .entry)) d clients items ⌝ }
 {
-    if set == 0 {
-        return true;
-    }
     stamps_in_range(b, ASKED, d, set, clients, items)
         & values_in_range(b, VALUES, d, set, items)
         & firsts_in_range(b, d, mode, set, clients, items)
 }
 
-// The transaction under way: a write has one stamp, and a value for each item.
+// A mixed transaction under way: neither part is empty, it has a stamp for each item read and one
+// for its write part, and the items awaited in that part lie in its set. Its values are the halves
+// of words, in range whatever the words.
+fn mixed_in_range(b: &[u64], d: u64, set: u64, clients: u64, items: u64) -> bool
+    requires { ⌜ (1 ≤ d) × (d ≤ mostClients) × (clients ≤ mostClients) × (items ≤ mostItems)
+        × (needed ≤ length (now b)) × (set ≡ at (now b) scalars (setAt d)) ⌝ }
+    ensures { λ r. ⌜ r ≡ mixedTest (now (b .entry)) d clients items ⌝ }
+{
+    let written = client_fields::write_set(b, d);
+    let awaited = client_fields::write_awaited(b, d);
+    (set != 0)
+        & (written != 0)
+        & stamps_in_range(b, ASKED, d, set, clients, items)
+        & itemset::all_below(written, items)
+        & itemset::all_below(awaited, items)
+        & (awaited & written == awaited)
+        & stamp_in_range(clients, client_fields::stamp(b, d))
+}
+
+// The transaction under way: a write has one stamp, and a value for each item; any other as above.
 fn running_in_range(b: &[u64], d: u64, mode: u64, set: u64, clients: u64, items: u64) -> bool
     requires { ⌜ (1 ≤ d) × (d ≤ mostClients) × (clients ≤ mostClients) × (items ≤ mostItems)
         × (needed ≤ length (now b)) × (mode ≡ at (now b) scalars (modeAt d))
@@ -276,11 +339,28 @@ fn running_in_range(b: &[u64], d: u64, mode: u64, set: u64, clients: u64, items:
     ensures { λ r. ⌜ r ≡ runningTest (now (b .entry)) d clients items ⌝ }
 {
     if mode == WRITING {
-        stamp_in_range(clients, client_fields::stamp(b, d))
-            & values_in_range(b, VALUES, d, set, items)
-    } else {
-        asked_in_range(b, d, mode, set, clients, items)
+        return stamp_in_range(clients, client_fields::stamp(b, d))
+            & values_in_range(b, VALUES, d, set, items);
     }
+    if mode == MIXING {
+        return mixed_in_range(b, d, set, clients, items);
+    }
+    asked_in_range(b, d, mode, set, clients, items)
+}
+
+// Its count and its transaction under way. With none under way it has no items and awaits none, and
+// there is nothing more to look at.
+fn under_way_in_range(b: &[u64], d: u64, mode: u64, set: u64, clients: u64, items: u64) -> bool
+    requires { ⌜ (1 ≤ d) × (d ≤ mostClients) × (clients ≤ mostClients) × (items ≤ mostItems)
+        × (needed ≤ length (now b)) × (mode ≡ at (now b) scalars (modeAt d))
+        × (set ≡ at (now b) scalars (setAt d)) ⌝ }
+    ensures { λ r. ⌜ r ≡ (stateTest (now (b .entry)) d items
+        && runningTest (now (b .entry)) d clients items) ⌝ }
+{
+    if (mode == IDLE) & (set == 0) {
+        return (client_fields::count(b, d) < 4294967296) & (client_fields::awaited(b, d) == 0);
+    }
+    state_in_range(b, d, mode, set, items) & running_in_range(b, d, mode, set, clients, items)
 }
 
 fn client_in_range(b: &[u64], d: u64, clients: u64, items: u64) -> bool
@@ -290,9 +370,7 @@ fn client_in_range(b: &[u64], d: u64, clients: u64, items: u64) -> bool
 {
     let mode = client_fields::mode(b, d);
     let set = client_fields::set_of(b, d);
-    state_in_range(b, d, mode, set, items)
-        & running_in_range(b, d, mode, set, clients, items)
-        & last_in_range(b, d, clients, items)
+    under_way_in_range(b, d, mode, set, clients, items) & last_in_range(b, d, clients, items)
 }
 
 pub fn clients_in_range(b: &[u64], clients: u64, items: u64) -> bool

@@ -3,28 +3,31 @@
 use mathlib.Core.Bool.{Bool, true, false, not, _&&_, _||_}
 use mathlib.Core.List.{List}
 use mathlib.Core.Logic.{_≢_}
-use mathlib.Core.Path.{_≡_, refl, _∙_}
+use mathlib.Core.Path.{_≡_, refl, sym, ap, _∙_}
 use Prim.Native.Nat.{ℕ, _^_, _≤_, _<_}
 use native.Mathlib.Omega.{arith}
 use lib.Dec.{eqb, ltb, leb}
 use lib.Pow.{pow-pos}
 use borrow.Author.Tests.{le-leb, lt-leb, lt-ltb, eqb-true, eqb-false}
 use Rattle.basics.proofs.Cases.{by-test, test-ext}
-use Rattle.itemset.specs.Set.{has}
+use Rattle.itemset.specs.Set.{has, allBelow}
 use Rattle.protocol.proofs.Tells.{tells-and}
 use Rattle.protocol.specs.declared.Entry.{Entry}
 use Rattle.protocol.specs.declared.Message.{Message}
 use Rattle.protocol.specs.Message.{kinds}
-use Rattle.protocol.specs.Range.{stampInRange, entryInRange, versionInRange, messageInRange}
+use Rattle.protocol.specs.Range.{notInitial, stampInRange, entryInRange, messageInRange}
 use Rattle.layout.specs.Decode.{messageOf, messageIn}
 use Rattle.layout.specs.Encodes.{word}
 use Rattle.gather.specs.Sized.{sizes, sized}
+use Rattle.gather.specs.Words.{owned, ownsTest}
+use Rattle.gather.proofs.Parts.{later-parts}
+use Rattle.gather.proofs.OwnedStamps.{own-word}
 use Rattle.range_message.specs.Messages.{messageTest}
 
 -- ---- the same tests in another order, where those of parts that a kind doesn't have are passed
 
 version-order : (item value stamp later below own : Bool)
-    → (item && value && stamp && later && below && own)
+    → ((item && own) && value && (stamp && later) && below)
     ≡ (item && value && stamp && below && true && later && own)
 version-order item value stamp later below own =
     test-ext _ _ (λ e. let f = simp tells-and at e in simp tells-and search)
@@ -40,6 +43,15 @@ got-order client item value stamp below latest =
 passed : (a : Bool) → (a && true) ≡ a
 passed true = refl
 passed false = refl
+
+grouped : (a b c : Bool) → (a && (b && c)) ≡ (a && b && c)
+grouped true b c = refl
+grouped false b c = refl
+
+-- the word of a stamp that is not to be initial
+pub owned-word : (c stamp : ℕ) {own : ℕ} → c ≤ 8 → stamp < 2 ^ 64 → own ≡ owned c stamp
+    → ownsTest own ≡ (stampInRange (sized c 0) stamp && notInitial stamp)
+owned-word c stamp m l e = ap ownsTest e ∙ own-word c stamp m l ∙ sym (later-parts c 0 stamp)
 
 module _ (clients partitions items : ℕ) (some : 1 ≤ partitions) (one : 1 ≤ items) where
   abbrev numberTest : ℕ → Message → Bool
@@ -60,25 +72,32 @@ module _ (clients partitions items : ℕ) (some : 1 ≤ partitions) (one : 1 ≤
     abbrev whole : Bool
     whole = numberTest kind (messageOf kind who k v stamp s e)
 
-    pub prepare-tests : {ok : Bool}
-        → ok ≡ versionInRange (sized clients items)
-        (record { item = k; value = v; stamp = stamp; set = s }) → kind ≡ 1
-        → ok ≡ whole
-    unfolding messageOf messageInRange versionInRange entryInRange stampInRange
-    prepare-tests p q = rw (p, q, partition-0, empty-below)
+    pub prepare-tests : {later own : Bool}
+        → later ≡ (stampInRange (sized clients 0) stamp && notInitial stamp) → own ≡ has s k
+        → kind ≡ 1
+        → ((ltb k items && own) && ltb v (2 ^ 32) && later && ltb s (2 ^ items)) ≡ whole
+    unfolding messageOf messageInRange entryInRange stampInRange
+    prepare-tests p o q = rw (p, o, q, partition-0, empty-below)
         (version-order (ltb k items) (ltb v (2 ^ 32)) _ (not (eqb stamp 0)) (ltb s (2 ^ items))
         (has s k))
 
-    pub prepared-tests : {stamped : Bool} → stamped ≡ stampInRange (sized clients 0) stamp
-        → kind ≡ 2
-        → (ltb k items && stamped && not (eqb stamp 0)) ≡ whole
+    pub prepared-tests : {later : Bool}
+        → later ≡ (stampInRange (sized clients 0) stamp && notInitial stamp) → kind ≡ 2
+        → (ltb k items && later) ≡ whole
     unfolding messageOf messageInRange entryInRange stampInRange
-    prepared-tests p q = rw (p, q, partition-0, empty-below) (simp passed)
+    prepared-tests p q =
+        ap (λ (x : Bool). ltb k items && x) p
+        ∙ grouped (ltb k items) (stampInRange (sized clients 0) stamp) (notInitial stamp)
+        ∙ rw (q, partition-0, empty-below) (simp passed)
 
-    pub commit-tests : {stamped : Bool} → stamped ≡ stampInRange (sized clients 0) stamp → kind ≡ 3
-        → (ltb who partitions && stamped && not (eqb stamp 0)) ≡ whole
+    pub commit-tests : {later : Bool}
+        → later ≡ (stampInRange (sized clients 0) stamp && notInitial stamp) → kind ≡ 3
+        → (ltb who partitions && later) ≡ whole
     unfolding messageOf messageInRange entryInRange stampInRange
-    commit-tests p q = rw (p, q, item-0, empty-below) (simp passed)
+    commit-tests p q =
+        ap (λ (x : Bool). ltb who partitions && x) p
+        ∙ grouped (ltb who partitions) (stampInRange (sized clients 0) stamp) (notInitial stamp)
+        ∙ rw (q, item-0, empty-below) (simp passed)
 
     pub no-kind-tests : kind ≡ 0 → false ≡ whole
     no-kind-tests q = rw q
@@ -94,10 +113,10 @@ module _ (clients partitions items : ℕ) (some : 1 ≤ partitions) (one : 1 ≤
     first-get-tests q = rw (q, empty-below) (simp passed)
 
   pub got-tests : (kind who k v stamp s : ℕ) (e : Entry) {version entry : Bool}
-      → version ≡ entryInRange (sized clients items) (record { stamp = stamp; set = s })
-      → entry ≡ entryInRange (sized clients items) e → 5 ≤ kind → kind ≢ 6
-      → ((eqb kind 5 || eqb kind 7) && ((leb 1 who && leb who clients) && ltb k items
-      && ltb v (2 ^ 32) && version && entry))
+      → version ≡ stampInRange (sized clients 0) stamp
+      → entry ≡ stampInRange (sized clients 0) (e .stamp) → 5 ≤ kind → kind ≢ 6
+      → (((eqb kind 5 || eqb kind 7) && (leb 1 who && leb who clients) && ltb k items)
+      && ltb v (2 ^ 32) && (version && allBelow s items) && (entry && allBelow (e .set) items))
       ≡ numberTest kind (messageOf kind who k v stamp s e)
   unfolding messageOf messageInRange entryInRange stampInRange
   got-tests kind who k v stamp s e p q l n =
@@ -110,13 +129,15 @@ module _ (clients partitions items : ℕ) (some : 1 ≤ partitions) (one : 1 ≤
       rw (f, g, le-leb 1 kind (omega arith), lt-leb kind kinds past) refl))
 
   -- read off the block
-  pub message-words : (b : List ℕ) (i : ℕ) {r : Bool} {kind who k v stamp s : ℕ} {e : Entry}
-      → r ≡ numberTest kind (messageOf kind who k v stamp s e)
+  pub message-words : (b : List ℕ) (i : ℕ) (before : Bool) {r : Bool} {kind who k v stamp s : ℕ}
+      {e : Entry}
+      → r ≡ (before && numberTest kind (messageOf kind who k v stamp s e))
       → kind ≡ word b i 0 → who ≡ word b i 1 → k ≡ word b i 2 → v ≡ word b i 3 → stamp ≡ word b i 4
       → s ≡ word b i 5
-      → e .stamp ≡ word b i 6 → e .set ≡ word b i 7 → r ≡ messageTest b i clients partitions items
+      → e .stamp ≡ word b i 6 → e .set ≡ word b i 7
+      → r ≡ (before && messageTest b i clients partitions items)
   unfolding messageIn
-  message-words b i {e = e} h p₀ p₁ p₂ p₃ p₄ p₅ p₆ p₇ =
+  message-words b i before {e = e} h p₀ p₁ p₂ p₃ p₄ p₅ p₆ p₇ =
       let entry : e ≡ record { stamp = word b i 6; set = word b i 7 } =
       λ j. record { stamp = p₆ j; set = p₇ j } in
       h ∙ rw (p₀, p₁, p₂, p₃, p₄, p₅, entry)

@@ -12,19 +12,18 @@ ghost use Rattle.layout.specs.Layout.{versionWords, messageWords, needed};
 ghost use Rattle.layout.specs.Layout.{at, versions, messages, versionAt, messageAt};
 ghost use Rattle.layout.specs.Decode.{messageOf, versionIn};
 ghost use Rattle.gather.specs.Sized.{sizes, sized};
-ghost use Rattle.range_message.specs.Messages.{messageTest};
-use gather::entry_in_range;
+ghost use Rattle.gather.specs.Words.{restOf};
+ghost use Rattle.range_message.specs.Messages.{messageTest, gatheredTest};
 use gather::owned;
+use gather::owned_or_initial;
+use gather::owns_pass;
 use gather::rest;
-use gather::stamp_in_range;
-use gather::version_in_range;
 use gather::versions_pass;
 use layout::MESSAGE_WORDS;
 use layout::MESSAGES;
 use layout::VERSION_WORDS;
 use layout::VERSIONS;
 use protocol::Entry;
-use protocol::Version;
 use protocol::message_kind::COMMIT;
 use protocol::message_kind::FIRST_GET;
 use protocol::message_kind::FIRST_REPLY;
@@ -80,9 +79,19 @@ pub fn message_word(b: &[u64], i: u64, f: u64) -> u64
     b[place]
 }
 
+// What a loop gathers of messages: values, stamps and sets by `|`, and whether the rest of each is
+// in range.
+pub struct Gathered {
+    pub ok: bool,
+    pub values: u64,
+    pub owns: u64,
+    pub sets: u64,
+}
+
 // The words of a message that its kind uses. In two groups, since the compiler would make a table
 // of jumps of more than three kinds, which takes longer than to compare.
-fn words_in_range(
+fn words_gathered(
+    g: Gathered,
     kind: u64,
     who: u64,
     item: u64,
@@ -91,55 +100,98 @@ fn words_in_range(
     set: u64,
     latest: Entry,
     clients: u64,
+    rest: u64,
     partitions: u64,
     items: u64,
-) -> bool
-    requires { ⌜ (clients ≤ mostClients) × (1 ≤ partitions) × (1 ≤ items) ⌝ }
-    ensures { λ r. ⌜ r ≡ (leb 1 kind && leb kind kinds
+) -> Gathered
+    requires { ⌜ (clients ≤ mostClients) × (rest ≡ restOf clients) × (1 ≤ partitions)
+        × (1 ≤ items) ⌝ }
+    ensures { λ r. ⌜ gatheredTest items r ≡ (gatheredTest items g && (leb 1 kind && leb kind kinds
         && messageInRange (sizes clients partitions items)
-        (messageOf kind who item value stamp set latest)) ⌝ }
+        (messageOf kind who item value stamp set latest))) ⌝ }
 {
+    let ok = g.ok;
+    let values = g.values;
+    let owns = g.owns;
+    let sets = g.sets;
     if kind < GET {
         if kind == PREPARE {
-            return version_in_range(
-                clients,
-                items,
-                Version {
-                    item: item,
-                    value: value,
-                    stamp: stamp,
-                    set: set,
-                },
-            );
+            return Gathered {
+                ok: ok & ((item < items) & itemset::has(set, item)),
+                values: values | value,
+                owns: owns | owned(stamp, clients, rest),
+                sets: sets | set,
+            };
         }
         if kind == PREPARED {
-            return (item < items) & stamp_in_range(clients, stamp) & (stamp != 0);
+            return Gathered {
+                ok: ok & (item < items),
+                values: values,
+                owns: owns | owned(stamp, clients, rest),
+                sets: sets,
+            };
         }
         if kind == COMMIT {
-            return (who < partitions) & stamp_in_range(clients, stamp) & (stamp != 0);
+            return Gathered {
+                ok: ok & (who < partitions),
+                values: values,
+                owns: owns | owned(stamp, clients, rest),
+                sets: sets,
+            };
         }
-        return false;
+        return Gathered {
+            ok: false,
+            values: values,
+            owns: owns,
+            sets: sets,
+        };
     }
     if kind == GET {
-        return ((1 <= who) & (who <= clients)) & (item < items) & stamp_in_range(clients, stamp);
+        return Gathered {
+            ok: ok & (((1 <= who) & (who <= clients)) & (item < items)),
+            values: values,
+            owns: owns | owned_or_initial(stamp, clients, rest),
+            sets: sets,
+        };
     }
     if kind == FIRST_GET {
-        return ((1 <= who) & (who <= clients)) & (item < items);
+        let right = ((1 <= who) & (who <= clients)) & (item < items);
+        return Gathered {
+            ok: ok & right,
+            values: values,
+            owns: owns,
+            sets: sets,
+        };
     }
-    ((kind == GOT) | (kind == FIRST_REPLY))
-        & (((1 <= who) & (who <= clients))
-            & (item < items)
-            & (value < 4294967296)
-            & entry_in_range(clients, items, Entry { stamp, set })
-            & entry_in_range(clients, items, latest))
+    Gathered {
+        ok: ok
+            & (((kind == GOT) | (kind == FIRST_REPLY))
+                & ((1 <= who) & (who <= clients))
+                & (item < items)),
+        values: values | value,
+        owns: owns
+            | (owned_or_initial(stamp, clients, rest)
+                | owned_or_initial(latest.stamp, clients, rest)),
+        sets: sets | (set | latest.set),
+    }
 }
 
-fn message_in_range(b: &[u64], i: u64, clients: u64, partitions: u64, items: u64) -> bool
-    requires { ⌜ (i < mostMessages) × (clients ≤ mostClients) × (1 ≤ partitions) × (1 ≤ items)
-        × (needed ≤ length (now b)) ⌝ }
-    ensures { λ r. ⌜ r ≡ messageTest (now (b .entry)) i clients partitions items ⌝ }
+fn message_gathered(
+    g: Gathered,
+    b: &[u64],
+    i: u64,
+    clients: u64,
+    rest: u64,
+    partitions: u64,
+    items: u64,
+) -> Gathered
+    requires { ⌜ (i < mostMessages) × (clients ≤ mostClients) × (rest ≡ restOf clients)
+        × (1 ≤ partitions) × (1 ≤ items) × (needed ≤ length (now b)) ⌝ }
+    ensures { λ r. ⌜ gatheredTest items r ≡ (gatheredTest items g
+        && messageTest (now (b .entry)) i clients partitions items) ⌝ }
 {
-    words_in_range(
+    words_gathered(
+        g,
         message_word(b, i, 0),
         message_word(b, i, 1),
         message_word(b, i, 2),
@@ -151,22 +203,40 @@ fn message_in_range(b: &[u64], i: u64, clients: u64, partitions: u64, items: u64
             set: message_word(b, i, 7),
         },
         clients,
+        rest,
         partitions,
         items,
     )
 }
 
-// The first `n` messages.
+// The one test of all messages.
+fn gathered_pass(g: Gathered, items: u64) -> bool
+    ensures { λ r. ⌜ r ≡ gatheredTest items g ⌝ }
+{
+    g.ok & (g.values < 4294967296) & owns_pass(g.owns) & itemset::all_below(g.sets, items)
+}
+
+// The first `n` messages, tested once. Where there are none nothing is tested, which most calls on
+// a block at rest find.
 pub fn messages_in_range(b: &[u64], n: u64, clients: u64, partitions: u64, items: u64) -> bool
     requires { ⌜ (n ≤ mostMessages) × (clients ≤ mostClients) × (1 ≤ partitions) × (1 ≤ items)
         × (needed ≤ length (now b)) ⌝ }
     ensures { λ r. ⌜ r ≡ every n (λ i. messageTest (now (b .entry)) i clients partitions items) ⌝ }
 {
-    let mut ok = true;
+    if n == 0 {
+        return true;
+    }
+    let rest = rest(clients);
+    let mut g = Gathered {
+        ok: true,
+        values: 0,
+        owns: 0,
+        sets: 0,
+    };
     let mut i = 0;
     while i < n {
-        ok = ok & message_in_range(b, i, clients, partitions, items);
+        g = message_gathered(g, b, i, clients, rest, partitions, items);
         i += 1;
     }
-    ok
+    gathered_pass(g, items)
 }

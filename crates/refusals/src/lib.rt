@@ -5,9 +5,9 @@ ghost use Prim.Native.Nat.{_≤_, _<_};
 ghost use lib.Dec.{eqb};
 ghost use Rattle.itemset.specs.Set.{allBelow};
 ghost use Rattle.protocol.specs.Range.{capacities, isClient};
-ghost use Rattle.protocol.specs.Calls.{startRead, startWrite, show, clear, handOver, compare};
-ghost use Rattle.protocol.specs.Calls.{refusal};
-ghost use Rattle.layout.specs.Layout.{header, scalars, at, itemsAt, modeAt};
+ghost use Rattle.protocol.specs.Calls.{startRead, startWrite, startMixed, show, clear, handOver};
+ghost use Rattle.protocol.specs.Calls.{compare, first, writeTests, refusal};
+ghost use Rattle.layout.specs.Layout.{mostMessages, header, scalars, at, itemsAt, modeAt};
 ghost use Rattle.layout.specs.Decode.{sizesIn, tablesOf, validBlock};
 ghost use Rattle.gather.specs.Sized.{sizes};
 ghost use Rattle.start.specs.Start.{greatestOn};
@@ -111,24 +111,26 @@ pub fn of_read(b: &[u64], d: u64, s: u64) -> u64
     }
 }
 
-// A write by a client that exists, on a valid block.
-fn of_client_write(b: &[u64], d: u64, s: u64, bytes: &[u8]) -> u64
-    requires { ⌜ (validBlock (now b) ≡ true) × (isClient (sizesIn (now b)) d ≡ true) ⌝ }
-    ensures { λ r. ⌜ r ≡ refusal capacities (tablesOf (now (b .entry)))
-        (startWrite d s (now (bytes .entry))) ⌝ }
+// A write of set `s` by a client that exists, on a valid block, alone or in a mixed transaction:
+// whether a set is bad, and how many messages would join.
+fn of_client_writing(b: &[u64], d: u64, bad: bool, s: u64, bytes: &[u8], joining: u64) -> u64
+    requires { ⌜ (validBlock (now b) ≡ true) × (isClient (sizesIn (now b)) d ≡ true)
+        × (joining ≤ mostMessages) ⌝ }
+    ensures { λ r. ⌜ r ≡ first (writeTests capacities (tablesOf (now (b .entry))) d bad s
+        (now (bytes .entry)) joining) ⌝ }
 {
     let items = count(s);
     let values = bytes.len() as u64 == 4 * items;
     let wide = MOST_WRITE_ITEMS < items;
     let spent = no_number_left(b, d);
-    let full = MOST_MESSAGES < load(b) + items;
+    let full = MOST_MESSAGES < load(b) + joining;
     let stored = MOST_VERSIONS < occupied(b) + items;
     refuse(
         4,
         busy(b, d),
         refuse(
             5,
-            bad_set(b, s),
+            bad,
             refuse(
                 6,
                 !values,
@@ -148,9 +150,36 @@ fn of_valid_write(b: &[u64], d: u64, s: u64, bytes: &[u8]) -> u64
         (startWrite d s (now (bytes .entry))) ⌝ }
 {
     if is_client(b, d) {
-        of_client_write(b, d, s, bytes)
+        let joining = count(s);
+        of_client_writing(b, d, bad_set(b, s), s, bytes, joining)
     } else {
         3
+    }
+}
+
+fn of_valid_mixed(b: &[u64], d: u64, r: u64, s: u64, bytes: &[u8]) -> u64
+    requires { ⌜ validBlock (now b) ≡ true ⌝ }
+    ensures { λ x. ⌜ x ≡ refusal capacities (tablesOf (now (b .entry)))
+        (startMixed d r s (now (bytes .entry))) ⌝ }
+{
+    if is_client(b, d) {
+        let reads = count(r);
+        let writes = count(s);
+        let bad_reads = bad_set(b, r);
+        let bad_writes = bad_set(b, s);
+        of_client_writing(b, d, bad_reads | bad_writes, s, bytes, reads + writes)
+    } else {
+        3
+    }
+}
+
+pub fn of_mixed(b: &[u64], d: u64, r: u64, s: u64, bytes: &[u8]) -> u64
+    ensures { λ x. ⌜ x ≡ refusalOn (now (b .entry)) (startMixed d r s (now (bytes .entry))) ⌝ }
+{
+    if valid_block(b) {
+        of_valid_mixed(b, d, r, s, bytes)
+    } else {
+        1
     }
 }
 

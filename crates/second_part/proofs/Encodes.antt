@@ -157,7 +157,7 @@ module _ {a b : List ℕ} {t : Tables} {d : ℕ} {w : Words} (c : Client) (n : E
         rw (set-word, stale-read, some)
         (encodes-sends _ t d (stale items p) (withRead c after) (λ x k. getOf false d k x)
         (λ k. Get d k (after .asked k))
-        (λ x held k e. ap (Get d k) (held .read reads .asked k (stale-in-set items p k e)))
+        (λ x held k e. ap (Get d k) (held .read (rw reads refl) .asked k (stale-in-set items p k e)))
         (encodes-changed n r last
         (changed-put (changed-put asks-changed scalars 0 4 (lit< tt)) scalars 3 (stale items p)
         (lit< tt)) narrow-after hold)

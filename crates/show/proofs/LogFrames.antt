@@ -9,7 +9,7 @@ use native.Mathlib.Omega.{arith}
 use lib.Dec.{eqb}
 use lib.ListN.{length, length-append}
 use lib.Pow.{pow-pos}
-use borrow.Author.Tests.{eqb-true, ne-eqb}
+use borrow.Author.Tests.{ne-eqb}
 use Rattle.basics.proofs.Cases.{by-test}
 use Rattle.hex.specs.Number.{bigEndian}
 use Rattle.hex.proofs.Number.{length-bigEndian}
@@ -22,12 +22,13 @@ use Rattle.protocol.specs.Range.{isClient}
 use Rattle.protocol.specs.LogFrame.{mostLogFrame, shownEntry, readBytes, writeBytes, frameByte}
 use Rattle.protocol.specs.LogFrame.{frame}
 use Rattle.protocol.specs.Calls.{isNothing, shownFrame}
-use Rattle.protocol.proofs.Shown.{length-read, length-write, shownRead, shownWrite, length-frame}
+use Rattle.protocol.proofs.Shown.{length-read, length-write, length-frame}
 use Rattle.layout.specs.Layout.{scalars, lastStamps, lastValues, at, lastKindAt, lastSetAt}
-use Rattle.layout.specs.Layout.{lastStampAt, itemAt}
+use Rattle.layout.specs.Layout.{lastStampAt, itemAt, readValue, writtenValue}
 use Rattle.layout.specs.Decode.{within, lastReadIn, lastWriteIn, sizesIn, clientIn, tablesOf}
-use Rattle.show.specs.Show.{frameIn, head, readItem, writtenItem, readPart, writePart}
-use Rattle.show.specs.Show.{readShown, writeShown, readLength, writeLength}
+use Rattle.show.specs.Show.{frameIn, head, lastMixed, lastWrittenSet, readItem, writtenItem}
+use Rattle.show.specs.Show.{readPart, writePart, readShown, writeShown, readLength}
+use Rattle.show.specs.Show.{writeLength}
 use Rattle.show.proofs.Listed.{listed-ext}
 
 -- ---- lengths of the parts
@@ -39,11 +40,13 @@ length-shownEntry : (stamp value : ℕ) → length (shownEntry stamp value) ≡ 
 length-shownEntry stamp value = simp (length-append, length-bigEndian)
 
 pub length-readItem : (b : List ℕ) (d k : ℕ) → length (readItem b d k) ≡ 9
-length-readItem b d k = length-shownEntry (at b lastStamps (itemAt d k))
-    (at b lastValues (itemAt d k))
+length-readItem b d k =
+    length-shownEntry (at b lastStamps (itemAt d k))
+    (readValue (lastMixed b d) (at b lastValues (itemAt d k)))
 
 pub length-writtenItem : (b : List ℕ) (d k : ℕ) → length (writtenItem b d k) ≡ 4
-length-writtenItem b d k = length-bigEndian 4 (at b lastValues (itemAt d k))
+length-writtenItem b d k =
+    length-bigEndian 4 (writtenValue (lastMixed b d) (at b lastValues (itemAt d k)))
 
 -- ---- the last ended transaction
 
@@ -51,8 +54,11 @@ module _ (b : List ℕ) (d : ℕ) where
   abbrev stamps : ℕ → ℕ
   stamps k = at b lastStamps (itemAt d k)
 
+  abbrev answers : ℕ → ℕ
+  answers k = readValue (lastMixed b d) (at b lastValues (itemAt d k))
+
   abbrev values : ℕ → ℕ
-  values k = at b lastValues (itemAt d k)
+  values k = writtenValue (lastMixed b d) (at b lastValues (itemAt d k))
 
   -- refusal 13
   pub isNothing-last : isNothing (clientIn b d .last) ≡ eqb (at b scalars (lastKindAt d)) 0
@@ -70,13 +76,13 @@ module _ (b : List ℕ) (d : ℕ) where
   read-words =
       let s = at b scalars (lastSetAt d) in
       ap (λ (l : List ℕ). bigEndian 8 s ++ l)
-      (listed-ext (λ k. shownEntry (within s stamps k) (within s values k)) (readItem b d) s 64
+      (listed-ext (λ k. shownEntry (within s stamps k) (within s answers k)) (readItem b d) s 64
       (λ k h. rw h))
 
-  write-words : writeBytes (lastWriteIn b d) ≡ writePart b d (at b scalars (lastSetAt d))
+  write-words : writeBytes (lastWriteIn b d) ≡ writePart b d (lastWrittenSet b d)
   unfolding writeBytes
   write-words =
-      let s = at b scalars (lastSetAt d) in
+      let s = lastWrittenSet b d in
       let number = numberOf (at b scalars (lastStampAt d)) in
       ap (λ (l : List ℕ). bigEndian 8 s ++ bigEndian 4 number ++ l)
       (listed-ext (λ k. bigEndian 4 (within s values k)) (writtenItem b d) s 64 (λ k h. rw h))
@@ -90,22 +96,25 @@ shown-bytes false bytes part none words e = refl
 
 -- ---- lengths of what is shown
 
-module _ (b : List ℕ) (d kind : ℕ) (below : at b scalars (lastSetAt d) < 2 ^ 64) where
-  abbrev s : ℕ
-  s = at b scalars (lastSetAt d)
-
-  length-readShown : length (readShown b d kind s) ≡ readLength kind s
-  length-readShown =
+module _ (b : List ℕ) (d kind : ℕ) where
+  length-readShown : let s = at b scalars (lastSetAt d) in
+      s < 2 ^ 64 → length (readShown b d kind s) ≡ readLength kind s
+  length-readShown below =
       by-test (showsRead kind)
       (λ e. rw e (ap length (sym (read-words b d))
-      ∙ omega (arith, length-read (lastReadIn b d), length-members s 64 below)))
+      ∙ omega (
+        arith,
+        length-read (lastReadIn b d),
+        length-members (at b scalars (lastSetAt d)) 64 below,
+      )))
       (λ e. rw e refl)
 
-  length-writeShown : length (writeShown b d kind s) ≡ writeLength kind s
-  length-writeShown =
+  length-writeShown : let s = lastWrittenSet b d in
+      s < 2 ^ 64 → length (writeShown b d kind s) ≡ writeLength kind s
+  length-writeShown below =
       by-test (showsWrite kind)
       (λ e. rw e (ap length (sym (write-words b d))
-      ∙ omega (arith, length-write (lastWriteIn b d), length-members s 64 below)))
+      ∙ omega (arith, length-write (lastWriteIn b d), length-members (lastWrittenSet b d) 64 below)))
       (λ e. rw e refl)
 
 pub readLength-le : (kind s : ℕ) → s < 2 ^ 64 → readLength kind s ≤ 584
@@ -118,7 +127,7 @@ writeLength-le kind s below =
     by-test (showsWrite kind) (λ e. rw e (omega (arith, count-le s 64 below)))
     (λ e. rw e (omega arith))
 
--- ---- the frame and its length, by kind and set as read from the block
+-- ---- the frame and its length, by kind and sets as read from the block
 
 module _ (b : List ℕ) (d : ℕ) {kind set : ℕ} (k : kind ≡ at b scalars (lastKindAt d))
     (s : set ≡ at b scalars (lastSetAt d)) where
@@ -126,12 +135,13 @@ module _ (b : List ℕ) (d : ℕ) {kind set : ℕ} (k : kind ≡ at b scalars (l
   unfolding clientIn frame
   frameIn-nothing e = rw (sym k ∙ e)
 
-  pub frameIn-shown : (kind ≡ 0 → ⊥)
-      → frameIn b d ≡ head (frameByte kind) d ++ readShown b d kind set ++ writeShown b d kind set
+  pub frameIn-shown : {written : ℕ} → written ≡ lastWrittenSet b d → (kind ≡ 0 → ⊥)
+      → frameIn b d
+      ≡ head (frameByte kind) d ++ readShown b d kind set ++ writeShown b d kind written
   unfolding clientIn frame
-  frameIn-shown some =
+  frameIn-shown w some =
       let n = at b scalars (lastKindAt d) in
-      rw (ne-eqb n 0 (λ e. some (k ∙ e)), k, s)
+      rw (ne-eqb n 0 (λ e. some (k ∙ e)), w, k, s)
       (ap₂ (λ (x y : List ℕ). head (frameByte n) d ++ x ++ y)
       (shown-bytes (showsRead n) readBytes (lastReadIn b d) noRead _ (read-words b d))
       (shown-bytes (showsWrite n) writeBytes (lastWriteIn b d) noWrite _ (write-words b d)))
@@ -148,14 +158,16 @@ module _ (b : List ℕ) (d : ℕ) {kind set : ℕ} (k : kind ≡ at b scalars (l
         length-readShown b d kind (rw s at below),
       ))
 
-  pub length-frameIn : set < 2 ^ 64 → (kind ≡ 0 → ⊥)
-      → length (frameIn b d) ≡ 2 + readLength kind set + writeLength kind set
-  length-frameIn below some =
-      ap length (frameIn-shown some)
-      ∙ length-append (head (frameByte kind) d ++ readShown b d kind set) (writeShown b d kind set)
-      ∙ ap₂ _+_ (length-before below) (rw s (length-writeShown b d kind (rw s at below)))
+  pub length-frameIn : {written : ℕ} → written ≡ lastWrittenSet b d → set < 2 ^ 64 → written < 2 ^ 64
+      → (kind ≡ 0 → ⊥)
+      → length (frameIn b d) ≡ 2 + readLength kind set + writeLength kind written
+  length-frameIn {written} w below within some =
+      ap length (frameIn-shown w some)
+      ∙ length-append (head (frameByte kind) d ++ readShown b d kind set)
+      (writeShown b d kind written)
+      ∙ ap₂ _+_ (length-before below) (rw w (length-writeShown b d kind (rw w at within)))
 
--- ---- no frame is longer than that of a read of 64 items
+-- ---- no frame is longer than that of a mixed transaction of 64 items and 64
 
 rank-le-item : (s k : ℕ) → rank s k ≤ k
 rank-le-item s k = rw (rank-mod s k) (count-le (s % 2 ^ k) k (mod-lt s (pow-pos k)))
@@ -176,27 +188,12 @@ nothing-le : (d : ℕ) (e : Ended) → eqb (e .kind) 0 ≡ true → length (fram
 unfolding frame
 nothing-le d e z = rw z (omega arith)
 
--- no kind shows both parts
-one-part : (kind : ℕ) → showsRead kind ≡ true → showsWrite kind ≡ false
-one-part kind s =
-    by-test (eqb kind 1) (λ e. rw (eqb-true kind 1 e) refl)
-    (λ e. rw (eqb-true kind 3 (rw e at s)) refl)
-
 pub length-frame-le : (d : ℕ) (e : Ended) → length (frame d e) ≤ mostLogFrame
 length-frame-le d e =
     by-test (eqb (e .kind) 0) (nothing-le d e)
-    (λ z. by-test (showsRead (e .kind))
-    (λ r.
-    let none : length (shownWrite e) ≡ 0 = rw (one-part (e .kind) r) refl in
-    omega (
+    (λ z. omega (
       arith,
       length-frame d e z,
       shown-le (showsRead (e .kind)) (readBytes (e .read)) 584 (length-read-le (e .read)),
-    ))
-    (λ r.
-    let none : length (shownRead e) ≡ 0 = rw r refl in
-    omega (
-      arith,
-      length-frame d e z,
       shown-le (showsWrite (e .kind)) (writeBytes (e .write)) 268 (length-write-le (e .write)),
-    )))
+    ))

@@ -1,5 +1,5 @@
 -- The log frame that a block holds for a client, and its parts as the words of the block give them.
-use mathlib.Core.Bool.{cond}
+use mathlib.Core.Bool.{Bool, cond}
 use mathlib.Core.List.{List, [], _∷_, _++_}
 use Prim.Native.Nat.{ℕ, _+_, _*_}
 use lib.Seq.{sets}
@@ -7,7 +7,9 @@ use Rattle.hex.specs.Number.{bigEndian}
 use Rattle.itemset.specs.Set.{has, count, rank, members}
 use Rattle.protocol.specs.LogFrame.{listed, shownEntry, frame}
 use Rattle.protocol.specs.Tables.{showsRead, showsWrite, numberOf}
-use Rattle.layout.specs.Layout.{scalars, lastStamps, lastValues, at, lastStampAt, itemAt}
+use Rattle.layout.specs.Layout.{scalars, lastStamps, lastValues, at, lastKindAt, lastSetAt}
+use Rattle.layout.specs.Layout.{lastStampAt, lastWriteSetAt, itemAt, isMixedKind, readValue}
+use Rattle.layout.specs.Layout.{writtenValue}
 use Rattle.layout.specs.Decode.{clientIn}
 
 -- the log frame of client d's last ended transaction; empty where none has ended
@@ -20,13 +22,23 @@ frameIn b d = frame d (clientIn b d .last)
 abbrev pub head : ℕ → ℕ → List ℕ
 head byte d = byte ∷ bigEndian 1 d
 
--- item k of a last read: its number, writing client and value
-abbrev pub readItem : List ℕ → ℕ → ℕ → List ℕ
-readItem b d k = shownEntry (at b lastStamps (itemAt d k)) (at b lastValues (itemAt d k))
+-- the last ended transaction is a mixed one; the items that it wrote, if it did
+abbrev pub lastMixed : List ℕ → ℕ → Bool
+lastMixed b d = isMixedKind (at b scalars (lastKindAt d))
 
--- item k of a last write: its value
+abbrev pub lastWrittenSet : List ℕ → ℕ → ℕ
+lastWrittenSet b d =
+    cond (lastMixed b d) (at b scalars (lastWriteSetAt d)) (at b scalars (lastSetAt d))
+
+-- item k of a last read part: its number, writing client and value
+abbrev pub readItem : List ℕ → ℕ → ℕ → List ℕ
+readItem b d k =
+    shownEntry (at b lastStamps (itemAt d k))
+    (readValue (lastMixed b d) (at b lastValues (itemAt d k)))
+
+-- item k of a last write part: its value
 abbrev pub writtenItem : List ℕ → ℕ → ℕ → List ℕ
-writtenItem b d k = bigEndian 4 (at b lastValues (itemAt d k))
+writtenItem b d k = bigEndian 4 (writtenValue (lastMixed b d) (at b lastValues (itemAt d k)))
 
 -- item k of s, as the n bytes f k, behind those of the items below it, which begin at `first`
 abbrev pub putItem : (ℕ → List ℕ) → ℕ → ℕ → ℕ → List ℕ → ℕ → List ℕ

@@ -6,21 +6,27 @@ ghost use Prim.Native.Nat.{_+_, _*_, _≤_, _<_};
 ghost use lib.ListN.{length, drop};
 ghost use lib.Seq.{sets};
 ghost use Rattle.itemset.specs.Set.{count};
-ghost use Rattle.layout.specs.Layout.{at, scalars, lastStampAt};
+ghost use Rattle.layout.specs.Layout.{at, scalars, lastValues, lastStampAt, itemAt, readValue};
+ghost use Rattle.layout.specs.Layout.{writtenValue};
 ghost use Rattle.protocol.specs.LogFrame.{frameByte};
 ghost use Rattle.protocol.specs.Tables.{numberOf};
-ghost use Rattle.show.specs.Show.{frameIn, head, readItem, writtenItem, putItem, readPart};
-ghost use Rattle.show.specs.Show.{writePart};
+ghost use Rattle.show.specs.Show.{frameIn, head, lastMixed, lastWrittenSet, readItem};
+ghost use Rattle.show.specs.Show.{writtenItem, putItem, readPart, writePart};
 ghost use Rattle.show.specs.Show.{readLength, writeLength, readShown, writeShown};
 use client_fields::last_kind;
 use client_fields::last_read_stamp;
 use client_fields::last_set;
 use client_fields::last_stamp;
 use client_fields::last_value;
+use client_fields::last_write_set;
 use hex::put_bytes;
 use itemset::count;
 use itemset::has;
 use itemset::rank;
+use layout::values::read_value;
+use layout::values::written_value;
+use protocol::kind::FAST_READ;
+use protocol::kind::MIXED;
 use protocol::kind::NONE;
 use protocol::kind::READ;
 use protocol::kind::WRITE;
@@ -35,8 +41,43 @@ fn frame_byte(kind: u64) -> u8
         0x21
     } else if kind == WRITE {
         0x20
-    } else {
+    } else if kind == FAST_READ {
         0x23
+    } else {
+        0x24
+    }
+}
+
+// The answer of item `k` in the last ended transaction.
+fn last_answer(b: &[u64], d: u64, k: u64) -> u64
+    requires { ⌜ (1 ≤ d) × (d ≤ 8) × (k < 64) ⌝ }
+    ensures { λ r. ⌜ r ≡ readValue (lastMixed (now (b .entry)) d)
+        (at (now (b .entry)) lastValues (itemAt d k)) ⌝ }
+{
+    let mixed = last_kind(b, d) == MIXED;
+    read_value(mixed, last_value(b, d, k))
+}
+
+// The value of item `k` that it wrote.
+fn last_value_written(b: &[u64], d: u64, k: u64) -> u64
+    requires { ⌜ (1 ≤ d) × (d ≤ 8) × (k < 64) ⌝ }
+    ensures { λ r. ⌜ r ≡ writtenValue (lastMixed (now (b .entry)) d)
+        (at (now (b .entry)) lastValues (itemAt d k)) ⌝ }
+{
+    let mixed = last_kind(b, d) == MIXED;
+    written_value(mixed, last_value(b, d, k))
+}
+
+// The items that the last ended transaction wrote, if it did.
+fn last_written_set(b: &[u64], d: u64) -> u64
+    requires { ⌜ (1 ≤ d) × (d ≤ 8) ⌝ }
+    ensures { λ r. ⌜ r ≡ lastWrittenSet (now (b .entry)) d ⌝ }
+{
+    let set = last_set(b, d);
+    if last_kind(b, d) == MIXED {
+        last_write_set(b, d)
+    } else {
+        set
     }
 }
 
@@ -56,7 +97,7 @@ fn put_entry(b: &[u64], d: u64, k: u64, out: &mut [u8], at: usize)
         (readItem (now (b .entry)) d k) ⌝ }
 {
     let stamp = last_read_stamp(b, d, k);
-    let value = last_value(b, d, k);
+    let value = last_answer(b, d, k);
     put_bytes(out, at, 4, stamp / 16);
     put_bytes(out, at + 4, 1, stamp % 16);
     put_bytes(out, at + 5, 4, value);
@@ -73,7 +114,7 @@ fn put_read_item(b: &[u64], d: u64, s: u64, out: &mut [u8], at: usize, k: u64)
     }
 }
 
-// The read part of a last read of set `s`: the set, then its entries, ascending.
+// The read part of a last transaction that read set `s`: the set, then its entries, ascending.
 fn put_read_part(b: &[u64], d: u64, s: u64, out: &mut [u8], at: usize)
     requires { ⌜ (1 ≤ d) × (d ≤ 8) × (at + 8 + 9 * count s ≤ length (now out)) ⌝ }
     ensures { λ _. ⌜ now (out .exit) ≡ sets (now (out .entry)) at
@@ -96,7 +137,12 @@ fn put_written_item(b: &[u64], d: u64, s: u64, out: &mut [u8], at: usize, k: u64
         (now (out .entry)) k ⌝ }
 {
     if has(s, k) {
-        put_bytes(out, at + (4 * rank(s, k)) as usize, 4, last_value(b, d, k));
+        put_bytes(
+            out,
+            at + (4 * rank(s, k)) as usize,
+            4,
+            last_value_written(b, d, k),
+        );
     }
 }
 
@@ -108,7 +154,7 @@ fn last_number(b: &[u64], d: u64) -> u64
     last_stamp(b, d) / 16
 }
 
-// The write part of a last write of set `s`: the set, the write's number, then the values,
+// The write part of a last transaction that wrote set `s`: the set, its number, then the values,
 // ascending.
 fn put_write_part(b: &[u64], d: u64, s: u64, out: &mut [u8], at: usize)
     requires { ⌜ (1 ≤ d) × (d ≤ 8) × (at + 12 + 4 * count s ≤ length (now out)) ⌝ }
@@ -147,7 +193,7 @@ fn write_length(kind: u64, s: u64) -> u64
     }
 }
 
-// The read part and the write part of a last transaction of this kind and set `s`, if it shows it.
+// The read part and the write part of a last transaction of this kind, of set `s`, if it shows it.
 fn put_shown_read(b: &[u64], d: u64, kind: u64, s: u64, out: &mut [u8], at: usize)
     requires { ⌜ (1 ≤ d) × (d ≤ 8) × (at + readLength kind s ≤ length (now out)) ⌝ }
     ensures { λ _. ⌜ now (out .exit) ≡ sets (now (out .entry)) at
@@ -174,12 +220,13 @@ pub fn frame_length(b: &[u64], d: u64) -> u64
     requires { ⌜ (1 ≤ d) × (d ≤ 8) ⌝ }
     ensures { λ r. ⌜ r ≡ length (frameIn (now (b .entry)) d) ⌝ }
 {
+    let written = last_written_set(b, d);
     let s = last_set(b, d);
     let kind = last_kind(b, d);
     if kind == NONE {
         0
     } else {
-        2 + read_length(kind, s) + write_length(kind, s)
+        2 + read_length(kind, s) + write_length(kind, written)
     }
 }
 
@@ -189,6 +236,7 @@ pub fn write_frame(b: &[u64], d: u64, out: &mut [u8])
     ensures { λ _. ⌜ now (out .exit) ≡ frameIn (now (b .entry)) d
         ++ drop (length (frameIn (now (b .entry)) d)) (now (out .entry)) ⌝ }
 {
+    let written = last_written_set(b, d);
     let s = last_set(b, d);
     let kind = last_kind(b, d);
     if kind == NONE {
@@ -197,5 +245,5 @@ pub fn write_frame(b: &[u64], d: u64, out: &mut [u8])
     let behind = 2 + read_length(kind, s);
     put_head(out, frame_byte(kind), d);
     put_shown_read(b, d, kind, s, out, 2);
-    put_shown_write(b, d, kind, s, out, behind as usize);
+    put_shown_write(b, d, kind, written, out, behind as usize);
 }

@@ -21,7 +21,7 @@ use Rattle.protocol.specs.FastRead.{startedFastRead}
 use Rattle.protocol.specs.Steps.{choice, asks, startedRead}
 use Rattle.protocol.proofs.FastRead.{no-first}
 use Rattle.protocol.proofs.Refusals.{AcceptedStart}
-use Rattle.layout.specs.Layout.{scalars, asked, at, itemAt, stageOf, readMode}
+use Rattle.layout.specs.Layout.{scalars, asked, at, itemAt, isMixedMode, stageOf, readMode}
 use Rattle.layout.specs.Decode.{viewIn}
 use Rattle.layout.specs.Encodes.{Encodes}
 use Rattle.layout.proofs.Room.{HasRoom, NarrowClient, narrow-below, room-valid}
@@ -65,7 +65,7 @@ module _ (b : List ℕ) (t : Tables) (d s : ℕ) (n : Encodes b t)
   module _ (stage : ℕ) (stamps words : ℕ → ℕ) (x : List ℕ)
       (changed : Changed d b x (askedWords b d s words items))
       (same : (k : ℕ) → k < items → has s k ≡ true → words k ≡ stamps k)
-      (staged : stageOf (readMode stage) ≡ stage)
+      (staged : stageOf (readMode stage) ≡ stage) (unmixed : isMixedMode (readMode stage) ≡ false)
       (none : (k : ℕ) → hasFirst (partOf stage stamps) k ≡ false) where
     abbrev reader : Client
     reader = readerOf stage stamps
@@ -93,7 +93,8 @@ module _ (b : List ℕ) (t : Tables) (d s : ℕ) (n : Encodes b t)
             stage = staged;
             asked = λ k i. let l : k < items = has-below s k items (a .set) i in
                 filled-at s _ _ items k l i ∙ same k l i;
-            values = λ k i. filled-at s _ _ items k (has-below s k items (a .set) i) i;
+            values = λ k i. rw unmixed
+                (filled-at s _ _ items k (has-below s k items (a .set) i) i);
             firsts = λ k i. not-both i (none k);
           };
           write = λ e. not-both e refl;
@@ -125,7 +126,7 @@ module _ (b : List ℕ) (t : Tables) (d s : ℕ) (n : Encodes b t)
         (λ y held k i. made y k i (held .read refl .asked k i)) encodes-reader narrow-reader a
 
   -- the stamp chosen from the block's view is that chosen from the tables'
-  chosen : (k : ℕ) → k < items → choice (viewIn b d) k items ≡ asks t d k
+  pub chosen : (k : ℕ) → k < items → choice (viewIn b d) k items ≡ asks t d k
   chosen k l =
       choice-ext (viewIn b d) (t .view d) k items (view-held n d (a .client .0) (a .client .1) k l)
       (λ i g. view-held n d (a .client .0) (a .client .1) i g)
@@ -136,7 +137,7 @@ module _ (b : List ℕ) (t : Tables) (d s : ℕ) (n : Encodes b t)
       (read-started b d s items (sym (n .items)) _ _ refl refl)
       (encodes-begun 0 _ _ (upTo (askItem d s items) b items)
       (asked-changed b d s items (a .client .0) last (room .items) (n .long))
-      (λ k l i. rw i (chosen k l)) refl (λ k. no-first (partOf 0 _) k refl)
+      (λ k l i. rw i (chosen k l)) refl refl (λ k. no-first (partOf 0 _) k refl)
       false (λ k. Get d k (asks t d k)) (λ y k i e. ap (Get d k) (rw i at e)))
 
   -- of a fast read no first reply has come
@@ -150,4 +151,4 @@ module _ (b : List ℕ) (t : Tables) (d s : ℕ) (n : Encodes b t)
       (fast-read-started b d s items (sym (n .items)) _ _ refl refl)
       (encodes-begun 1 (λ k. 0) (λ k. 0) (upTo (askFor d s 0) b items)
       (nothing-changed b d s items (a .client .0) last (room .items) (n .long))
-      (λ k l i. refl) refl none-come true (FirstGet d) (λ y k i e. refl))
+      (λ k l i. refl) refl refl none-come true (FirstGet d) (λ y k i e. refl))

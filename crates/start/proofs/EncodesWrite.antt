@@ -17,12 +17,12 @@ use Rattle.protocol.specs.Tables.{Tables, withClient}
 use Rattle.protocol.specs.Range.{capacities}
 use Rattle.protocol.specs.Steps.{version, valueOf, greatestOf, nextStamp, writer, startedWrite}
 use Rattle.protocol.proofs.Refusals.{AcceptedStart, AcceptedWrite}
-use Rattle.layout.specs.Layout.{scalars, store, countAt, stampAt, writing}
+use Rattle.layout.specs.Layout.{scalars, at, store, modeAt, countAt, stampAt, writing}
 use Rattle.layout.specs.Encodes.{Encodes}
 use Rattle.layout.proofs.Room.{HasRoom, NarrowClient, narrow-below, room-valid}
-use Rattle.layout.proofs.ClientWords.{Words, putWord}
+use Rattle.layout.proofs.ClientWords.{Words, wordsOf, putWord}
 use Rattle.layout.proofs.ClientHolds.{WordsHold, words-hold}
-use Rattle.layout.proofs.Changed.{Changed, changed-put, encodes-changed}
+use Rattle.layout.proofs.Changed.{Changed, changed-none, changed-put, encodes-changed}
 use Rattle.start.specs.Start.{busy, valueItem, prepareOf, writeStarted}
 use Rattle.itemset.proofs.Pass.{filled-at}
 use Rattle.start.proofs.Valued.{bytesOf, valuedWords, valued-changed}
@@ -31,7 +31,7 @@ use Rattle.start.proofs.Numbers.{greatest-held}
 use Rattle.start.proofs.Started.{write-started}
 
 -- an item's bytes are its value
-value-bytes : (s : ℕ) (bytes : List ℕ) (k : ℕ) → has s k ≡ true
+pub value-bytes : (s : ℕ) (bytes : List ℕ) (k : ℕ) → has s k ≡ true
     → bytesOf s bytes k ≡ valueOf s bytes k
 value-bytes s bytes k i = rw i refl
 
@@ -54,11 +54,11 @@ module _ (b : List ℕ) (t : Tables) (d s : ℕ) (bytes : List ℕ) (n : Encodes
   room = room-valid t (a .valid)
 
   abbrev valuedBlock : List ℕ
-  valuedBlock = upTo (valueItem d s bytes) b items
+  valuedBlock = upTo (valueItem false d s bytes) b items
 
   abbrev writerWords : Words
   writerWords = putWord (putWord (putWord (putWord
-      (putWord (valuedWords b d s bytes items) scalars 0 writing) scalars 2 s) scalars 3 s)
+      (putWord (valuedWords false (wordsOf b d) s bytes items) scalars 0 writing) scalars 2 s) scalars 3 s)
       scalars 1 number) scalars 4 (nextStamp t d)
 
   abbrev writerBlock : List ℕ
@@ -67,8 +67,8 @@ module _ (b : List ℕ) (t : Tables) (d s : ℕ) (bytes : List ℕ) (n : Encodes
 
   writer-changed : Changed d b writerBlock writerWords
   writer-changed =
-      let valued = valued-changed b d s bytes items (a .client .0)
-      (omega (arith, a .client .1, room .clients)) (room .items) (n .long) in
+      let valued = valued-changed false b b (wordsOf b d) d s bytes items (room .items)
+      (changed-none d b (a .client .0) (omega (arith, a .client .1, room .clients)) (n .long)) in
       changed-put
       (changed-put
       (changed-put (changed-put (changed-put valued scalars 0 writing (lit< tt)) scalars 2 s
@@ -116,6 +116,9 @@ module _ (b : List ℕ) (t : Tables) (d s : ℕ) (bytes : List ℕ) (n : Encodes
       (write-started b d s items (sym (n .items)) bytes number _ _ _ _ _
       (ap suc (sym (greatest-held b t d n (a .client .0) (a .client .1)))) refl refl refl refl refl)
       (encodes-started writerBlock t d s (writer t d s bytes)
-      (λ x k. prepareOf d s (nextStamp t d) k x) (λ k. prepare k (valueOf s bytes k))
-      (λ x held k i. ap (prepare k) (held .write (rw some refl) .values k i)) encodes-writer
-      narrow-writer a)
+      (λ x k. prepareOf false d s (nextStamp t d) k x) (λ k. prepare k (valueOf s bytes k))
+      (λ x held k i.
+      let kept = held .write (rw some refl) .values k i in
+      let mode : at x scalars (modeAt d) ≡ writing = held .mode ∙ rw some refl in
+      ap (prepare k) (rw mode at kept))
+      encodes-writer narrow-writer a)

@@ -11,4 +11,5 @@ pub mod Valued
 pub mod Sent
 pub mod EncodesRead
 pub mod EncodesWrite
+pub mod EncodesMixed
 pub mod Beyond

@@ -9,7 +9,7 @@ use Rattle.layout.specs.Layout.{header, scalars, at, store, itemsAt, countAt, s
 use Rattle.layout.specs.Layout.{reading, writing, inFirstPart}
 use Rattle.start.specs.Start.{busy, askFor, askItem, sendGet, begun, readStarted}
 use Rattle.start.specs.Start.{fastReadStarted, greatestOn, valueItem, sendPrepare}
-use Rattle.start.specs.Start.{writeStarted}
+use Rattle.start.specs.Start.{writeStarted, busyMixed, mixedBegun, mixedStarted}
 
 module _ (b : List ℕ) (d s items : ℕ) where
   pub begun-row : (mode : ℕ) (first : Bool) (set sent : List ℕ) → set ≡ busy b d mode s
@@ -33,17 +33,40 @@ module _ (b : List ℕ) (d s items : ℕ) where
   pub write-started : items ≡ at b header itemsAt → (bytes : List ℕ)
       (number : ℕ) (kept set counted stamped sent : List ℕ)
       → number ≡ suc (greatestOn b d items)
-      → kept ≡ upTo (valueItem d s bytes) b items → set ≡ busy kept d writing s
+      → kept ≡ upTo (valueItem false d s bytes) b items → set ≡ busy kept d writing s
       → counted ≡ store set scalars (countAt d) number
       → stamped ≡ store counted scalars (stampAt d) (stampOf number d)
-      → sent ≡ upTo (sendPrepare d s (stampOf number d)) stamped items
+      → sent ≡ upTo (sendPrepare false d s (stampOf number d)) stamped items
       → sent ≡ writeStarted b d s bytes
   unfolding writeStarted
   write-started i bytes number kept set counted stamped sent e p q r u v =
       rw (← i, ← e)
       (v
-      ∙ ap (λ (x : List ℕ). upTo (sendPrepare d s (stampOf number d)) x items)
+      ∙ ap (λ (x : List ℕ). upTo (sendPrepare false d s (stampOf number d)) x items)
       (u
       ∙ ap (λ (x : List ℕ). store x scalars (stampAt d) (stampOf number d))
       (r ∙ ap (λ (x : List ℕ). store x scalars (countAt d) number)
       (q ∙ ap (λ (x : List ℕ). busy x d writing s) p))))
+
+  -- of a mixed transaction, whose read set is s
+  pub mixed-begun : (w stamp : ℕ) (got sent : List ℕ) → got ≡ upTo (sendGet false d s) b items
+      → sent ≡ upTo (sendPrepare true d w stamp) got items → sent ≡ mixedBegun b d s w stamp items
+  unfolding mixedBegun
+  mixed-begun w stamp got sent p q =
+      q ∙ ap (λ (x : List ℕ). upTo (sendPrepare true d w stamp) x items) p
+
+  pub mixed-started : (w : ℕ) → items ≡ at b header itemsAt
+      → (bytes : List ℕ) (number : ℕ) (asked kept set sent : List ℕ)
+      → number ≡ suc (greatestOn b d items)
+      → asked ≡ upTo (askItem d s items) b items
+      → kept ≡ upTo (valueItem true d w bytes) asked items
+      → set ≡ busyMixed kept d s w number (stampOf number d)
+      → sent ≡ mixedBegun set d s w (stampOf number d) items
+      → sent ≡ mixedStarted b d s w bytes
+  unfolding mixedStarted
+  mixed-started w i bytes number asked kept set sent e p q r u =
+      rw (← i, ← e)
+      (u
+      ∙ ap (λ (x : List ℕ). mixedBegun x d s w (stampOf number d) items)
+      (r ∙ ap (λ (x : List ℕ). busyMixed x d s w number (stampOf number d))
+      (q ∙ ap (λ (x : List ℕ). upTo (valueItem true d w bytes) x items) p)))

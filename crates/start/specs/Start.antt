@@ -1,4 +1,5 @@
--- The starts of a read, of a fast read and of a write as changes of the block, item by item.
+-- The starts of a read, of a fast read, of a write and of a mixed transaction as changes of the
+-- block, item by item.
 use mathlib.Core.Bool.{Bool, true, false, cond}
 use mathlib.Core.List.{List}
 use Prim.Native.Nat.{ℕ, suc, _*_, _%_, _^_, max}
@@ -11,8 +12,9 @@ use Rattle.protocol.specs.declared.Message.the-variants.{Prepare, Get, FirstGet
 use Rattle.protocol.specs.Tables.{stampOf}
 use Rattle.protocol.specs.Steps.{choice, greatestIn, version}
 use Rattle.layout.specs.Layout.{header, scalars, asked, values, at, store, itemsAt}
-use Rattle.layout.specs.Layout.{modeAt, countAt, setAt, awaitedAt, stampAt, itemAt}
-use Rattle.layout.specs.Layout.{reading, writing, inFirstPart}
+use Rattle.layout.specs.Layout.{modeAt, countAt, setAt, awaitedAt, stampAt, writeSetAt}
+use Rattle.layout.specs.Layout.{writeAwaitedAt, itemAt, reading, writing, inFirstPart, mixing}
+use Rattle.layout.specs.Layout.{writtenValue, writtenWord}
 use Rattle.layout.specs.Decode.{viewIn}
 use Rattle.slots.specs.Room.{send}
 
@@ -67,22 +69,47 @@ fastReadStarted b d s =
 unfoldable pub greatestOn : List ℕ → ℕ → ℕ → ℕ
 greatestOn b d items = max (at b scalars (countAt d)) (greatestIn (viewIn b d) items)
 
-abbrev pub valueItem : ℕ → ℕ → List ℕ → List ℕ → ℕ → List ℕ
-valueItem d s bytes b k = cond (has s k)
-    (store b values (itemAt d k) (numberAt 4 bytes (4 * rank s k) % 2 ^ 32)) b
+-- item k of a write, or of the write part of a mixed transaction: the value to be written
+abbrev pub valueItem : Bool → ℕ → ℕ → List ℕ → List ℕ → ℕ → List ℕ
+valueItem mixed d s bytes b k = cond (has s k)
+    (store b values (itemAt d k)
+    (writtenWord mixed (numberAt 4 bytes (4 * rank s k) % 2 ^ 32))) b
 
 -- the prepare of item k, with the value kept for it
-abbrev pub prepareOf : ℕ → ℕ → ℕ → ℕ → List ℕ → Message
-prepareOf d s stamp k b = Prepare (version k (at b values (itemAt d k)) stamp s)
+abbrev pub prepareOf : Bool → ℕ → ℕ → ℕ → ℕ → List ℕ → Message
+prepareOf mixed d s stamp k b =
+    Prepare (version k (writtenValue mixed (at b values (itemAt d k))) stamp s)
 
-abbrev pub sendPrepare : ℕ → ℕ → ℕ → List ℕ → ℕ → List ℕ
-sendPrepare d s stamp b k = sendItem s (prepareOf d s stamp k b) b k
+abbrev pub sendPrepare : Bool → ℕ → ℕ → ℕ → List ℕ → ℕ → List ℕ
+sendPrepare mixed d s stamp b k = sendItem s (prepareOf mixed d s stamp k b) b k
 
 unfoldable pub writeStarted : List ℕ → ℕ → ℕ → List ℕ → List ℕ
 writeStarted b d s bytes =
     let items = at b header itemsAt in
     let count = suc (greatestOn b d items) in
     let stamp = stampOf count d in
-    upTo (sendPrepare d s stamp)
-    (store (store (busy (upTo (valueItem d s bytes) b items) d writing s) scalars (countAt d) count)
-    scalars (stampAt d) stamp) items
+    upTo (sendPrepare false d s stamp)
+    (store (store (busy (upTo (valueItem false d s bytes) b items) d writing s) scalars
+    (countAt d) count) scalars (stampAt d) stamp) items
+
+-- ---- a mixed transaction
+
+-- client d is busy with its read set r and its write set s, all of both awaited, and has its count
+-- and stamp
+abbrev pub busyMixed : List ℕ → ℕ → ℕ → ℕ → ℕ → ℕ → List ℕ
+busyMixed b d r s count stamp =
+    store (store (store (store (busy b d mixing r) scalars (writeSetAt d) s) scalars
+    (writeAwaitedAt d) s) scalars (countAt d) count) scalars (stampAt d) stamp
+
+-- the gets join, and then the prepares
+unfoldable pub mixedBegun : List ℕ → ℕ → ℕ → ℕ → ℕ → ℕ → List ℕ
+mixedBegun b d r s stamp items =
+    upTo (sendPrepare true d s stamp) (upTo (sendGet false d r) b items) items
+
+unfoldable pub mixedStarted : List ℕ → ℕ → ℕ → ℕ → List ℕ → List ℕ
+mixedStarted b d r s bytes =
+    let items = at b header itemsAt in
+    let count = suc (greatestOn b d items) in
+    let stamp = stampOf count d in
+    let kept = upTo (valueItem true d s bytes) (upTo (askItem d r items) b items) items in
+    mixedBegun (busyMixed kept d r s count stamp) d r s stamp items

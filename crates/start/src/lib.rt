@@ -1,5 +1,5 @@
-// What the starts of a read and of a write on the block share (document 01: Steps): a client
-// becomes busy, and looks at its view.
+// What the starts of reads, of writes and of mixed transactions on the block share (document 01:
+// Steps): a client becomes busy, and looks at its view.
 ghost use mathlib.Core.Path.{_≡_};
 ghost use Prim.Native.Nat.{_≤_, _<_, max};
 ghost use lib.ListN.{length};

@@ -7,13 +7,15 @@ ghost use lib.ListN.{length, getD, replicate};
 ghost use Rattle.basics.specs.Fold.{upTo};
 ghost use Rattle.protocol.specs.declared.Message.the-variants.{Get, FirstGet};
 ghost use Rattle.layout.specs.Layout.{mostItems, needed, header, at, itemsAt};
-ghost use Rattle.start.specs.Start.{askFor, askFrom, sendGet, begun, readStarted, fastReadStarted};
+ghost use Rattle.start.specs.Start.{askFor, askFrom, askItem, sendGet, begun, readStarted};
+ghost use Rattle.start.specs.Start.{fastReadStarted};
 ghost use Rattle.start.specs.Choice.{entryWord, entriesFrom, ChosenAfter, raised, unraised};
 use client_fields::asked;
 use client_fields::put_asked;
 use client_fields::put_value;
 use itemset::has;
 use itemset::insert;
+use itemset::least_from;
 use layout::ENTRY_WORDS;
 use layout::FIRST_PART;
 use layout::MOST_ITEMS;
@@ -115,10 +117,10 @@ fn ask_items(b: &mut [u64], d: u64, s: u64, stamps: &[u64], items: u64)
     ensures { λ _. ⌜ now (b .exit) ≡ upTo (askFrom d s (now (stamps .entry)))
         (now (b .entry)) items ⌝ }
 {
-    let mut k = 0;
+    let mut k = least_from(s, 0);
     while k < items {
         ask_item(b, d, s, stamps, k);
-        k += 1;
+        k = least_from(s, k + 1);
     }
 }
 
@@ -153,10 +155,10 @@ pub fn get_items(b: &mut [u64], first: bool, d: u64, s: u64, items: u64)
     requires { ⌜ (1 ≤ d) × (d ≤ 8) × (items ≤ 64) ⌝ }
     ensures { λ _. ⌜ now (b .exit) ≡ upTo (sendGet first d s) (now (b .entry)) items ⌝ }
 {
-    let mut k = 0;
+    let mut k = least_from(s, 0);
     while k < items {
         get_item(b, first, d, s, k);
-        k += 1;
+        k = least_from(s, k + 1);
     }
 }
 
@@ -169,11 +171,10 @@ fn begin(b: &mut [u64], d: u64, s: u64, mode: u64, first: bool, items: u64)
     get_items(b, first, d, s, items);
 }
 
-// Client `d` starts a read of set `s`, in a block with `items` items.
-pub fn start_read(b: &mut [u64], d: u64, s: u64, items: u64)
-    requires { ⌜ (1 ≤ d) × (d ≤ 8) × (items ≤ 64) × (items ≡ at (now b) header itemsAt)
-        × (needed ≤ length (now b)) ⌝ }
-    ensures { λ _. ⌜ now (b .exit) ≡ readStarted (now (b .entry)) d s ⌝ }
+// The stamps that client `d` asks for at the items of set `s`, chosen from its view.
+pub fn ask(b: &mut [u64], d: u64, s: u64, items: u64)
+    requires { ⌜ (1 ≤ d) × (d ≤ 8) × (items ≤ 64) × (needed ≤ length (now b)) ⌝ }
+    ensures { λ _. ⌜ now (b .exit) ≡ upTo (askItem d s items) (now (b .entry)) items ⌝ }
 {
     let mut stamps = [0; STAMPS];
     choose(
@@ -185,6 +186,15 @@ pub fn start_read(b: &mut [u64], d: u64, s: u64, items: u64)
         &mut stamps,
     );
     ask_items(b, d, s, &stamps, items);
+}
+
+// Client `d` starts a read of set `s`, in a block with `items` items.
+pub fn start_read(b: &mut [u64], d: u64, s: u64, items: u64)
+    requires { ⌜ (1 ≤ d) × (d ≤ 8) × (items ≤ 64) × (items ≡ at (now b) header itemsAt)
+        × (needed ≤ length (now b)) ⌝ }
+    ensures { λ _. ⌜ now (b .exit) ≡ readStarted (now (b .entry)) d s ⌝ }
+{
+    ask(b, d, s, items);
     begin(b, d, s, READING, false, items);
 }
 

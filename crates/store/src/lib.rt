@@ -1,10 +1,10 @@
-// The store: nine calls on one lent block of words (document 01: fresh, start a read, start a
-// write, deliver, show; document 02: start a fast read, clear, hand over, compare), for C. Each
-// returns a number: refused, the refusal; accepted, 0 in the lowest byte and the answer above it
-// (`numberOfAnswer`).
+// The store: ten calls on one lent block of words (document 01: fresh, start a read, start a write,
+// deliver, show; document 02: start a fast read, start a mixed transaction, clear, hand over,
+// compare), for C. Each returns a number: refused, the refusal; accepted, 0 in the lowest byte and
+// the answer above it (`numberOfAnswer`).
 ghost use mathlib.Core.Path.{_≡_};
-ghost use Rattle.protocol.specs.Calls.{startRead, startFastRead, startWrite, deliver, show, clear};
-ghost use Rattle.protocol.specs.Calls.{handOver, compare, numberOfAnswer};
+ghost use Rattle.protocol.specs.Calls.{startRead, startFastRead, startWrite, startMixed, deliver};
+ghost use Rattle.protocol.specs.Calls.{show, clear, handOver, compare, numberOfAnswer};
 ghost use Rattle.layout.specs.Decode.{tablesOf};
 ghost use Rattle.gather.specs.Sized.{sizes};
 ghost use Rattle.block_calls.specs.Calls.{freshAnswerOn, freshAfter, freshTables, answerOn};
@@ -94,6 +94,25 @@ pub extern "C" fn koolvent_start_write(b: &mut [u64], client: u64, set: u64, val
     ensures values { λ _. ⌜ now (values .exit) ≡ now (values .entry) ⌝ }
 {
     number_of(store_calls::start_write(b, client, set, values))
+}
+
+#[no_mangle]
+pub extern "C" fn koolvent_start_mixed(
+    b: &mut [u64],
+    client: u64,
+    reads: u64,
+    writes: u64,
+    values: &[u8],
+) -> u64
+    ensures answer { λ r. ⌜ r ≡ numberOfAnswer
+        (answerOn (now (b .entry)) (startMixed client reads writes (now (values .entry)))) ⌝ }
+    ensures block { λ _. ⌜ now (b .exit) ≡ blockAfter (now (b .entry))
+        (startMixed client reads writes (now (values .entry))) ⌝ }
+    ensures tables { λ _. ⌜ tablesOf (now (b .exit))
+        ≡ tablesAfter (now (b .entry)) (startMixed client reads writes (now (values .entry))) ⌝ }
+    ensures values { λ _. ⌜ now (values .exit) ≡ now (values .entry) ⌝ }
+{
+    number_of(store_calls::start_mixed(b, client, reads, writes, values))
 }
 
 #[no_mangle]

@@ -2,8 +2,8 @@
 ghost use mathlib.Core.Path.{_≡_};
 ghost use Prim.Native.Nat.{_≤_};
 ghost use lib.ListN.{length};
-ghost use Rattle.protocol.specs.Calls.{startRead, startFastRead, startWrite, show, clear};
-ghost use Rattle.protocol.specs.Calls.{handOver, compare};
+ghost use Rattle.protocol.specs.Calls.{startRead, startFastRead, startWrite, startMixed, show};
+ghost use Rattle.protocol.specs.Calls.{clear, handOver, compare};
 ghost use Rattle.layout.specs.Layout.{needed, header, at, itemsAt};
 ghost use Rattle.layout.specs.Decode.{tablesOf};
 ghost use Rattle.gather.specs.Sized.{sizes};
@@ -111,6 +111,37 @@ pub fn start_write(b: &mut [u64], d: u64, s: u64, bytes: &[u8]) -> Answer
     let refusal = refusals::of_write(b, d, s, bytes);
     if refusal == 0 {
         write_on(b, d, s, bytes)
+    } else {
+        Answer::Refused(refusal)
+    }
+}
+
+// A mixed transaction that is accepted.
+fn mixed_on(b: &mut [u64], d: u64, r: u64, s: u64, bytes: &[u8]) -> Answer
+    requires { ⌜ refusalOn (now b) (startMixed d r s (now bytes)) ≡ 0 ⌝ }
+    ensures answer { λ x. ⌜ x ≡ answerOn (now (b .entry))
+        (startMixed d r s (now (bytes .entry))) ⌝ }
+    ensures block { λ _. ⌜ now (b .exit) ≡ blockAfter (now (b .entry))
+        (startMixed d r s (now (bytes .entry))) ⌝ }
+{
+    let items = layout::items(b);
+    start_mixed::start_mixed(b, d, r, s, bytes, items);
+    let length = layout::message_count(b);
+    Answer::Started { length }
+}
+
+// It reads set `r` and writes set `s` (document 02, P8).
+pub fn start_mixed(b: &mut [u64], d: u64, r: u64, s: u64, bytes: &[u8]) -> Answer
+    ensures answer { λ x. ⌜ x ≡ answerOn (now (b .entry))
+        (startMixed d r s (now (bytes .entry))) ⌝ }
+    ensures block { λ _. ⌜ now (b .exit) ≡ blockAfter (now (b .entry))
+        (startMixed d r s (now (bytes .entry))) ⌝ }
+    ensures tables { λ _. ⌜ tablesOf (now (b .exit))
+        ≡ tablesAfter (now (b .entry)) (startMixed d r s (now (bytes .entry))) ⌝ }
+{
+    let refusal = refusals::of_mixed(b, d, r, s, bytes);
+    if refusal == 0 {
+        mixed_on(b, d, r, s, bytes)
     } else {
         Answer::Refused(refusal)
     }

@@ -13,14 +13,14 @@ use Rattle.protocol.specs.declared.Answer.{Answer}
 use Rattle.protocol.specs.declared.Answer.the-variants.{Refused, Made, Started, Delivered, Shown}
 use Rattle.protocol.specs.declared.Answer.the-variants.{Cleared, HandedOver, Compared}
 use Rattle.protocol.specs.Calls.{bytesOfAnswer}
-use Rattle.store_frames.specs.declared.StoreFrame.the-variants.{Fresh, Read, Write}
-use Rattle.store_frames.specs.declared.StoreFrame.the-variants.{Deliver, Show, FastRead}
+use Rattle.store_frames.specs.declared.StoreFrame.the-variants.{Fresh, Read, Write, Deliver}
+use Rattle.store_frames.specs.declared.StoreFrame.the-variants.{Show, FastRead, Mixed}
 use Rattle.store_frames.specs.declared.StoreFrame.the-variants.{Clear, HandOver, Compare}
 use Rattle.store_frames.specs.declared.Parsed.{Parsed}
 use Rattle.store_frames.specs.declared.Parsed.the-variants.{Frame, Malformed}
 use Rattle.store_frames.specs.Answers.{answerLine}
 use Rattle.store_frames.specs.StoreFrames.{frameBytes, parsed, parsedLater, storeFrameOf}
-use Rattle.store_frames.specs.StoreFrames.{valueBytes}
+use Rattle.store_frames.specs.StoreFrames.{isValued, valueBytes, mixedBytes}
 
 -- the bytes of a text
 bytes : String → List ℕ
@@ -56,6 +56,7 @@ handedOn (Frame (Write client s) n) f = valueBytes f
 handedOn (Frame (Deliver place) n) f = []
 handedOn (Frame (Show client) n) f = []
 handedOn (Frame (FastRead client s) n) f = []
+handedOn (Frame (Mixed client r s) n) f = mixedBytes f
 handedOn (Frame Clear n) f = []
 handedOn (Frame (HandOver giver receiver) n) f = []
 handedOn (Frame (Compare first second) n) f = []
@@ -106,6 +107,15 @@ rows =
     ∷ "06028000000000000001\n" ⇒ Frame (FastRead 2 0x8000000000000001) 10
     ∷ "060280000000000000\n" ⇒ Malformed
     ∷ "0602800000000000000100\n" ⇒ Malformed
+    -- mixed: the items read, then those written, then as many values as there are bytes for
+    ∷ "07028000000000000001000000000000000400000007\n"
+    ⇒ Frame (Mixed 2 0x8000000000000001 4) 22 with-values (0 ∷ 0 ∷ 0 ∷ 7 ∷ [])
+    ∷ "070200000000000000010000000000000002\n" ⇒ Frame (Mixed 2 1 2) 18
+    ∷ "0702000000000000000100000000000000\n" ⇒ Malformed
+    ∷ "07020000000000000001000000000000000200\n" ⇒ Malformed
+    ∷ ("070200000000000000010000000000000002" ++ times 64 "00000000" ++ "\n")
+    ⇒ Frame (Mixed 2 1 2) 274 with-values bigEndian 256 0
+    ∷ ("070200000000000000010000000000000002" ++ times 65 "00000000" ++ "\n") ⇒ Malformed
     -- clear
     ∷ "40\n" ⇒ Frame Clear 1
     ∷ "4000\n" ⇒ Malformed
@@ -184,7 +194,7 @@ answers =
 -- ---- Each line and each answer is as its row says
 
 examples : (map reading rows ≡ rows) × (map answering answers ≡ answers)
-unfolding rows reading handedOn bytes times answers answering frameBytes parsed parsedLater
+unfolding rows reading handedOn bytes times answers answering frameBytes parsed parsedLater isValued
     answerLine bytesOfAnswer
     isHex bytesOf hexText pair digit hexDigit numberAt bigEndian
 examples = (refl, refl)

@@ -1,9 +1,9 @@
 -- The most bytes of a store frame and of its line.
 use Prim.Native.Nat.{ℕ, _+_, _*_}
 
--- a write of 64 values: kind, client and set, and 4 bytes each
+-- a mixed start of 64 values: kind, client and two sets, and 4 bytes each
 abbrev pub mostFrame : ℕ
-mostFrame = 10 + 4 * 64
+mostFrame = 18 + 4 * 64
 
 -- two digits a byte, and 0a
 abbrev pub mostLine : ℕ

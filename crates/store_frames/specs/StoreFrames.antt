@@ -13,8 +13,8 @@ use Rattle.hex.specs.Number.{numberAt}
 use Rattle.hex.specs.Text.{isHex, bytesOf}
 use Rattle.store_frames.specs.Limits.{mostLine}
 use Rattle.store_frames.specs.declared.StoreFrame.the-variants.{Fresh, Read, Write, Deliver}
-use Rattle.store_frames.specs.declared.StoreFrame.the-variants.{Show, FastRead, Clear}
-use Rattle.store_frames.specs.declared.StoreFrame.the-variants.{HandOver, Compare}
+use Rattle.store_frames.specs.declared.StoreFrame.the-variants.{Show, FastRead, Mixed}
+use Rattle.store_frames.specs.declared.StoreFrame.the-variants.{Clear, HandOver, Compare}
 use Rattle.store_frames.specs.declared.Parsed.{Parsed}
 use Rattle.store_frames.specs.declared.Parsed.the-variants.{Frame, Malformed}
 
@@ -42,16 +42,26 @@ kindOf f = getD f 0 0
 abbrev pub isStoreFrame : ℕ → ℕ → List ℕ → Bool
 isStoreFrame kind n f = eqb (kindOf f) kind && eqb (length f) n
 
--- how many values follow kind, client and set: 4 bytes each
-abbrev pub valuesIn : ℕ → ℕ
-valuesIn n = (n - 10) / 4
+-- how many values follow so many bytes: 4 bytes each
+abbrev pub valuesIn : ℕ → ℕ → ℕ
+valuesIn head n = (n - head) / 4
 
--- `03` and whole values, 0 to 64 of them
+-- a frame of that kind, so many bytes and then whole values, 0 to 64 of them
+unfoldable pub isValued : ℕ → ℕ → List ℕ → Bool
+isValued kind head f =
+    let values = valuesIn head (length f) in
+    isStoreFrame kind (head + 4 * values) f && leb values 64
+
+-- `03`: the values follow kind, client and set. `07`: they follow kind, client and two sets
 abbrev pub isWrite : List ℕ → Bool
-isWrite f = isStoreFrame 0x03 (10 + 4 * valuesIn (length f)) f && leb (valuesIn (length f)) 64
+isWrite f = isValued 0x03 10 f
+
+abbrev pub isMixed : List ℕ → Bool
+isMixed f = isValued 0x07 18 f
 
 -- document 02's: `06` desk, set: fast read, 'with the layout and checks of `02`'. `40`: clear. `41`
--- giver, receiver (a byte each): hand over. `42` first, second: compare. Any other is malformed
+-- giver, receiver (a byte each): hand over. `42` first, second: compare. 'Store frame `07` is desk,
+-- read set, write set, values'. Any other is malformed
 unfoldable pub parsedLater : List ℕ → Parsed
 parsedLater f =
     let n = length f in
@@ -59,7 +69,8 @@ parsedLater f =
     (cond (isStoreFrame 0x40 1 f) (Frame Clear n)
     (cond (isStoreFrame 0x41 3 f) (Frame (HandOver (numberAt 1 f 1) (numberAt 1 f 2)) n)
     (cond (isStoreFrame 0x42 3 f) (Frame (Compare (numberAt 1 f 1) (numberAt 1 f 2)) n)
-    Malformed)))
+    (cond (isMixed f) (Frame (Mixed (numberAt 1 f 1) (numberAt 8 f 2) (numberAt 8 f 10)) n)
+    Malformed))))
 
 -- `01` desks, cabinets, lines (a byte each): fresh. `02` desk, set (8 bytes): read. `03` desk, set,
 -- values: write. `04` place (2 bytes): deliver. `05` desk: show; or one of document 02's
@@ -74,9 +85,12 @@ parsed f =
     (cond (isStoreFrame 0x05 2 f) (Frame (Show (numberAt 1 f 1)) n)
     (parsedLater f)))))
 
--- the value bytes of a write
+-- the value bytes of a write, and of a mixed start
 abbrev pub valueBytes : List ℕ → List ℕ
 valueBytes f = drop 10 f
+
+abbrev pub mixedBytes : List ℕ → List ℕ
+mixedBytes f = drop 18 f
 
 -- ---- a line's frame
 

@@ -2,11 +2,11 @@
 
 // The most bytes: of a store frame, of its line, of the log frame that a showing writes, and of a
 // reply's line.
-pub const MOST_FRAME: usize = 10 + 4 * 64;
+pub const MOST_FRAME: usize = 18 + 4 * 64;
 
 pub const MOST_LINE: usize = 2 * MOST_FRAME + 1;
 
-pub const MOST_LOG_FRAME: usize = 10 + 9 * 64;
+pub const MOST_LOG_FRAME: usize = 22 + 9 * 64 + 4 * 64;
 
 pub const MOST_REPLY: usize = 2 * (1 + MOST_LOG_FRAME) + 1;
 
@@ -35,6 +35,12 @@ pub enum StoreFrame {
     FastRead {
         client: u64,
         set: u64,
+    },
+    // Its values follow at byte 18.
+    Mixed {
+        client: u64,
+        reads: u64,
+        writes: u64,
     },
     Clear,
     HandOver {

@@ -25,12 +25,13 @@ pub fn sentence(frame: Option<&Call>, line: &[u8]) -> String {
 fn accepted(frame: &Call, bytes: &[u8]) -> Option<String> {
     match (frame, bytes) {
         (Call::Fresh { .. }, [0]) => Some("accepted".to_owned()),
-        (Call::Read { .. } | Call::FastRead { .. } | Call::Write { .. }, [0, high, low]) => {
-            Some(format!("accepted, {}", in_flight(*high, *low)))
-        }
+        (
+            Call::Read { .. } | Call::FastRead { .. } | Call::Write { .. } | Call::Mixed { .. },
+            [0, high, low],
+        ) => Some(format!("accepted, {}", in_flight(*high, *low))),
         (Call::Deliver { .. }, [0, kind, high, low, outcome]) => {
-            let (kind, ended) = (kind_name(*kind)?, ended(*outcome)?);
-            Some(format!("a {kind}, {}{ended}", in_flight(*high, *low)))
+            let (name, ended) = (kind_name(*kind)?, ended(*kind, *outcome)?);
+            Some(format!("a {name}, {}{ended}", in_flight(*high, *low)))
         }
         (Call::Clear, [0, high, low]) => {
             let gone = u16::from_be_bytes([*high, *low]);
@@ -79,11 +80,13 @@ fn kind_name(kind: u8) -> Option<&'static str> {
     }
 }
 
-fn ended(outcome: u8) -> Option<&'static str> {
-    match outcome {
-        0 => Some(""),
-        1 => Some("; with it a read ends"),
-        2 => Some("; with it a write ends"),
+/// A prepared reply ends a write, mixed or not; a got that ends one ends a mixed transaction.
+fn ended(kind: u8, outcome: u8) -> Option<&'static str> {
+    match (kind, outcome) {
+        (_, 0) => Some(""),
+        (_, 1) => Some("; with it a read ends"),
+        (5, 2) => Some("; with it a mixed transaction ends"),
+        (_, 2) => Some("; with it a write ends"),
         _ => None,
     }
 }

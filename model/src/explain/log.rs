@@ -55,6 +55,7 @@ pub fn sentence(frame: &LogFrame) -> String {
     let shown = frame.read.as_ref().map(|read| {
         let entries: Vec<String> = frame.shown().iter().map(entry_words).collect();
         let how = match read.manner {
+            Manner::Ordinary if frame.write.is_some() => "shows by a mixed transaction",
             Manner::Ordinary => "shows",
             Manner::Fast => "shows by a fast read",
         };

@@ -22,6 +22,13 @@ pub fn sentence(call: &Call) -> String {
         Call::Write { client, set, values } => {
             format!("client {client} starts to write {}", written(*set, values))
         }
+        Call::Mixed { client, read, write, values } => {
+            let read = items_of(*read);
+            format!(
+                "client {client} starts to read {read} and to write {}",
+                written(*write, values)
+            )
+        }
         Call::Deliver { place } => format!("the message at place {place} is delivered"),
         Call::Show { client, .. } => format!("client {client} is asked what it ended last"),
         Call::Clear => "old versions are cleared away".to_owned(),

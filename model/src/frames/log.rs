@@ -17,12 +17,16 @@ pub enum Manner {
 type Parts = (Option<Manner>, bool, bool);
 
 /// Kind bytes of frames, in words, and their parts.
-const KINDS: [(u8, &str, Parts); 4] = [
+const KINDS: [(u8, &str, Parts); 5] = [
     (0x20, "write", (None, true, false)),
     (0x21, "read", (Some(Manner::Ordinary), false, false)),
     (0x22, "hand-over", (None, false, true)),
     (0x23, "fast read", (Some(Manner::Fast), false, false)),
+    (0x24, "mixed transaction", (Some(Manner::Ordinary), true, false)),
 ];
+
+/// The most bytes that one has: a mixed transaction that reads and writes 64 items.
+pub const MOST_BYTES: usize = 22 + 9 * 64 + 4 * 64;
 
 /// What a read shows of one item: the number and client (the writing desk) of its stamp, and its
 /// value.
@@ -39,7 +43,8 @@ impl Shown {
 }
 
 /// A log frame: what a client was shown, what it wrote, or to whom it handed over, of which its
-/// kind has one. A client is document 01's desk.
+/// kind has one; a mixed transaction was shown one part and wrote the other. A client is document
+/// 01's desk.
 #[derive(Clone, Debug, PartialEq, Eq)]
 pub struct LogFrame {
     /// Of a hand-over, the giver.
@@ -49,9 +54,9 @@ pub struct LogFrame {
     pub receiver: Option<u8>,
 }
 
-/// In `21`, and of a fast read in `23`: set, then per line number, writing desk, value. A set holds
-/// item k (document 01's line of a sheet) as the bit worth 2 to the power k, and there is an entry
-/// for each item, ascending.
+/// In `21` and `24`, and of a fast read in `23`: set, then per line number, writing desk, value. A
+/// set holds item k (document 01's line of a sheet) as the bit worth 2 to the power k, and there is
+/// an entry for each item, ascending.
 #[derive(Clone, Debug, PartialEq, Eq)]
 pub struct ReadPart {
     pub manner: Manner,
@@ -59,7 +64,7 @@ pub struct ReadPart {
     pub shown: Vec<Shown>,
 }
 
-/// In `20`: set, number, and a value for each item, ascending.
+/// In `20`, and in `24` after the read part: set, number, and a value for each item, ascending.
 #[derive(Clone, Debug, PartialEq, Eq)]
 pub struct WritePart {
     pub set: u64,
@@ -94,6 +99,16 @@ impl LogFrame {
         LogFrame { client, read, write: None, receiver: None }
     }
 
+    /// A frame `24`: set and entries of the read part; set, number and values of the write part.
+    pub fn of_mixed(
+        client: u8,
+        (set, shown): (u64, Vec<Shown>),
+        (written, number, values): (u64, u32, Vec<u32>),
+    ) -> LogFrame {
+        let write = LogFrame::of_write(client, written, number, values).write;
+        LogFrame { write, ..LogFrame::of_read(client, set, shown) }
+    }
+
     /// A frame `22`.
     pub fn of_hand_over(giver: u8, receiver: u8) -> LogFrame {
         LogFrame { client: giver, read: None, write: None, receiver: Some(receiver) }
@@ -101,25 +116,41 @@ impl LogFrame {
 
     /// The frame's bytes, most significant byte first.
     pub fn bytes(&self) -> Vec<u8> {
+        let [read, write] = self.part_bytes();
+        [self.head(), read, write, Vec::from_iter(self.receiver)].concat()
+    }
+
+    /// For a fault alone: the bytes of a frame with its write part first.
+    pub(crate) fn bytes_with_parts_swapped(&self) -> Vec<u8> {
+        let [read, write] = self.part_bytes();
+        [self.head(), write, read].concat()
+    }
+
+    /// The kind and the client.
+    fn head(&self) -> Vec<u8> {
         let manner = self.read.as_ref().map(|read| read.manner);
         let parts = (manner, self.write.is_some(), self.receiver.is_some());
         let kind = KINDS.iter().find(|(_, _, has)| *has == parts);
-        let mut bytes = vec![kind.expect("a frame with a part").0, self.client];
+        vec![kind.expect("a frame with a part").0, self.client]
+    }
+
+    /// The read part and the write part, each empty where there is none.
+    fn part_bytes(&self) -> [Vec<u8>; 2] {
+        let [mut read_bytes, mut write_bytes] = [Vec::new(), Vec::new()];
         if let Some(read) = &self.read {
-            bytes.extend(read.set.to_be_bytes());
+            read_bytes.extend(read.set.to_be_bytes());
             for entry in &read.shown {
-                bytes.extend(entry.number.to_be_bytes());
-                bytes.push(entry.client);
-                bytes.extend(entry.value.to_be_bytes());
+                read_bytes.extend(entry.number.to_be_bytes());
+                read_bytes.push(entry.client);
+                read_bytes.extend(entry.value.to_be_bytes());
             }
         }
         if let Some(write) = &self.write {
-            bytes.extend(write.set.to_be_bytes());
-            bytes.extend(write.number.to_be_bytes());
-            bytes.extend(write.values.iter().flat_map(|value| value.to_be_bytes()));
+            write_bytes.extend(write.set.to_be_bytes());
+            write_bytes.extend(write.number.to_be_bytes());
+            write_bytes.extend(write.values.iter().flat_map(|value| value.to_be_bytes()));
         }
-        bytes.extend(self.receiver);
-        bytes
+        [read_bytes, write_bytes]
     }
 
     /// The frame of these bytes, if the kind is known and the length is that of the set's items; or
@@ -131,7 +162,7 @@ impl LogFrame {
         };
         let mut rest = Rest(&bytes[1..]);
         let frame = rest.frame(*has).filter(|_| rest.0.is_empty());
-        frame.ok_or_else(|| wrong_length(name, bytes))
+        frame.ok_or_else(|| wrong_length(name, *has, bytes))
     }
 
     /// The frame as a line of a log, with its line end.
@@ -202,19 +233,29 @@ impl<'a> Rest<'a> {
     }
 }
 
-fn wrong_length(name: &str, bytes: &[u8]) -> String {
+/// What is wrong with the length of a frame of this name and these parts.
+fn wrong_length(name: &str, (manner, write, receiver): Parts, bytes: &[u8]) -> String {
     let length = bytes.len();
-    if name == "hand-over" {
-        return format!("wrong length: a hand-over has 3 bytes, this {length}");
+    if receiver {
+        return format!("wrong length: a {name} has 3 bytes, this {length}");
     }
     let Some(set) = bytes.get(2..10) else {
         return format!("wrong length: {length}, too short for a client and a set");
     };
     let items = number(set).count_ones();
-    let right = match name {
-        "write" => 14 + 4 * items,
-        _ => 10 + 9 * items,
-    };
+    if manner.is_some() && write {
+        let read = 10 + 9 * items as usize;
+        let Some(set) = bytes.get(read..read + 8) else {
+            return format!("wrong length: {length}, too short for what it reads and a write set");
+        };
+        let written = number(set).count_ones();
+        let right = 22 + 9 * items + 4 * written;
+        return format!(
+            "wrong length: a {name} that reads {items} and writes {written} has {right} bytes, \
+             this {length}"
+        );
+    }
+    let right = if write { 14 + 4 * items } else { 10 + 9 * items };
     let items = if items == 1 { "1 item".to_owned() } else { format!("{items} items") };
     format!("wrong length: a {name} of {items} has {right} bytes, this {length}")
 }

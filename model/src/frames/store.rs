@@ -1,13 +1,12 @@
 //! Store frames and the driver that answers them.
 
 use super::hex::{from_line, number, to_hex};
+use super::log::MOST_BYTES;
 use crate::call::Call;
 use crate::store::Store;
 
 /// The refusal of a malformed frame.
 const MALFORMED: u8 = 15;
-/// Room for the longest log frame: a read of 64 items.
-const ROOM: usize = 10 + 9 * 64;
 
 /// The call that a line with its 0a asks for, or what is wrong with the line.
 pub fn parse(line: &[u8]) -> Result<Call, String> {
@@ -34,12 +33,18 @@ pub fn parse(line: &[u8]) -> Result<Call, String> {
             return Ok(Call::Deliver { place });
         }
         [5, _] => {
-            let output = vec![0; ROOM];
+            let output = vec![0; MOST_BYTES];
             return Ok(Call::Show { client, output });
         }
         [6, _, ref set @ ..] if set.len() == 8 => {
             let set = number(set);
             return Ok(Call::FastRead { client, set });
+        }
+        [7, _, ref rest @ ..]
+            if (16..=16 + 4 * 64).contains(&rest.len()) && rest.len() % 4 == 0 =>
+        {
+            let [read, write] = [&rest[..8], &rest[8..16]].map(number);
+            return Ok(Call::Mixed { client, read, write, values: rest[16..].to_vec() });
         }
         [0x40] => return Ok(Call::Clear),
         [0x41, giver, receiver] => {
@@ -54,6 +59,7 @@ pub fn parse(line: &[u8]) -> Result<Call, String> {
         [4, ..] => "a delivery has 3 bytes",
         [5, ..] => "a showing has 2 bytes",
         [6, ..] => "a fast read has 10 bytes",
+        [7, ..] => "a mixed transaction has 18 bytes and 4 for each of at most 64 values",
         [0x40, ..] => "a clearing has 1 byte",
         [0x41, ..] => "a hand-over has 3 bytes",
         [0x42, ..] => "a comparison has 3 bytes",

@@ -6,6 +6,7 @@ mod inherited;
 mod limits;
 mod malformed_fields;
 mod malformed_text;
+mod mixed;
 mod own_write_missed;
 mod precedence;
 mod unwritten;
@@ -39,6 +40,7 @@ pub fn findings() -> Vec<Example> {
     findings.extend(own_write_missed::examples());
     findings.extend(inherited::examples());
     findings.extend(fast_reads::examples());
+    findings.extend(mixed::examples());
     findings.extend(precedence::examples());
     findings
 }
@@ -88,6 +90,17 @@ fn read(client: u8, set: u64, shown: &[(u32, u8, u32)]) -> String {
 /// A line `23`, laid out as `21`.
 fn fast_read(client: u8, set: u64, shown: &[(u32, u8, u32)]) -> String {
     format!("23{}", read_part(client, set, shown))
+}
+
+/// A line `24`: desk, read part as in `21`, write part as in `20`.
+fn mixed(
+    client: u8,
+    (set, shown): (u64, &[(u32, u8, u32)]),
+    (written, number, values): (u64, u32, &[u32]),
+) -> String {
+    let read = read_part(client, set, shown);
+    let write = write(client, written, number, values);
+    format!("24{}{}", read.trim_end(), &write[4..])
 }
 
 fn read_part(client: u8, set: u64, shown: &[(u32, u8, u32)]) -> String {

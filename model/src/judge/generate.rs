@@ -4,7 +4,7 @@ mod frames;
 mod shown;
 mod small;
 
-pub use small::{every_small_log, every_small_log_with_hand_overs};
+pub use small::{every_small_log, every_small_log_with_hand_overs, read_and_write};
 
 use crate::frames::log::LogFrame;
 use crate::random::Random;

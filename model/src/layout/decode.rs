@@ -1,14 +1,14 @@
 //! The tables that the words of a block are.
 
 use super::places::{self, Scalar, NEEDED};
-use super::stamp_of;
+use super::{halves_of, stamp_of};
 use crate::set::items;
 use crate::stamp::{Entry, Stamp};
 use crate::store::message::{Message, COMMIT, FIRST_GET, FIRST_REPLY, GET, GOT, PREPARE, PREPARED};
 use crate::store::range::is_usable;
 use crate::store::tables::{
-    Client, Ended, Sizes, Tables, Version, KINDS, LOAD_CAPACITY, MODES, NONE, VERSION_CAPACITY,
-    WRITE, WRITING,
+    Client, Ended, Sizes, Tables, Version, KINDS, LOAD_CAPACITY, MIXED, MIXING, MODES, NONE,
+    VERSION_CAPACITY, WRITE, WRITING,
 };
 
 /// Whether refusal 1 doesn't apply to these words.
@@ -69,7 +69,21 @@ fn running(words: &[u64], client: usize, record: &mut Client) -> Option<()> {
             WRITING => written,
             _ => stamp(words, places::asked(client, item)),
         };
-        record.values[item] = words[places::value(client, item)];
+        let value = words[places::value(client, item)];
+        record.values[item] = match record.mode {
+            MIXING => halves_of(value).0,
+            _ => value,
+        };
+    }
+    if record.mode == MIXING {
+        let write = &mut record.write;
+        write.set = scalar(Scalar::WriteSet);
+        write.awaited = scalar(Scalar::WriteAwaited);
+        write.stamp = written;
+        for item in items(write.set) {
+            let item = item as usize;
+            write.values[item] = halves_of(words[places::value(client, item)]).1;
+        }
     }
     for item in items(record.first_replied()) {
         record.firsts[item as usize] = entry(words, places::first(client, item as usize));
@@ -83,7 +97,7 @@ fn last(words: &[u64], client: usize, last: &mut Ended) -> Option<()> {
         return Some(());
     }
     last.set = words[places::scalar(client, Scalar::LastSet)];
-    if last.kind == WRITE {
+    if [WRITE, MIXED].contains(&last.kind) {
         last.stamp = stamp(words, places::scalar(client, Scalar::LastStamp));
     }
     for item in items(last.set) {
@@ -91,7 +105,18 @@ fn last(words: &[u64], client: usize, last: &mut Ended) -> Option<()> {
         if last.kind != WRITE {
             last.stamps[item] = stamp(words, places::last_stamp(client, item));
         }
-        last.values[item] = words[places::last_value(client, item)];
+        let value = words[places::last_value(client, item)];
+        last.values[item] = match last.kind {
+            MIXED => halves_of(value).0,
+            _ => value,
+        };
+    }
+    if last.kind == MIXED {
+        last.write_set = words[places::scalar(client, Scalar::LastWriteSet)];
+        for item in items(last.write_set) {
+            let item = item as usize;
+            last.write_values[item] = halves_of(words[places::last_value(client, item)]).1;
+        }
     }
     (last.kind < KINDS).then_some(())
 }

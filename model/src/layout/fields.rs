@@ -2,18 +2,29 @@
 
 use super::places::{self, Scalar, NEEDED};
 use super::sort::Sort;
-use super::stamp_word;
-use crate::set::items;
+use super::{halves_word, stamp_word, READ_HALF, WRITTEN_HALF};
+use crate::set::{has, items};
 use crate::stamp::Entry;
 use crate::store::message::Message;
-use crate::store::tables::{Client, Tables, Version, NONE, WRITE, WRITING};
+use crate::store::tables::{Client, Tables, Version, ITEMS, MIXED, MIXING, NONE, WRITE, WRITING};
 
-/// A word of the block that is a field of the tables.
+/// A word of the block that is a field of the tables; of a mixed transaction's values, that has a
+/// field in one half or in each.
 #[derive(Clone, Copy, Debug, PartialEq, Eq)]
 pub struct Field {
     pub place: usize,
+    /// The bits that are of the field.
+    pub mask: u64,
     pub word: u64,
     pub sort: Sort,
+}
+
+impl Field {
+    /// Writes its bits and no others.
+    pub fn store(&self, words: &mut [u64]) {
+        let word = &mut words[self.place];
+        *word = *word & !self.mask | self.word;
+    }
 }
 
 /// The fields of tables whose sizes and counts are in range, by section.
@@ -32,7 +43,7 @@ pub fn encode(tables: &Tables) -> Vec<u64> {
 
 /// Writes the fields and no other word.
 pub(super) fn store_fields(words: &mut [u64], tables: &Tables) {
-    visit(tables, &mut |field| words[field.place] = field.word);
+    visit(tables, &mut |field| field.store(words));
 }
 
 type Visit<'a> = dyn FnMut(Field) + 'a;
@@ -64,7 +75,24 @@ fn visit(tables: &Tables, to: &mut Visit) {
 }
 
 fn one(to: &mut Visit, place: usize, word: u64, sort: Sort) {
-    to(Field { place, word, sort });
+    to(Field { place, mask: u64::MAX, word, sort });
+}
+
+/// The values of a mixed transaction, from this place on by item: those read for the items of the
+/// one set, and those written for the items of the other.
+fn halves(
+    to: &mut Visit,
+    from: usize,
+    (read, answers): (u64, &[u64; ITEMS]),
+    (write, values): (u64, &[u64; ITEMS]),
+) {
+    for item in items(read | write) {
+        let half = |set: u64, mask: u64| if has(set, item) { mask } else { 0 };
+        let mask = half(read, READ_HALF) | half(write, WRITTEN_HALF);
+        let item = item as usize;
+        let word = halves_word(answers[item], values[item]) & mask;
+        to(Field { place: from + item, mask, word, sort: Sort::Values });
+    }
 }
 
 fn entry(to: &mut Visit, place: usize, entry: &Entry) {
@@ -72,8 +100,8 @@ fn entry(to: &mut Visit, place: usize, entry: &Entry) {
     one(to, place + 1, entry.set, Sort::Set);
 }
 
-/// A writing client has one stamp, any other one for each item of its set; a fast read has the
-/// first replies that it keeps.
+/// A writing client has one stamp, any other one for each item of its set; a mixed transaction has
+/// both, and a fast read the first replies that it keeps.
 fn running(to: &mut Visit, client: usize, record: &Client) {
     let scalar = |scalar| places::scalar(client, scalar);
     one(to, scalar(Scalar::Mode), record.mode, Sort::Mode);
@@ -90,7 +118,17 @@ fn running(to: &mut Visit, client: usize, record: &Client) {
         if record.mode != WRITING {
             one(to, places::asked(client, place), stamp_of(item), Sort::Stamp);
         }
-        one(to, places::value(client, place), record.values[place], Sort::Value);
+        if record.mode != MIXING {
+            one(to, places::value(client, place), record.values[place], Sort::Value);
+        }
+    }
+    if record.mode == MIXING {
+        let write = &record.write;
+        one(to, scalar(Scalar::Stamp), stamp_word(write.stamp), Sort::Stamp);
+        one(to, scalar(Scalar::WriteSet), write.set, Sort::Set);
+        one(to, scalar(Scalar::WriteAwaited), write.awaited, Sort::Set);
+        let read = (record.set, &record.values);
+        halves(to, places::value(client, 0), read, (write.set, &write.values));
     }
     for (item, first) in items(record.first_replied()).zip(record.first_replies()) {
         let place = places::first(client, item as usize);
@@ -99,8 +137,8 @@ fn running(to: &mut Visit, client: usize, record: &Client) {
     }
 }
 
-/// Nothing but the kind where none has ended; one stamp of a write, and of a read one for each
-/// item.
+/// Nothing but the kind where none has ended; one stamp of a write, of a read one for each item,
+/// and of a mixed transaction both.
 fn last(to: &mut Visit, client: usize, record: &Client) {
     let scalar = |scalar| places::scalar(client, scalar);
     let last = &record.last;
@@ -109,7 +147,7 @@ fn last(to: &mut Visit, client: usize, record: &Client) {
         return;
     }
     one(to, scalar(Scalar::LastSet), last.set, Sort::Set);
-    if last.kind == WRITE {
+    if [WRITE, MIXED].contains(&last.kind) {
         one(to, scalar(Scalar::LastStamp), stamp_word(last.stamp), Sort::Stamp);
     }
     for item in items(last.set) {
@@ -117,7 +155,14 @@ fn last(to: &mut Visit, client: usize, record: &Client) {
         if last.kind != WRITE {
             one(to, places::last_stamp(client, item), stamp_word(last.stamps[item]), Sort::Stamp);
         }
-        one(to, places::last_value(client, item), last.values[item], Sort::Value);
+        if last.kind != MIXED {
+            one(to, places::last_value(client, item), last.values[item], Sort::Value);
+        }
+    }
+    if last.kind == MIXED {
+        one(to, scalar(Scalar::LastWriteSet), last.write_set, Sort::Set);
+        let read = (last.set, &last.values);
+        halves(to, places::last_value(client, 0), read, (last.write_set, &last.write_values));
     }
 }
 

@@ -43,12 +43,18 @@ pub enum Scalar {
     Count,
     Set,
     Awaited,
-    /// Of a running write.
+    /// Of a running write, mixed or not.
     Stamp,
     LastKind,
     LastSet,
-    /// Of a write that ended last.
+    /// Of a write that ended last, mixed or not.
     LastStamp,
+    /// Of a running mixed transaction, what it writes.
+    WriteSet,
+    /// And what of that it awaits.
+    WriteAwaited,
+    /// Of a mixed transaction that ended last, what it wrote.
+    LastWriteSet,
 }
 
 pub fn scalar(client: usize, scalar: Scalar) -> usize {
@@ -70,7 +76,7 @@ pub fn asked(client: usize, item: usize) -> usize {
     ASKED + by_item(client, item)
 }
 
-/// The value that came, or is written.
+/// The value that came, or is written; of a mixed transaction both, in the two halves of the word.
 pub fn value(client: usize, item: usize) -> usize {
     VALUES + by_item(client, item)
 }
@@ -80,7 +86,7 @@ pub fn last_stamp(client: usize, item: usize) -> usize {
     LAST_STAMPS + by_item(client, item)
 }
 
-/// The value of the transaction that ended last.
+/// The value of the transaction that ended last, of a mixed one both.
 pub fn last_value(client: usize, item: usize) -> usize {
     LAST_VALUES + by_item(client, item)
 }

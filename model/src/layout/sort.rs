@@ -24,6 +24,8 @@ pub enum Sort {
     Item,
     Count,
     Value,
+    /// Two values, each in a half of the word: in range whatever it is.
+    Values,
     Stamp,
     Set,
     /// Of a first reply that is kept.
@@ -47,6 +49,7 @@ impl Sort {
             Sort::Partition => sizes.partitions - 1,
             Sort::Item => sizes.items - 1,
             Sort::Count | Sort::Value => GREATEST,
+            Sort::Values => u64::MAX,
             Sort::Stamp | Sort::FirstStamp => stamp_word(Stamp::new(GREATEST, sizes.clients)),
             Sort::Set | Sort::FirstSet => u64::MAX >> (ITEMS as u64 - sizes.items),
         }

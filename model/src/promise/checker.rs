@@ -2,7 +2,7 @@
 
 use super::history::History;
 use super::{clauses, showings, summing, Clause, Summary};
-use crate::answer::Answer;
+use crate::answer::{Answer, NONE_ENDED};
 use crate::call::{Call, Event};
 use crate::frames::log::Manner;
 use crate::set::size;
@@ -34,12 +34,14 @@ impl Checker {
                 self.history.start_read(place, *client, *set, Manner::Fast);
             }
             (Call::Write { client, set, values }, Answer::Started { .. }) => {
-                clauses::write_is_later_than_all_shown_before(&self.history, *client)?;
-                let taken = self.history.places_taken() + size(*set);
-                self.summary.served += usize::from(taken > VERSION_CAPACITY);
+                self.sum_up_places(*set);
                 self.history.start_write(place, *client, *set, values);
             }
-            (Call::Write { set, .. }, _) => {
+            (Call::Mixed { client, read, write, values }, Answer::Started { .. }) => {
+                self.sum_up_places(*write);
+                self.history.start_mixed(place, *client, [*read, *write], values);
+            }
+            (Call::Write { set, .. } | Call::Mixed { write: set, .. }, _) => {
                 clauses::freed_places_serve(&self.history, *set, answer)?;
             }
             (Call::Deliver { place: at }, _) => self.deliver(place, *at, answer)?,
@@ -59,8 +61,13 @@ impl Checker {
         clauses::fast_reads_are_bounded(&self.history, place)?;
         clauses::one_message_for_each_awaited_item(&self.history)?;
         clauses::fast_reads_send_in_two_rounds(&self.history, place)?;
-        self.sum_up(answer);
         Ok(())
+    }
+
+    /// A write of the set is about to start, alone or in a mixed transaction.
+    fn sum_up_places(&mut self, set: u64) {
+        let taken = self.history.places_taken() + size(set);
+        self.summary.served += usize::from(taken > VERSION_CAPACITY);
     }
 
     fn deliver(&mut self, place: usize, at: u64, answer: Answer) -> Result<(), Clause> {
@@ -69,11 +76,10 @@ impl Checker {
             return Ok(());
         };
         let label = self.history.deliver(place, at as usize);
-        summing::delivery(&mut self.summary, &self.history, &label);
+        summing::delivery(&mut self.summary, &self.history, &label, outcome);
         clauses::kind_is_that_of_the_message(&label, kind)?;
-        clauses::read_ends_with_its_last_reply_alone(&self.history, &label, outcome)?;
-        clauses::write_ends_with_its_last_prepared_alone(&self.history, &label, outcome)?;
-        if outcome != 0 {
+        clauses::ends_with_its_last_reply_alone(&self.history, &label, outcome)?;
+        if outcome != NONE_ENDED {
             self.history.end(place, label.client);
         }
         Ok(())
@@ -85,14 +91,5 @@ impl Checker {
             summing::showing(&mut self.summary, &self.history, client, &frame);
         }
         Ok(())
-    }
-
-    fn sum_up(&mut self, answer: Answer) {
-        let summary = &mut self.summary;
-        match answer {
-            Answer::Delivered { outcome: 1, .. } => summary.reads_ended += 1,
-            Answer::Delivered { outcome: 2, .. } => summary.writes_ended += 1,
-            _ => (),
-        }
     }
 }

@@ -2,9 +2,9 @@
 
 use super::history::History;
 use super::label::{Kind, Label};
-use super::transaction::{Part, Read, Transaction};
+use super::transaction::{Read, Transaction};
 use super::Clause;
-use crate::answer::Answer;
+use crate::answer::{Answer, NONE_ENDED, READ_ENDED, WRITE_ENDED};
 use crate::call::{Call, Event};
 use crate::frames::log::Manner;
 use crate::set::{items, size};
@@ -50,58 +50,34 @@ pub(super) fn kind_is_that_of_the_message(label: &Label, kind: u64) -> Result<()
     holds(kind == label.kind as u64, Clause::Kind)
 }
 
-/// The delivery of a read's n-th reply, and no other, reports it ended, after exactly n requests
-/// and n replies; of a fast read that of the last reply to its requests, of which there is one more
-/// for each item fetched again, once.
-pub(super) fn read_ends_with_its_last_reply_alone(
+/// The delivery after which all replies that a transaction awaits are in, and no other, reports it
+/// ended: of a read its n-th reply, after exactly n requests and n replies; of a fast read that of
+/// the last reply to its requests, of which there is one more for each item fetched again, once; of
+/// a write its last prepared reply; of a mixed transaction the last reply of either kind, after
+/// exactly n requests and n replies for the n items it reads.
+pub(super) fn ends_with_its_last_reply_alone(
     history: &History,
     label: &Label,
     outcome: u64,
 ) -> Result<(), Clause> {
-    let mut reads = 0;
+    let mut running = 0;
     for transaction in history.running(label.client) {
-        let Part::Read(read) = &transaction.part else {
-            continue;
+        running += 1;
+        let (read, write) = (transaction.read.as_ref(), transaction.write.as_ref());
+        let is_reply =
+            read.is_some() && label.is_reply() || write.is_some() && label.kind == Kind::Prepared;
+        let is_last = is_reply && transaction.is_over();
+        let (clause, ended) = match (read, write) {
+            (Some(_), Some(_)) => (Clause::MixedEnd, WRITE_ENDED),
+            (None, Some(_)) => (Clause::WriteEnd, WRITE_ENDED),
+            (_, None) => (Clause::ReadEnd, READ_ENDED),
         };
-        reads += 1;
-        let n = size(transaction.set) as usize;
-        let again = match read.manner {
-            Manner::Ordinary => 0,
-            Manner::Fast => read.fetched_again(transaction.set),
-        };
-        let is_last_reply = label.is_reply() && read.replies.len() == n + again;
-        let stated = if is_last_reply { 1 } else { 0 };
-        holds(outcome == stated, Clause::ReadEnd)?;
-        holds(!is_last_reply || read.requests.len() == n + again, Clause::ReadEnd)?;
+        holds(outcome == if is_last { ended } else { NONE_ENDED }, clause)?;
+        let all_requested = read.is_none_or(|read| read.requests.len() == read.replies_to_come());
+        holds(!is_last || all_requested, clause)?;
     }
-    holds(outcome != 1 || reads > 0, Clause::ReadEnd)
-}
-
-/// The delivery of a write's last prepared reply, and no other, reports it ended.
-pub(super) fn write_ends_with_its_last_prepared_alone(
-    history: &History,
-    label: &Label,
-    outcome: u64,
-) -> Result<(), Clause> {
-    let mut writes = 0;
-    for transaction in history.running(label.client) {
-        let Part::Write(write) = &transaction.part else {
-            continue;
-        };
-        writes += 1;
-        let is_last_prepared = label.kind == Kind::Prepared && write.unprepared.is_empty();
-        let stated = if is_last_prepared { 2 } else { 0 };
-        holds(outcome == stated, Clause::WriteEnd)?;
-    }
-    holds(outcome < 2 || outcome == 2 && writes > 0, Clause::WriteEnd)
-}
-
-/// The client's next write is later than every entry that it was shown.
-pub(super) fn write_is_later_than_all_shown_before(
-    history: &History,
-    client: u64,
-) -> Result<(), Clause> {
-    holds(history.next_stamp(client) > history.latest_shown(client), Clause::OlderThanShown)
+    let clause = if outcome == READ_ENDED { Clause::ReadEnd } else { Clause::WriteEnd };
+    holds(outcome == NONE_ENDED || running > 0, clause)
 }
 
 /// The length answered is that of the list.
@@ -145,11 +121,11 @@ pub(super) fn freed_places_serve(
 pub(super) fn one_message_for_each_awaited_item(history: &History) -> Result<(), Clause> {
     let running = history.transactions.iter().filter(|of| of.ended.is_none());
     for transaction in running {
-        let Part::Read(read) = &transaction.part else {
+        let Some(read) = &transaction.read else {
             continue;
         };
         let client = transaction.client;
-        for item in items(transaction.set) {
+        for item in items(read.set) {
             let awaited = read.replied(item) < read.requested(item);
             let messages = history.messages.iter().filter(|label| {
                 (label.is_request() || label.is_reply())
@@ -169,7 +145,7 @@ pub(super) fn one_message_for_each_awaited_item(history: &History) -> Result<(),
 /// got, and it asks for no other; one that the event ended too.
 pub(super) fn fast_reads_are_bounded(history: &History, event: usize) -> Result<(), Clause> {
     for (of, read) in fast_reads_until(history, event) {
-        if let Some(item) = read.out_of_bounds(of.set) {
+        if let Some(item) = read.out_of_bounds() {
             return Err(Clause::Bounded { client: of.client, item });
         }
     }
@@ -187,7 +163,7 @@ pub(super) fn fast_reads_are_bounded(history: &History, event: usize) -> Result<
 /// sent before, this clause also the get of an item that has had its first reply alone.
 pub(super) fn fast_reads_send_in_two_rounds(history: &History, event: usize) -> Result<(), Clause> {
     for (of, read) in fast_reads_until(history, event) {
-        let stated = read.sent.unwrap_or(size(of.set) as usize);
+        let stated = read.sent.unwrap_or(size(read.set) as usize);
         holds(read.requests.len() == stated, Clause::TwoRounds { client: of.client })?;
     }
     Ok(())
@@ -200,8 +176,6 @@ fn fast_reads_until(
 ) -> impl Iterator<Item = (&Transaction, &Read)> {
     let all = history.transactions.iter();
     let until = all.filter(move |of| of.ended.is_none_or(|ended| ended == event));
-    until.filter_map(|of| match &of.part {
-        Part::Read(read) if read.manner == Manner::Fast => Some((of, read)),
-        _ => None,
-    })
+    let reads = until.filter_map(|of| of.read.as_ref().map(|read| (of, read)));
+    reads.filter(|(_, read)| read.manner == Manner::Fast)
 }

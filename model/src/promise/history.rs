@@ -1,14 +1,15 @@
 //! The list of labels beside the calls: which message lies where, and whose it is.
 //!
 //! A message is of the client whose start put it there, or of the same client as the message whose
-//! delivery did. With the labels go the numbers that make a write's: a client learns a number by
-//! writing, by a hand-over, and by a reply, which has that of its item's latest write when the get
-//! was delivered. The number of a got's version its client knew already, since it asked for it.
-//! That latest write is also what a first reply brings, and the sets of these writes tell which
-//! items a fast read fetches again. And with them go the writes that count as each client's own.
+//! delivery did. With the labels go the clients' views: what a client sees by a reply, by the end
+//! of a write and by a hand-over. The view at a start tells the number of a write and the write
+//! that each get asks for. A reply also has its item's latest committed write when the get was
+//! delivered. That is what a first reply brings, and the sets of these writes tell which items a
+//! fast read fetches again. And with them go the writes that count as each client's own.
 
 use super::label::{Kind, Label};
-use super::transaction::{Part, Read, Transaction, Write};
+use super::transaction::{Read, Transaction, Write};
+use super::view::View;
 use crate::frames::hex;
 use crate::frames::log::{LogFrame, Manner};
 use crate::set::{items, size};
@@ -26,8 +27,9 @@ pub(super) struct History {
     own: BTreeMap<u64, BTreeSet<usize>>,
     /// By item: the latest write of it whose commit at its partition was delivered.
     committed: BTreeMap<u64, Entry>,
-    /// By client: the greatest number that it has written or learnt of.
-    known: BTreeMap<u64, u64>,
+    /// By client: the number of the write that it started last.
+    counts: BTreeMap<u64, u64>,
+    views: BTreeMap<u64, View>,
     /// By client: the latest stamp among all entries that showings gave it, its own writes' too.
     shown: BTreeMap<u64, Stamp>,
     /// By client and item: the latest stamp that a read of that client showed, and the latest that
@@ -49,22 +51,46 @@ impl History {
 
     /// An accepted read start: one get per item joins, of a fast read one first get.
     pub(super) fn start_read(&mut self, event: usize, client: u64, set: u64, manner: Manner) {
-        let after = self.read.get(&client).cloned().unwrap_or_default();
+        let read = self.read_of(client, set, manner);
+        self.start(event, client, Some(read), None);
         let kind = match manner {
             Manner::Ordinary => Kind::Get,
             Manner::Fast => Kind::FirstGet,
         };
-        let gets = self.start(event, client, set, Part::Read(Read::new(manner, after)), kind);
-        for (_, read) in self.running_reads_mut(client) {
-            read.requests.extend(&gets);
-        }
+        self.send_gets(client, set, kind);
     }
 
     /// An accepted write start: one prepare per item joins.
     pub(super) fn start_write(&mut self, event: usize, client: u64, set: u64, values: &[u8]) {
+        let write = self.write_of(client, set, values);
+        self.start(event, client, None, Some(write));
+        self.send(client, set, Kind::Prepare);
+    }
+
+    /// An accepted mixed start: one get per item read joins, then one prepare per item written.
+    pub(super) fn start_mixed(
+        &mut self,
+        event: usize,
+        client: u64,
+        [read, written]: [u64; 2],
+        values: &[u8],
+    ) {
+        let read_part = self.read_of(client, read, Manner::Ordinary);
+        let write_part = self.write_of(client, written, values);
+        self.start(event, client, Some(read_part), Some(write_part));
+        self.send_gets(client, read, Kind::Get);
+        self.send(client, written, Kind::Prepare);
+    }
+
+    fn read_of(&self, client: u64, set: u64, manner: Manner) -> Read {
+        Read::new(set, manner, self.read.get(&client).cloned().unwrap_or_default())
+    }
+
+    fn write_of(&mut self, client: u64, set: u64, values: &[u8]) -> Write {
         let items: Vec<u64> = items(set).collect();
         let values = values.chunks_exact(4).map(|value| hex::number(value) as u32);
         let write = Write {
+            set,
             after: self.latest_shown(client),
             stamp: self.next_stamp(client),
             values: items.iter().copied().zip(values).collect(),
@@ -73,38 +99,55 @@ impl History {
             stored: None,
             committed: BTreeMap::new(),
         };
-        self.learn(client, write.stamp.number);
+        self.counts.insert(client, write.stamp.number);
         self.freed = self.freed.saturating_sub(size(set));
-        self.start(event, client, set, Part::Write(write), Kind::Prepare);
+        write
     }
 
-    /// The stamp of the client's next write: 1 more than the greatest number that it knows.
-    pub(super) fn next_stamp(&self, client: u64) -> Stamp {
-        Stamp::new(1 + self.known.get(&client).copied().unwrap_or_default(), client)
+    /// The stamp of the client's next write: 1 more than the greatest among its count and all
+    /// numbers in its view.
+    fn next_stamp(&self, client: u64) -> Stamp {
+        let count = self.counts.get(&client).copied().unwrap_or_default();
+        let seen = self.views.get(&client).map_or(0, View::greatest_number);
+        Stamp::new(1 + count.max(seen), client)
     }
 
     /// The latest stamp that the client has been shown.
-    pub(super) fn latest_shown(&self, client: u64) -> Stamp {
+    fn latest_shown(&self, client: u64) -> Stamp {
         self.shown.get(&client).copied().unwrap_or_default()
     }
 
-    fn learn(&mut self, client: u64, number: u64) {
-        let known = self.known.entry(client).or_default();
-        *known = number.max(*known);
+    fn start(&mut self, event: usize, client: u64, read: Option<Read>, write: Option<Write>) {
+        let own = self.own.get(&client).cloned().unwrap_or_default();
+        let of = Transaction { client, started: event, ended: None, own, read, write };
+        self.transactions.push(of);
     }
 
-    /// The transaction begins, and one message of the kind joins for each item; gives these.
-    fn start(&mut self, event: usize, client: u64, set: u64, part: Part, kind: Kind) -> Vec<Label> {
-        let transaction = self.transactions.len();
-        let own = self.own.get(&client).cloned().unwrap_or_default();
-        let of = Transaction { client, set, started: event, ended: None, own, part };
-        self.transactions.push(of);
-        let latest = Entry::INITIAL;
-        let label =
-            |item| Label { kind, client, item, transaction, answered: 0, latest, stamp: None };
+    /// One message of the kind joins for each item, of the transaction that started last; gives
+    /// these.
+    fn send(&mut self, client: u64, set: u64, kind: Kind) -> Vec<Label> {
+        let transaction = self.transactions.len() - 1;
+        let view = self.views.entry(client).or_default();
+        let label = |item| Label {
+            kind,
+            client,
+            item,
+            transaction,
+            answered: 0,
+            latest: Entry::INITIAL,
+            version: if kind == Kind::Get { view.choice(item) } else { Entry::INITIAL },
+        };
         let joining: Vec<Label> = items(set).map(label).collect();
         self.messages.extend(&joining);
         joining
+    }
+
+    /// The gets, of either kind, are requests of the client's running reads.
+    fn send_gets(&mut self, client: u64, set: u64, kind: Kind) {
+        let gets = self.send(client, set, kind);
+        for read in self.running_reads_mut(client) {
+            read.requests.extend(&gets);
+        }
     }
 
     /// An accepted delivery within the list: the message leaves, and what its step sends joins.
@@ -113,7 +156,7 @@ impl History {
         match label.kind {
             Kind::Prepare => {
                 self.stored += 1;
-                if let Part::Write(write) = &mut self.transactions[label.transaction].part {
+                if let Some(write) = &mut self.transactions[label.transaction].write {
                     write.unstored.retain(|item| *item != label.item);
                     if write.unstored.is_empty() {
                         write.stored = Some(event);
@@ -125,63 +168,70 @@ impl History {
             Kind::Commit => self.deliver_commit(event, label),
             Kind::Get | Kind::FirstGet => {
                 let latest = self.committed.get(&label.item).copied().unwrap_or_default();
-                let (reply, stamp) = match label.kind {
-                    Kind::FirstGet => (Kind::FirstReply, Some(latest.stamp)),
-                    _ => (Kind::Got, label.stamp),
+                let (reply, version) = match label.kind {
+                    Kind::FirstGet => (Kind::FirstReply, latest),
+                    _ => (Kind::Got, label.version),
                 };
-                self.join(Label { answered: event, latest, stamp, ..label }, reply, label.item);
+                self.join(Label { answered: event, latest, version, ..label }, reply, label.item);
             }
             Kind::Got | Kind::FirstReply => self.deliver_reply(label),
         }
         label
     }
 
-    /// The reply is counted; with the last first reply of a fast read the items that it found older
+    /// The reply is seen and counted; with the last first reply of a fast read the items that it found older
     /// are fetched again, and their gets join, ascending.
     fn deliver_reply(&mut self, label: Label) {
-        self.learn(label.client, label.latest.stamp.number);
+        let view = self.views.entry(label.client).or_default();
+        view.see(label.item, label.latest);
+        view.see(label.item, label.version);
         let mut gets = Vec::new();
-        for (set, read) in self.running_reads_mut(label.client) {
+        for read in self.running_reads_mut(label.client) {
             read.replies.push(label);
-            if label.kind == Kind::FirstReply && read.firsts().count() as u64 == size(set) {
-                let get =
-                    |(item, stamp)| Label { kind: Kind::Get, item, stamp: Some(stamp), ..label };
-                gets = read.found_older(set).into_iter().map(get).collect();
+            if label.kind == Kind::FirstReply && read.firsts().count() as u64 == size(read.set) {
+                let get = |(item, version)| Label { kind: Kind::Get, item, version, ..label };
+                gets = read.found_older().into_iter().map(get).collect();
                 read.requests.extend(&gets);
             }
-            if read.replies.len() as u64 == size(set) {
+            if read.replies.len() as u64 == size(read.set) {
                 read.sent = Some(read.requests.len());
             }
         }
         self.messages.extend(gets);
+        self.send_commits_if_over(label);
     }
 
     fn deliver_prepared(&mut self, label: Label) {
-        let of = &mut self.transactions[label.transaction];
-        let Part::Write(write) = &mut of.part else {
+        let Some(write) = &mut self.transactions[label.transaction].write else {
             return;
         };
         write.unprepared.retain(|item| *item != label.item);
-        if write.unprepared.is_empty() {
-            let set = of.set;
-            for partition in 0..self.partitions {
-                if items(set).any(|item| item % self.partitions == partition) {
-                    self.join(label, Kind::Commit, partition);
-                }
+        self.send_commits_if_over(label);
+    }
+
+    /// With the last reply of either kind the commits of the transaction's write part join.
+    fn send_commits_if_over(&mut self, label: Label) {
+        let of = &self.transactions[label.transaction];
+        let Some(write) = of.write.as_ref().filter(|_| of.is_over()) else {
+            return;
+        };
+        let set = write.set;
+        for partition in 0..self.partitions {
+            if items(set).any(|item| item % self.partitions == partition) {
+                self.join(label, Kind::Commit, partition);
             }
         }
     }
 
     fn deliver_commit(&mut self, event: usize, label: Label) {
-        let of = &mut self.transactions[label.transaction];
-        let Part::Write(write) = &mut of.part else {
+        let Some(write) = &mut self.transactions[label.transaction].write else {
             return;
         };
         write.committed.insert(label.item, event);
-        for item in items(of.set).filter(|item| item % self.partitions == label.item) {
+        for item in items(write.set).filter(|item| item % self.partitions == label.item) {
             let committed = self.committed.entry(item).or_default();
             if write.stamp > committed.stamp {
-                *committed = Entry::new(write.stamp, of.set);
+                *committed = Entry::new(write.stamp, write.set);
             }
         }
     }
@@ -196,11 +246,11 @@ impl History {
         self.freed = self.freed.max(gone);
     }
 
-    /// An accepted hand-over: the receiver learns of all that the giver knows of, and what counts
-    /// as the giver's own counts as the receiver's.
+    /// An accepted hand-over: the receiver takes over what the giver has seen, and what counts as
+    /// the giver's own counts as the receiver's.
     pub(super) fn hand_over(&mut self, giver: u64, receiver: u64) {
-        let known = self.known.get(&giver).copied().unwrap_or_default();
-        self.learn(receiver, known);
+        let seen = self.views.get(&giver).cloned().unwrap_or_default();
+        self.views.entry(receiver).or_default().take_over(&seen);
         let own = self.own.get(&giver).cloned().unwrap_or_default();
         self.own.entry(receiver).or_default().extend(own);
     }
@@ -211,10 +261,7 @@ impl History {
         of: &'a Transaction,
     ) -> impl Iterator<Item = (&'a Transaction, &'a Write)> {
         let own = of.own.iter().map(|place| &self.transactions[*place]);
-        own.filter_map(|of| match &of.part {
-            Part::Write(write) => Some((of, write)),
-            Part::Read(_) => None,
-        })
+        own.filter_map(|of| of.write.as_ref().map(|write| (of, write)))
     }
 
     /// Places that prepares delivered and in flight would take if no version had gone.
@@ -223,13 +270,18 @@ impl History {
         self.stored + prepares.count() as u64
     }
 
-    /// A delivery of the client's message reported an end: what it wrote is its own from then on.
+    /// A delivery of the client's message reported an end: what it wrote is in its view and its own
+    /// from then on.
     pub(super) fn end(&mut self, event: usize, client: u64) {
         let running = self.transactions.iter_mut().enumerate();
         for (place, of) in running.filter(|(_, of)| of.client == client && of.ended.is_none()) {
             of.ended = Some(event);
-            if let Part::Write(_) = of.part {
+            if let Some(write) = &of.write {
                 self.own.entry(client).or_default().insert(place);
+                let view = self.views.entry(client).or_default();
+                for item in items(write.set) {
+                    view.see(item, Entry::new(write.stamp, write.set));
+                }
             }
         }
     }
@@ -240,15 +292,11 @@ impl History {
         all.filter(move |of| of.client == client && of.ended.is_none())
     }
 
-    /// The client's running reads with their sets.
-    fn running_reads_mut(&mut self, client: u64) -> impl Iterator<Item = (u64, &mut Read)> {
+    /// The client's running reads, those of mixed transactions too.
+    fn running_reads_mut(&mut self, client: u64) -> impl Iterator<Item = &mut Read> {
         let all = self.transactions.iter_mut();
-        all.filter(move |of| of.client == client && of.ended.is_none()).filter_map(|of| {
-            match &mut of.part {
-                Part::Read(read) => Some((of.set, read)),
-                Part::Write(_) => None,
-            }
-        })
+        let running = all.filter(move |of| of.client == client && of.ended.is_none());
+        running.filter_map(|of| of.read.as_mut())
     }
 
     /// An accepted showing gave this frame of the client's transaction that ended last.
@@ -292,11 +340,8 @@ impl History {
         self.writes().filter(move |(_, write)| write.value(item).is_some() && is_committed(write))
     }
 
-    /// All accepted writes so far.
+    /// All accepted writes so far, those of mixed transactions too.
     pub(super) fn writes(&self) -> impl Iterator<Item = (&Transaction, &Write)> {
-        self.transactions.iter().filter_map(|of| match &of.part {
-            Part::Write(write) => Some((of, write)),
-            Part::Read(_) => None,
-        })
+        self.transactions.iter().filter_map(|of| of.write.as_ref().map(|write| (of, write)))
     }
 }

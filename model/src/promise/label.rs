@@ -1,6 +1,6 @@
 //! What is known of a message without the store's tables.
 
-use crate::stamp::{Entry, Stamp};
+use crate::stamp::Entry;
 
 /// The kinds of message, with their numbers.
 #[derive(Clone, Copy, Debug, PartialEq, Eq)]
@@ -27,9 +27,8 @@ pub(super) struct Label {
     pub(super) answered: usize,
     /// Of a got or first reply, its item's latest committed write at that event.
     pub(super) latest: Entry,
-    /// Of a get or reply of a fast read, the stamp asked for or brought. What an ordinary read asks
-    /// for is in its client's view alone.
-    pub(super) stamp: Option<Stamp>,
+    /// Of a get, the write asked for; of a got or first reply, the write brought.
+    pub(super) version: Entry,
 }
 
 impl Label {

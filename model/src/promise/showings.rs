@@ -2,11 +2,11 @@
 
 use super::history::History;
 use super::label::Label;
-use super::transaction::{Part, Read, Transaction, Write};
+use super::transaction::{Read, Transaction, Write};
 use super::Clause;
 use crate::answer::Answer;
 use crate::call::{Call, Event};
-use crate::frames::log::{Entry, LogFrame, Manner};
+use crate::frames::log::{Entry, LogFrame, Manner, WritePart};
 use crate::set::size;
 use crate::stamp::Stamp;
 
@@ -29,35 +29,37 @@ pub(super) fn check(
     };
     let frame = event.output.get(..length as usize);
     let frame = LogFrame::parse(frame.ok_or(Clause::Frame)?).map_err(|_| Clause::Frame)?;
-    match &last.part {
-        Part::Write(write) => {
-            later_than_all_shown_before(write, &frame)?;
-            frame_is_that_of_the_write(last, write, &frame)?;
+    frame_has_the_parts(last, &frame)?;
+    if let Some(write) = &last.write {
+        later_than_all_shown_before(write, &frame)?;
+        frame_is_that_of_the_write(write, &frame)?;
+    }
+    if let Some(read) = &last.read {
+        let entries = entries_of_the_read(read, &frame)?;
+        let mut writes = Vec::new();
+        for entry in &entries {
+            writes.push((entry, put_there_by_a_write(history, entry)?));
         }
-        Part::Read(read) => {
-            let entries = entries_of_the_read(last, read, &frame)?;
-            let mut writes = Vec::new();
+        for (entry, write) in &writes {
+            write.map_or(Ok(()), |write| no_sibling_is_older(write, entry, &entries))?;
+        }
+        if read.manner == Manner::Fast {
             for entry in &entries {
-                writes.push((entry, put_there_by_a_write(history, entry)?));
+                no_committed_write_is_missed(history, last, entry)?;
+                freshest_when_answered(read, entry)?;
             }
-            for (entry, write) in &writes {
-                write.map_or(Ok(()), |write| no_sibling_is_older(write, entry, &entries))?;
+        }
+        for (entry, write) in &writes {
+            let reply = brought_by_the_last_reply(read, entry)?;
+            write.map_or(Ok(()), |write| stored_before_the_answer(write, reply))?;
+        }
+        if read.manner == Manner::Ordinary {
+            no_own_write_is_missed(history, last, &entries)?;
+            for entry in &entries {
+                never_falls(read, entry)?;
             }
-            if read.manner == Manner::Fast {
-                for entry in &entries {
-                    no_committed_write_is_missed(history, last, entry)?;
-                    freshest_when_answered(read, entry)?;
-                }
-            }
-            for (entry, write) in &writes {
-                let reply = brought_by_the_last_reply(read, entry)?;
-                write.map_or(Ok(()), |write| stored_before_the_answer(write, reply))?;
-            }
-            if read.manner == Manner::Ordinary {
-                no_own_write_is_missed(history, last, &entries)?;
-                for entry in &entries {
-                    never_falls(read, entry)?;
-                }
+            for entry in &entries {
+                chosen_at_the_start(read, entry)?;
             }
         }
     }
@@ -79,16 +81,22 @@ fn accepted_with_room_enough(
     Ok(())
 }
 
-/// A write is shown with its client, set, number and the values of its start.
-fn frame_is_that_of_the_write(
-    last: &Transaction,
-    write: &Write,
-    frame: &LogFrame,
-) -> Result<(), Clause> {
+/// A transaction is shown with its client and the parts that it has.
+fn frame_has_the_parts(last: &Transaction, frame: &LogFrame) -> Result<(), Clause> {
+    let shown = (u64::from(frame.client), frame.read.is_some(), frame.write.is_some());
+    if shown == (last.client, last.read.is_some(), last.write.is_some()) && frame.receiver.is_none()
+    {
+        Ok(())
+    } else {
+        Err(Clause::Frame)
+    }
+}
+
+/// A write is shown with its set, number and the values of its start.
+fn frame_is_that_of_the_write(write: &Write, frame: &LogFrame) -> Result<(), Clause> {
     let values = write.values.iter().map(|(_, value)| *value).collect();
     let number = write.stamp.number as u32;
-    let stated = LogFrame::of_write(last.client as u8, last.set, number, values);
-    if *frame == stated {
+    if frame.write == Some(WritePart { set: write.set, number, values }) {
         Ok(())
     } else {
         Err(Clause::Frame)
@@ -104,15 +112,10 @@ fn later_than_all_shown_before(write: &Write, frame: &LogFrame) -> Result<(), Cl
     }
 }
 
-/// A read is shown with its client and set, as it was made, and an entry for each item.
-fn entries_of_the_read(
-    last: &Transaction,
-    read: &Read,
-    frame: &LogFrame,
-) -> Result<Vec<Entry>, Clause> {
-    let is_that = frame.read.as_ref().is_some_and(|shown| {
-        (u64::from(frame.client), shown.set, shown.manner) == (last.client, last.set, read.manner)
-    });
+/// A read is shown with its set, as it was made, and an entry for each item.
+fn entries_of_the_read(read: &Read, frame: &LogFrame) -> Result<Vec<Entry>, Clause> {
+    let shown = frame.read.as_ref();
+    let is_that = shown.is_some_and(|shown| (shown.set, shown.manner) == (read.set, read.manner));
     if is_that {
         Ok(frame.shown())
     } else {
@@ -170,11 +173,12 @@ fn freshest_when_answered(read: &Read, entry: &Entry) -> Result<(), Clause> {
     }
 }
 
-/// The last reply for the item, which brought the entry: of a fast read it has that stamp; of an
-/// ordinary read it is the only one.
+/// The last reply for the item, which brought the entry. Of an ordinary read or a mixed transaction
+/// it is the only one, and what it brought is for `chosen_at_the_start`.
 fn brought_by_the_last_reply<'a>(read: &'a Read, entry: &Entry) -> Result<&'a Label, Clause> {
-    let last = read.last_reply(entry.item);
-    let brought = last.filter(|reply| reply.stamp.is_none_or(|stamp| stamp == entry.stamp));
+    let is_brought =
+        |reply: &&Label| read.manner == Manner::Ordinary || reply.version.stamp == entry.stamp;
+    let brought = read.last_reply(entry.item).filter(is_brought);
     brought.ok_or(Clause::NotBrought { item: entry.item })
 }
 
@@ -214,11 +218,17 @@ fn never_falls(read: &Read, entry: &Entry) -> Result<(), Clause> {
     }
 }
 
+/// Each entry has the stamp that the client's view chose at the start, as the gets asked.
+fn chosen_at_the_start(read: &Read, entry: &Entry) -> Result<(), Clause> {
+    match read.chosen(entry.item) {
+        Some(chosen) if chosen.stamp == entry.stamp => Ok(()),
+        _ => Err(Clause::NotChosen { item: entry.item }),
+    }
+}
+
 /// The length of the log frame of a transaction.
 fn frame_length(transaction: &Transaction) -> usize {
-    let items = size(transaction.set) as usize;
-    match transaction.part {
-        Part::Read(_) => 10 + 9 * items,
-        Part::Write(_) => 14 + 4 * items,
-    }
+    let read = transaction.read.as_ref().map_or(0, |read| 8 + 9 * size(read.set));
+    let write = transaction.write.as_ref().map_or(0, |write| 12 + 4 * size(write.set));
+    2 + (read + write) as usize
 }

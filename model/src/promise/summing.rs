@@ -2,43 +2,57 @@
 
 use super::history::History;
 use super::label::{Kind, Label};
-use super::transaction::{Part, Read, Transaction, Write};
+use super::transaction::{Read, Transaction, Write};
 use super::Summary;
+use crate::answer::{READ_ENDED, WRITE_ENDED};
 use crate::frames::log::{Entry, LogFrame, Manner};
+use crate::set::size;
 use crate::stamp::Stamp;
 
-/// Counts a delivered message.
-pub(super) fn delivery(summary: &mut Summary, history: &History, label: &Label) {
-    let mut running = history.running(label.client);
-    let is_fast =
-        running.any(|of| matches!(&of.part, Part::Read(read) if read.manner == Manner::Fast));
+/// Counts a delivered message, which reported this outcome.
+pub(super) fn delivery(summary: &mut Summary, history: &History, label: &Label, outcome: u64) {
+    let mut reads = history.running(label.client).filter_map(|of| of.read.as_ref());
+    let is_fast = reads.any(|read| read.manner == Manner::Fast);
     summary.fast_gots += usize::from(is_fast && label.kind == Kind::Got);
+    summary.reads_ended += usize::from(outcome == READ_ENDED);
+    summary.writes_ended += usize::from(outcome == WRITE_ENDED);
+    summary.ended_by_a_got += usize::from(outcome == WRITE_ENDED && label.kind == Kind::Got);
 }
 
 /// Counts what a showing gave of the client's transaction that ended last.
 pub(super) fn showing(summary: &mut Summary, history: &History, client: u64, frame: &LogFrame) {
-    let written = frame.shown().into_iter().filter(|entry| entry.stamp != Stamp::INITIAL);
+    let shown = frame.shown();
+    let written = shown.iter().filter(|entry| entry.stamp != Stamp::INITIAL);
     summary.reads_shown += usize::from(frame.read.is_some());
     summary.written_entries_shown += written.count();
+    let by_mixed = |entry: &&Entry| {
+        let mut writes = history.writes();
+        writes.any(|(of, write)| of.read.is_some() && write.stamp == entry.stamp)
+    };
+    summary.mixed_entries_shown += shown.iter().filter(by_mixed).count();
     let Some(last) = history.last_ended(client) else {
         return;
     };
-    match &last.part {
-        Part::Write(write) => {
-            summary.corrections += usize::from(![0, client].contains(&write.after.client));
-        }
-        Part::Read(read) if read.manner == Manner::Fast => {
+    if let Some(write) = &last.write {
+        summary.corrections += usize::from(![0, client].contains(&write.after.client));
+    }
+    if let (Some(read), Some(write)) = (&last.read, &last.write) {
+        summary.mixed_shown += 1;
+        summary.read_and_written += size(read.set & write.set) as usize;
+    }
+    let Some(read) = &last.read else {
+        return;
+    };
+    let count_entry = match read.manner {
+        Manner::Ordinary => ordinary_entry,
+        Manner::Fast => {
             summary.fast_reads_shown += 1;
-            summary.fetched_again += read.fetched_again(last.set);
-            for entry in frame.shown() {
-                fast_entry(summary, history, last, read, &entry);
-            }
+            summary.fetched_again += read.fetched_again();
+            fast_entry
         }
-        Part::Read(read) => {
-            for entry in frame.shown() {
-                ordinary_entry(summary, history, last, read, &entry);
-            }
-        }
+    };
+    for entry in &shown {
+        count_entry(summary, history, last, read, entry);
     }
 }
 
@@ -68,7 +82,7 @@ fn fast_entry(
     summary.stored_meanwhile += usize::from(stored.is_some_and(|stored| first.answered < stored));
 }
 
-/// Counts an entry that an ordinary read shows.
+/// Counts an entry that an ordinary read or a mixed transaction shows.
 fn ordinary_entry(
     summary: &mut Summary,
     history: &History,

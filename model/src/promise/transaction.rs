@@ -1,14 +1,15 @@
-//! Reads and writes from their accepted starts on.
+//! Reads, writes and mixed transactions from their accepted starts on.
 
 use super::label::{Kind, Label};
 use crate::frames::log::Manner;
-use crate::set::{has, items};
-use crate::stamp::Stamp;
+use crate::set::{has, items, size};
+use crate::stamp::{Entry, Stamp};
 use std::collections::{BTreeMap, BTreeSet};
 
-/// A read from its accepted start.
+/// A read, alone or of a mixed transaction, from its accepted start.
 #[derive(Clone, Debug)]
 pub(super) struct Read {
+    pub(super) set: u64,
     pub(super) manner: Manner,
     /// By item: the latest stamp that reads of its client had shown before its start.
     pub(super) after: BTreeMap<u64, Stamp>,
@@ -22,8 +23,8 @@ pub(super) struct Read {
 }
 
 impl Read {
-    pub(super) fn new(manner: Manner, after: BTreeMap<u64, Stamp>) -> Read {
-        Read { manner, after, requests: Vec::new(), replies: Vec::new(), sent: None }
+    pub(super) fn new(set: u64, manner: Manner, after: BTreeMap<u64, Stamp>) -> Read {
+        Read { set, manner, after, requests: Vec::new(), replies: Vec::new(), sent: None }
     }
 
     /// The first replies that have come.
@@ -37,13 +38,14 @@ impl Read {
     }
 
     /// Of a fast read whose first replies have come: the items whose own is older than one whose
-    /// write also wrote them, ascending, each with the latest stamp of such a write.
-    pub(super) fn found_older(&self, set: u64) -> Vec<(u64, Stamp)> {
+    /// write also wrote them, ascending, each with the latest such write.
+    pub(super) fn found_older(&self) -> Vec<(u64, Entry)> {
         let mut older = Vec::new();
-        for own in items(set).filter_map(|item| self.first(item)) {
-            let siblings = self.firsts().filter(|first| has(first.latest.set, own.item));
-            let freshest = siblings.map(|first| first.latest.stamp).max().unwrap_or_default();
-            if freshest > own.latest.stamp {
+        for own in items(self.set).filter_map(|item| self.first(item)) {
+            let siblings = self.firsts().map(|first| first.version);
+            let wrote = siblings.filter(|version| has(version.set, own.item));
+            let freshest = wrote.max_by_key(|version| version.stamp).unwrap_or_default();
+            if freshest.stamp > own.version.stamp {
                 older.push((own.item, freshest));
             }
         }
@@ -51,13 +53,29 @@ impl Read {
     }
 
     /// Items that were fetched again: for which there is a second request.
-    pub(super) fn fetched_again(&self, set: u64) -> usize {
-        items(set).filter(|item| self.requested(*item) > 1).count()
+    pub(super) fn fetched_again(&self) -> usize {
+        items(self.set).filter(|item| self.requested(*item) > 1).count()
+    }
+
+    /// How many replies end it: one for each item, and of a fast read one more for each fetched
+    /// again.
+    pub(super) fn replies_to_come(&self) -> usize {
+        let again = match self.manner {
+            Manner::Ordinary => 0,
+            Manner::Fast => self.fetched_again(),
+        };
+        size(self.set) as usize + again
     }
 
     /// How often the item was asked for.
     pub(super) fn requested(&self, item: u64) -> usize {
         self.requests.iter().filter(|request| request.item == item).count()
+    }
+
+    /// Of a read that isn't fast: the write of the item that was chosen at its start.
+    pub(super) fn chosen(&self, item: u64) -> Option<Entry> {
+        let mut requests = self.requests.iter();
+        requests.find(|request| request.item == item).map(|request| request.version)
     }
 
     /// How many replies came for the item.
@@ -72,22 +90,23 @@ impl Read {
 
     /// The item of a request outside the set, or of a request or reply that isn't the first of its
     /// kind for that item, if there is one.
-    pub(super) fn out_of_bounds(&self, set: u64) -> Option<u64> {
+    pub(super) fn out_of_bounds(&self) -> Option<u64> {
         let mut met = [0_u64; 8];
         let mut messages = self.requests.iter().chain(&self.replies);
         let found = messages.find(|message| {
             let items = &mut met[message.kind as usize];
             let is_met = has(*items, message.item);
             *items |= 1 << message.item;
-            is_met || message.is_request() && !has(set, message.item)
+            is_met || message.is_request() && !has(self.set, message.item)
         });
         found.map(|message| message.item)
     }
 }
 
-/// A write from its accepted start.
+/// A write, alone or of a mixed transaction, from its accepted start.
 #[derive(Clone, Debug)]
 pub(super) struct Write {
+    pub(super) set: u64,
     /// The latest stamp that its client had been shown before its start.
     pub(super) after: Stamp,
     pub(super) stamp: Stamp,
@@ -111,22 +130,26 @@ impl Write {
     }
 }
 
-/// What a transaction is, a read or a write.
-#[derive(Clone, Debug)]
-pub(super) enum Part {
-    Read(Read),
-    Write(Write),
-}
-
-/// A read or write, with the events of its start and its end.
+/// A transaction with the events of its start and its end: a read, a write, or a mixed one, which
+/// has both parts.
 #[derive(Clone, Debug)]
 pub(super) struct Transaction {
     pub(super) client: u64,
-    pub(super) set: u64,
     pub(super) started: usize,
     pub(super) ended: Option<usize>,
     /// The writes that counted as its client's own at its start, by their places among the
     /// transactions.
     pub(super) own: BTreeSet<usize>,
-    pub(super) part: Part,
+    pub(super) read: Option<Read>,
+    pub(super) write: Option<Write>,
+}
+
+impl Transaction {
+    /// All replies of both kinds are in.
+    pub(super) fn is_over(&self) -> bool {
+        let read = self.read.as_ref();
+        let write = self.write.as_ref();
+        read.is_none_or(|read| read.replies.len() == read.replies_to_come())
+            && write.is_none_or(|write| write.unprepared.is_empty())
+    }
 }

@@ -27,6 +27,15 @@ mod library {
             values: *const u8,
             bytes: usize,
         ) -> u64;
+        pub fn koolvent_start_mixed(
+            block: *mut u64,
+            length: usize,
+            client: u64,
+            read: u64,
+            write: u64,
+            values: *const u8,
+            bytes: usize,
+        ) -> u64;
         pub fn koolvent_deliver(block: *mut u64, length: usize, place: u64) -> u64;
         pub fn koolvent_show(
             block: *const u64,
@@ -67,6 +76,20 @@ impl Calls for Proved {
         let (words, length) = (block.as_mut_ptr(), block.len());
         let (bytes, count) = (values.as_ptr(), values.len());
         unsafe { library::koolvent_start_write(words, length, client, set, bytes, count) }
+    }
+
+    #[inline]
+    fn start_mixed(
+        &self,
+        block: &mut [u64],
+        client: u64,
+        read: u64,
+        write: u64,
+        values: &[u8],
+    ) -> u64 {
+        let (words, length) = (block.as_mut_ptr(), block.len());
+        let (bytes, count) = (values.as_ptr(), values.len());
+        unsafe { library::koolvent_start_mixed(words, length, client, read, write, bytes, count) }
     }
 
     #[inline]

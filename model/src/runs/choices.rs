@@ -3,6 +3,7 @@
 use super::{Order, Runner, Sort};
 use crate::answer::Answer;
 use crate::call::Call;
+use crate::frames::log::MOST_BYTES;
 use crate::set::size;
 use crate::store::message::Message;
 use crate::store::tables::{IDLE, LOAD_CAPACITY, VERSION_CAPACITY, WIDEST_WRITE};
@@ -52,18 +53,27 @@ impl Runner<'_, '_> {
         let client = self.random.pick(&idle);
         let set = self.some_set();
         let writes = if self.sort == Sort::Crowded { 70 } else { 50 };
-        if self.random.percent(writes) {
+        if self.random.percent(self.mixed) {
+            let write = self.narrowed(set);
+            let read = self.read_beside(write);
+            let mixed = self.mixed(client, read, write);
+            self.call_and_clear_when_full(mixed);
+        } else if self.random.percent(writes) {
             let set = self.narrowed(set);
             let write = self.write(client, set);
-            let answer = self.call(write.clone());
-            if answer == Answer::Refused(9) && self.clears_when_full {
-                self.call(Call::Clear);
-                self.call(write);
-            }
+            self.call_and_clear_when_full(write);
         } else if self.random.percent(self.fast_reads) {
             self.call(Call::FastRead { client, set });
         } else {
             self.call(Call::Read { client, set });
+        }
+    }
+
+    fn call_and_clear_when_full(&mut self, write: Call) {
+        let answer = self.call(write.clone());
+        if answer == Answer::Refused(9) && self.clears_when_full {
+            self.call(Call::Clear);
+            self.call(write);
         }
     }
 
@@ -96,6 +106,11 @@ impl Runner<'_, '_> {
         Call::Write { client, set, values }
     }
 
+    fn mixed(&mut self, client: u64, read: u64, write: u64) -> Call {
+        let values = self.random.bytes(4 * size(write) as usize);
+        Call::Mixed { client, read, write, values }
+    }
+
     /// The set without so many of its items, at random, that a write may have it.
     fn narrowed(&mut self, mut set: u64) -> u64 {
         while size(set) > WIDEST_WRITE {
@@ -126,14 +141,28 @@ impl Runner<'_, '_> {
         }
     }
 
+    /// A nonempty set of existing items to read beside a write; where there is no room for both,
+    /// mostly one that just fits, if any does.
+    fn read_beside(&mut self, write: u64) -> u64 {
+        let mut read = self.some_set();
+        let room = LOAD_CAPACITY - self.run.store.tables.load();
+        let is_over = |read: u64| size(read) + size(write) > room;
+        if is_over(read) && self.random.percent(70) {
+            while is_over(read) && size(read) > 1 {
+                read &= read - 1;
+            }
+        }
+        read
+    }
+
     /// A showing, often with just room enough or a byte less.
     pub(super) fn show_again(&mut self) {
         let client = self.random.between(1, self.sizes.clients);
-        let frame = match self.run.store.show(client, &mut [0; 600]) {
+        let frame = match self.run.store.show(client, &mut [0; MOST_BYTES]) {
             Answer::Shown { length } => length as usize,
             _ => 0,
         };
-        let room = self.random.pick(&[0, frame.saturating_sub(1), frame, frame + 1, 600]);
+        let room = self.random.pick(&[0, frame.saturating_sub(1), frame, frame + 1, MOST_BYTES]);
         let output = self.random.bytes(room);
         self.call(Call::Show { client, output });
     }
@@ -145,14 +174,29 @@ impl Runner<'_, '_> {
         let nobody = self.random.pick(&[0, beyond, 256 + client, 1 << 63, u64::MAX]);
         let set = self.some_set();
         let past_the_end = self.run.store.tables.messages.len() as u64;
-        let call = match self.random.below(21) {
+        let call = match self.random.below(26) {
             0 => Call::Read { client: nobody, set },
-            1 => Call::Show { client: nobody, output: vec![1; 600] },
+            1 => Call::Show { client: nobody, output: vec![1; MOST_BYTES] },
             17 => Call::FastRead { client: nobody, set },
             18 => Call::FastRead { client, set },
             19 => Call::FastRead { client, set: 0 },
             20 if self.sizes.items < 64 => {
                 Call::FastRead { client, set: set | 1 << self.sizes.items }
+            }
+            21 => self.mixed(nobody, set, 1),
+            22 => self.mixed(client, set, set),
+            23 => {
+                let (read, write) = self.random.pick(&[(0, 1), (1, 0), (0, 0)]);
+                self.mixed(client, read, write)
+            }
+            24 if self.sizes.items < 64 => {
+                let past = 1 << self.sizes.items;
+                let (read, write) = self.random.pick(&[(past, 1), (1, past), (set | past, past)]);
+                self.mixed(client, read, write)
+            }
+            25 => {
+                let values = vec![7; self.random.below(20) as usize];
+                Call::Mixed { client, read: set, write: 1, values }
             }
             2 => Call::Read { client, set },
             3 => Call::Read { client, set: 0 },

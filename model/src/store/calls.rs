@@ -21,6 +21,9 @@ impl Store {
             Call::Read { client, set } => self.start_read(*client, *set),
             Call::FastRead { client, set } => self.start_fast_read(*client, *set),
             Call::Write { client, set, values } => self.start_write(*client, *set, values),
+            Call::Mixed { client, read, write, values } => {
+                self.start_mixed(*client, *read, *write, values)
+            }
             Call::Deliver { place } => self.deliver(*place),
             Call::Show { client, .. } => self.show(*client, output),
             Call::Clear => self.clear(),
@@ -76,6 +79,32 @@ impl Store {
 
     /// Starts a write of the set, with four value bytes for each of its items, ascending.
     pub fn start_write(&mut self, client: u64, set: u64, values: &[u8]) -> Answer {
+        let refusal = self.write_refusal(client, &[set], values);
+        if let Some(refusal) = self.spoilt(refusal, 9) {
+            return Answer::Refused(refusal);
+        }
+        self.step_start_write(client, set, values);
+        self.started()
+    }
+
+    /// Starts a mixed transaction that reads one set and writes another, with four value bytes for
+    /// each item written, ascending.
+    pub fn start_mixed(&mut self, client: u64, read: u64, write: u64, values: &[u8]) -> Answer {
+        let sets: &[u64] = match self.has(Fault::EmptyReadSet) && read == 0 {
+            true => &[write],
+            false => &[read, write],
+        };
+        let refusal = self.write_refusal(client, sets, values);
+        let refusal = self.spoilt_mixed_start(refusal, read, write);
+        if let Some(refusal) = self.spoilt(refusal, 9) {
+            return Answer::Refused(refusal);
+        }
+        self.step_start_mixed(client, read, write, values);
+        self.started()
+    }
+
+    /// The refusal of a start with these sets, of which the last is written, but for faults in it.
+    fn write_refusal(&self, client: u64, sets: &[u64], values: &[u8]) -> Option<u64> {
         let tables = match self.fault {
             Some(Fault::SevenByCount) => Cow::Owned(self.with_smaller_views()),
             _ => Cow::Borrowed(&self.tables),
@@ -86,7 +115,7 @@ impl Store {
             _ => WIDEST_WRITE,
         };
         let load = self.load();
-        let refusal = match refusals::start_write(&tables, load, widest, client, set, values) {
+        match refusals::start_write(&tables, load, widest, client, sets, values) {
             Some(17)
                 if self.has(Fault::WidthAfterSeven)
                     && self.tables.greatest_number(client) == GREATEST =>
@@ -94,12 +123,7 @@ impl Store {
                 Some(7)
             }
             refusal => refusal,
-        };
-        if let Some(refusal) = self.spoilt(refusal, 9) {
-            return Answer::Refused(refusal);
         }
-        self.step_start_write(client, set, values);
-        self.started()
     }
 
     /// Delivers the message at a place in the list.
@@ -127,7 +151,13 @@ impl Store {
         if let (true, Some(read)) = (self.has(Fault::ShownAsOrdinary), &mut frame.read) {
             read.manner = Manner::Ordinary;
         }
-        let bytes = frame.bytes();
+        if self.has(Fault::ShownAsAWrite) && frame.write.is_some() {
+            frame.read = None;
+        }
+        let bytes = match self.fault {
+            Some(Fault::PartsSwapped) => frame.bytes_with_parts_swapped(),
+            _ => frame.bytes(),
+        };
         output[..bytes.len()].copy_from_slice(&bytes);
         Answer::Shown { length: bytes.len() as u64 }
     }

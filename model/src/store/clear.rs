@@ -4,9 +4,9 @@
 
 use super::fault::Fault;
 use super::message::{Message, GET};
-use super::tables::{Client, Version, SECOND_PART, WRITING};
+use super::tables::{Client, Version, MIXING, SECOND_PART, WRITING};
 use super::Store;
-use crate::set::items;
+use crate::set::{has, items};
 use crate::stamp::Stamp;
 
 impl Store {
@@ -58,16 +58,23 @@ impl Store {
         }
     }
 
-    /// A client's transaction spares where it is a write under way; where it is a read, or has
-    /// ended, with a fault alone.
+    /// A client's transaction spares where it is a write under way, alone or mixed; where it is a
+    /// read, or has ended, with a fault alone.
     fn transaction_spares(&self, client: &Client, version: &Version) -> bool {
         if self.has(Fault::LastEndedSpares) && client.last_stamps().contains(&version.stamp) {
             return true;
         }
         let is_writing = client.mode == WRITING && !self.has(Fault::WriteUnderWayForgotten);
+        let is_mixing = client.mode == MIXING;
+        let is_at_item = has(client.write.set, version.item);
         let mut stamps = items(client.set).zip(client.running_stamps());
-        (is_writing || self.has(Fault::AskedSpares))
-            && stamps.any(|(item, stamp)| self.is_spared(version, stamp, item == version.item))
+        is_mixing
+            && !self.has(Fault::MixedForgotten)
+            && self.is_spared(version, client.write.stamp, is_at_item)
+            || (is_writing
+                || self.has(Fault::AskedSpares)
+                || is_mixing && self.has(Fault::MixedAskedSpares))
+                && stamps.any(|(item, stamp)| self.is_spared(version, stamp, item == version.item))
     }
 
     /// A first reply that a client keeps spares its version.

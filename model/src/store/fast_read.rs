@@ -4,10 +4,12 @@
 
 use super::fault::Fault;
 use super::message::{Message, Parts, FIRST_GET, FIRST_REPLY, GOT};
-use super::tables::{Client, Ended, Version, FIRST_PART, ITEMS, READING, SECOND_PART, WRITING};
+use super::tables::{
+    Client, Ended, Version, FIRST_PART, ITEMS, MIXING, READING, SECOND_PART, WRITING,
+};
 use super::Store;
 use crate::answer::NONE_ENDED;
-use crate::set::{has, items, size, without};
+use crate::set::{has, items, without};
 use crate::stamp::{Entry, Stamp};
 
 impl Store {
@@ -199,20 +201,6 @@ impl Store {
         again.find(is_unfractured)
     }
 
-    /// The load that a start goes by: that of the tables, unless a fault counts other first
-    /// replies.
-    pub(super) fn load(&self) -> u64 {
-        let come = |mode: u64| -> u64 {
-            let clients = self.tables.existing_clients().filter(|client| client.mode == mode);
-            clients.map(|client| size(client.set & !client.awaited)).sum()
-        };
-        match self.fault {
-            Some(Fault::FirstsInTheSecondLoad) => self.tables.load() + come(SECOND_PART),
-            Some(Fault::FirstsOutOfTheLoad) => self.tables.load() - come(FIRST_PART),
-            _ => self.tables.load(),
-        }
-    }
-
     /// The refusal of a delivery, unless a fault gives another.
     pub(super) fn spoilt_delivery(&self, refusal: Option<u64>, place: u64) -> Option<u64> {
         let message = match refusal {
@@ -231,6 +219,7 @@ impl Store {
             (Some(Fault::FirstReplyInTheSecondPart), FIRST_REPLY) if awaits(SECOND_PART) => None,
             (Some(Fault::FirstReplyToAnyRead), FIRST_REPLY) if awaits(READING) => None,
             (Some(Fault::FirstReplyToAWrite), FIRST_REPLY) if awaits(WRITING) => None,
+            (Some(Fault::FirstReplyToAMixed), FIRST_REPLY) if awaits(MIXING) => None,
             (Some(Fault::GotInTheFirstPart), GOT) if awaits(FIRST_PART) => None,
             (Some(Fault::UnstoredLatestAnswered), FIRST_GET) => None,
             _ => refusal,

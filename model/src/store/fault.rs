@@ -1,7 +1,10 @@
 //! Wrong stores. For tests alone: each shows that some test would notice a store that is wrong in
 //! this way.
 
-use super::tables::{Client, Tables, IDLE, WIDEST_WRITE, WRITE, WRITING};
+use super::tables::{
+    Client, Tables, FIRST_PART, IDLE, MIXED, MIXING, SECOND_PART, WIDEST_WRITE, WRITE, WRITING,
+};
+use super::Store;
 use crate::set::size;
 
 /// One way in which a store can be wrong.
@@ -190,6 +193,84 @@ pub enum Fault {
     FirstReplyNotAwaited,
     /// A first get of an item whose latest isn't stored is answered with value 0.
     UnstoredLatestAnswered,
+    /// The prepares of a mixed transaction join before its gets.
+    PreparesBeforeGets,
+    /// A mixed transaction is in its client's view before its reads are chosen.
+    OwnWriteAskedFor,
+    /// An ordinary read or a mixed transaction shows what its client's view chooses at its end,
+    /// before what it wrote enters there.
+    ChosenAtTheEnd,
+    /// What a mixed transaction writes is put in its client's view at its start.
+    MixedViewAtStart,
+    /// What a mixed transaction writes enters its client's view with its last prepared reply, gots
+    /// awaited or not.
+    ViewWithTheLastPrepared,
+    /// A mixed transaction ends with its last prepared reply, gots awaited or not.
+    EndsWithTheLastPrepared,
+    /// A mixed transaction ends with its last got, prepared replies awaited or not.
+    EndsWithTheLastGot,
+    /// The commits of a mixed transaction join with its last prepared reply.
+    CommitsWithTheLastPrepared,
+    /// A got that ends a mixed transaction sends no commits.
+    GotSendsNoCommits,
+    /// A got that ends a mixed transaction leaves what it wrote out of the view.
+    GotLeavesTheView,
+    /// A got that ends a mixed transaction reports a read ended.
+    GotEndsARead,
+    /// A reply to a mixed transaction strikes its item from both parts.
+    SharedItemStruckTwice,
+    /// A mixed transaction shows its own write of items that it reads too.
+    OwnWriteShown,
+    /// The frame of a mixed transaction has its write part first.
+    PartsSwapped,
+    /// A mixed transaction is shown in the frame of a write.
+    ShownAsAWrite,
+    /// 8 counts an item that a mixed start reads and writes once.
+    SharedItemOnce,
+    /// 8 counts the items that a mixed start writes alone.
+    WrittenItemsAloneInTheLoad,
+    /// 9 counts the items of both sets of a mixed start.
+    NineOfBothSets,
+    /// 17 counts the items of both sets of a mixed start.
+    WidthOfBothSets,
+    /// A mixed start may read no item.
+    EmptyReadSet,
+    /// The load has no prepared replies of a mixed transaction.
+    MixedPreparedOutOfTheLoad,
+    /// The load has a mixed transaction's prepared replies until the last of them has come.
+    MixedPreparedUntilTheLast,
+    /// The load has a mixed transaction's gots too.
+    MixedGotsInTheLoad,
+    /// A clearing forgets a mixed transaction under way.
+    MixedForgotten,
+    /// A clearing spares the stamps that a mixed transaction asked for.
+    MixedAskedSpares,
+    /// A first reply is awaited by a mixed transaction.
+    FirstReplyToAMixed,
+}
+
+impl Store {
+    /// The load that a start goes by: that of the tables, unless a fault counts other replies.
+    pub(super) fn load(&self) -> u64 {
+        let come = |mode: u64, come: fn(&Client) -> u64| -> u64 {
+            let clients = self.tables.existing_clients().filter(|client| client.mode == mode);
+            clients.map(|client| size(come(client))).sum()
+        };
+        let read = |client: &Client| client.set & !client.awaited;
+        let arrived_last = |client: &Client| match client.write.awaited {
+            0 => client.arrived(),
+            _ => 0,
+        };
+        let load = self.tables.load();
+        match self.fault {
+            Some(Fault::FirstsInTheSecondLoad) => load + come(SECOND_PART, read),
+            Some(Fault::FirstsOutOfTheLoad) => load - come(FIRST_PART, read),
+            Some(Fault::MixedPreparedOutOfTheLoad) => load - come(MIXING, Client::arrived),
+            Some(Fault::MixedPreparedUntilTheLast) => load - come(MIXING, arrived_last),
+            Some(Fault::MixedGotsInTheLoad) => load + come(MIXING, read),
+            _ => load,
+        }
+    }
 }
 
 /// Whether no client has a transaction under way.
@@ -203,8 +284,16 @@ pub(super) fn holds_a_wide_set(tables: &Tables) -> bool {
     let versions = tables.versions.iter().map(|version| version.set);
     let messages = tables.messages.iter().map(|message| message.parts());
     let in_messages = messages.flat_map(|parts| [parts.set, parts.latest.map(|entry| entry.set)]);
-    let under_way = tables.clients.iter().filter(|client| client.mode == WRITING);
-    let ended = tables.clients.iter().filter(|client| client.last.kind == WRITE);
+    let under_way = tables.clients.iter().filter_map(|client| match client.mode {
+        WRITING => Some(client.set),
+        MIXING => Some(client.write.set),
+        _ => None,
+    });
+    let ended = tables.clients.iter().filter_map(|client| match client.last.kind {
+        WRITE => Some(client.last.set),
+        MIXED => Some(client.last.write_set),
+        _ => None,
+    });
     let firsts = tables.clients.iter().flat_map(Client::first_replies);
     entries
         .copied()
@@ -212,7 +301,7 @@ pub(super) fn holds_a_wide_set(tables: &Tables) -> bool {
         .map(|entry| entry.set)
         .chain(versions)
         .chain(in_messages.flatten())
-        .chain(under_way.map(|client| client.set))
-        .chain(ended.map(|client| client.last.set))
+        .chain(under_way)
+        .chain(ended)
         .any(|set| size(set) > WIDEST_WRITE)
 }

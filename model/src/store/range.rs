@@ -2,7 +2,8 @@
 
 use super::message::{Message, Parts};
 use super::tables::{
-    Tables, Version, IDLE, KINDS, LOAD_CAPACITY, MODES, NONE, VERSION_CAPACITY, WRITING,
+    Tables, Version, IDLE, KINDS, LOAD_CAPACITY, MIXED, MIXING, MODES, NONE, VERSION_CAPACITY,
+    WRITING,
 };
 use crate::set::{has, items, lies_in};
 use crate::stamp::Stamp;
@@ -21,6 +22,7 @@ pub fn in_range(tables: &Tables) -> bool {
         && versions_are_of_writes_with_their_item(tables)
         && prepared_and_commits_are_of_writes(tables)
         && writers_have_one_stamp(tables)
+        && mixed_transactions_have_both_parts(tables)
         && awaited_lie_in_the_set(tables)
         && idle_exactly_when_none_awaited(tables)
 }
@@ -49,8 +51,8 @@ fn named_things_exist(tables: &Tables) -> bool {
         })
 }
 
-/// A client is idle, reading, writing or in either part of a fast read, and what it ended last is
-/// nothing, a read, a write or a fast read.
+/// A client is idle, reading, writing, in either part of a fast read or in a mixed transaction, and
+/// what it ended last is nothing, a read, a write, a fast read or a mixed transaction.
 fn modes_and_kinds_are_known(tables: &Tables) -> bool {
     tables.existing_clients().all(|client| client.mode < MODES && client.last.kind < KINDS)
 }
@@ -59,10 +61,13 @@ fn modes_and_kinds_are_known(tables: &Tables) -> bool {
 fn counts_and_values_fit(tables: &Tables) -> bool {
     let fits = |number: u64| number <= GREATEST;
     tables.existing_clients().all(|client| {
+        let all_fit = |set: u64, values: &[u64]| items(set).all(|item| fits(values[item as usize]));
+        let last = &client.last;
         fits(client.count)
-            && items(client.set).all(|item| fits(client.values[item as usize]))
-            && (client.last.kind == NONE
-                || items(client.last.set).all(|item| fits(client.last.values[item as usize])))
+            && all_fit(client.set, &client.values)
+            && (client.mode != MIXING || all_fit(client.write.set, &client.write.values))
+            && (last.kind == NONE || all_fit(last.set, &last.values))
+            && (last.kind != MIXED || all_fit(last.write_set, &last.write_values))
     }) && tables.versions.iter().all(|version| fits(version.value))
         && parts(tables).all(|parts| parts.value.is_none_or(fits))
 }
@@ -75,7 +80,9 @@ fn sets_hold_existing_items(tables: &Tables) -> bool {
             exist(client.set)
                 && exist(client.awaited)
                 && client.first_replies().all(|first| exist(first.set))
+                && (client.mode != MIXING || exist(client.write.set) && exist(client.write.awaited))
                 && (client.last.kind == NONE || exist(client.last.set))
+                && (client.last.kind != MIXED || exist(client.last.write_set))
         })
         && tables.versions.iter().all(|version| exist(version.set))
         && parts(tables).all(|parts| {
@@ -92,6 +99,7 @@ fn stamps_are_initial_or_in_range(tables: &Tables) -> bool {
     tables.entries().all(|(_, entry)| known(entry.stamp))
         && tables.existing_clients().all(|client| {
             client.running_stamps().all(known)
+                && (client.mode != MIXING || known(client.write.stamp))
                 && client.first_replies().all(|first| known(first.stamp))
                 && client.last_stamps().into_iter().all(known)
         })
@@ -128,14 +136,23 @@ fn writers_have_one_stamp(tables: &Tables) -> bool {
     })
 }
 
-/// Awaited items lie in the client's set.
-fn awaited_lie_in_the_set(tables: &Tables) -> bool {
-    tables.existing_clients().all(|client| lies_in(client.awaited, client.set))
+/// A mixed transaction reads an item and writes one.
+fn mixed_transactions_have_both_parts(tables: &Tables) -> bool {
+    let mut mixed = tables.existing_clients().filter(|client| client.mode == MIXING);
+    mixed.all(|client| client.set != 0 && client.write.set != 0)
 }
 
-/// A client is idle exactly when it awaits none.
+/// Awaited items lie in the client's set, of a mixed transaction in that of their part.
+fn awaited_lie_in_the_set(tables: &Tables) -> bool {
+    tables.existing_clients().all(|client| {
+        lies_in(client.awaited, client.set)
+            && (client.mode != MIXING || lies_in(client.write.awaited, client.write.set))
+    })
+}
+
+/// A client is idle exactly when it awaits none, of either part.
 fn idle_exactly_when_none_awaited(tables: &Tables) -> bool {
-    tables.existing_clients().all(|client| (client.mode == IDLE) == (client.awaited == 0))
+    tables.existing_clients().all(|client| (client.mode == IDLE) == client.awaits_none())
 }
 
 /// The parts of the messages in flight.

@@ -5,7 +5,7 @@ use super::message::Message;
 use super::range::{is_usable, GREATEST};
 use super::shown::shown_frame;
 use super::tables::{
-    Sizes, Tables, Version, FIRST_PART, IDLE, LOAD_CAPACITY, READING, SECOND_PART,
+    Sizes, Tables, Version, FIRST_PART, IDLE, LOAD_CAPACITY, MIXING, READING, SECOND_PART,
     VERSION_CAPACITY, WRITING,
 };
 use crate::set::{has, size};
@@ -34,25 +34,29 @@ pub(super) fn start_read(tables: &Tables, load: u64, client: u64, set: u64) -> O
     ])
 }
 
-/// Where the load is this and the widest write has so many items.
+/// Of a write or a mixed transaction with these sets, of which the last is written, where the load
+/// is this and the widest write has so many items. Each set is tested by 5 and counts in the load,
+/// an item in both twice; 6, 17 and 9 are for the items written.
 pub(super) fn start_write(
     tables: &Tables,
     load: u64,
     widest: u64,
     client: u64,
-    set: u64,
+    sets: &[u64],
     values: &[u8],
 ) -> Option<u64> {
+    let written = sets.last().copied().map_or(0, size);
+    let joining: u64 = sets.iter().copied().map(size).sum();
     first(&[
         (1, &|| !is_usable(tables)),
         (3, &|| !tables.has_client(client)),
         (4, &|| tables.client(client).mode != IDLE),
-        (5, &|| set == 0 || !tables.holds_only_existing(set)),
-        (6, &|| values.len() as u64 != 4 * size(set)),
-        (17, &|| size(set) > widest),
+        (5, &|| sets.iter().any(|set| *set == 0 || !tables.holds_only_existing(*set))),
+        (6, &|| values.len() as u64 != 4 * written),
+        (17, &|| written > widest),
         (7, &|| tables.greatest_number(client) == GREATEST),
-        (8, &|| load + size(set) > LOAD_CAPACITY),
-        (9, &|| tables.versions_and_prepares() + size(set) > VERSION_CAPACITY),
+        (8, &|| load + joining > LOAD_CAPACITY),
+        (9, &|| tables.versions_and_prepares() + written > VERSION_CAPACITY),
     ])
 }
 
@@ -102,7 +106,8 @@ pub(super) fn compare(tables: &Tables, one: u64, other: u64) -> Option<u64> {
 
 /// A prepare of an item and stamp already stored; a prepared whose client isn't writing, a got
 /// whose client isn't reading, or either not awaited with that item and stamp. In the first part of
-/// a fast read no got is awaited, and a first reply is there alone, by its item alone.
+/// a fast read no got is awaited, and a first reply is there alone, by its item alone. Each part of
+/// a mixed transaction awaits its own replies.
 fn is_unwanted(tables: &Tables, message: &Message) -> bool {
     let awaits = |client: u64, modes: &[u64], item: u64| {
         let record = tables.client(client);
@@ -113,10 +118,14 @@ fn is_unwanted(tables: &Tables, message: &Message) -> bool {
         Message::Prepare(version) => tables.version(version.item, version.stamp).is_some(),
         Message::Prepared { item, stamp } => {
             let client = stamp.client;
-            !(awaits(client, &[WRITING], item) && asked(client, item) == stamp)
+            let record = tables.client(client);
+            match record.mode {
+                MIXING => !(has(record.write.awaited, item) && record.write.stamp == stamp),
+                _ => !(awaits(client, &[WRITING], item) && asked(client, item) == stamp),
+            }
         }
         Message::Got { client, version: Version { item, stamp, .. }, .. } => {
-            !(awaits(client, &[READING, SECOND_PART], item) && asked(client, item) == stamp)
+            !(awaits(client, &[READING, SECOND_PART, MIXING], item) && asked(client, item) == stamp)
         }
         Message::FirstReply { client, version, .. } => !awaits(client, &[FIRST_PART], version.item),
         Message::Commit { .. } | Message::Get { .. } | Message::FirstGet { .. } => false,

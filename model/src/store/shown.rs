@@ -1,6 +1,6 @@
 //! The log frame of a client's last ended transaction.
 
-use super::tables::{Tables, FAST_READ, READ, WRITE};
+use super::tables::{Ended, Tables, FAST_READ, ITEMS, MIXED, READ, WRITE};
 use crate::frames::log::{LogFrame, Shown};
 use crate::set::items;
 
@@ -8,23 +8,36 @@ use crate::set::items;
 /// ended.
 pub(super) fn shown_frame(tables: &Tables, client: u64) -> Option<LogFrame> {
     let last = &tables.client(client).last;
-    let item_values = items(last.set).map(|item| narrow(last.values[item as usize]));
+    let number = narrow(last.stamp.number);
+    let client = client as u8;
     match last.kind {
-        READ | FAST_READ => {
-            let shown = items(last.set).zip(item_values).map(|(item, value)| Shown {
-                number: narrow(last.stamps[item as usize].number),
-                client: narrow(last.stamps[item as usize].client) as u8,
-                value,
-            });
-            let of = if last.kind == READ { LogFrame::of_read } else { LogFrame::of_fast_read };
-            Some(of(client as u8, last.set, shown.collect()))
-        }
+        READ => Some(LogFrame::of_read(client, last.set, shown(last))),
+        FAST_READ => Some(LogFrame::of_fast_read(client, last.set, shown(last))),
         WRITE => {
-            let number = narrow(last.stamp.number);
-            Some(LogFrame::of_write(client as u8, last.set, number, item_values.collect()))
+            Some(LogFrame::of_write(client, last.set, number, written(last.set, &last.values)))
+        }
+        MIXED => {
+            let write = (last.write_set, number, written(last.write_set, &last.write_values));
+            Some(LogFrame::of_mixed(client, (last.set, shown(last)), write))
         }
         _ => None,
     }
+}
+
+/// What a read part shows.
+fn shown(last: &Ended) -> Vec<Shown> {
+    let values = written(last.set, &last.values);
+    let entry = |(item, value): (u64, u32)| Shown {
+        number: narrow(last.stamps[item as usize].number),
+        client: narrow(last.stamps[item as usize].client) as u8,
+        value,
+    };
+    items(last.set).zip(values).map(entry).collect()
+}
+
+/// The values of a set's items.
+fn written(set: u64, values: &[u64; ITEMS]) -> Vec<u32> {
+    items(set).map(|item| narrow(values[item as usize])).collect()
 }
 
 fn narrow(number: u64) -> u32 {

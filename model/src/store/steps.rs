@@ -3,7 +3,7 @@
 use super::fault::Fault;
 use super::message::Message;
 use super::tables::{
-    Client, Ended, Version, FAST_READ, ITEMS, READ, READING, SECOND_PART, WRITE, WRITING,
+    Client, Ended, Version, FAST_READ, ITEMS, MIXING, READ, READING, SECOND_PART, WRITE, WRITING,
 };
 use super::Store;
 use crate::answer::{NONE_ENDED, READ_ENDED, WRITE_ENDED};
@@ -13,15 +13,24 @@ use crate::stamp::{Entry, Stamp};
 impl Store {
     /// One get per item, ascending, for the stamp that the client's view chooses.
     pub(super) fn step_start_read(&mut self, client: u64, set: u64) {
-        let mut stamps = [Stamp::INITIAL; ITEMS];
-        for item in items(set) {
-            let stamp = self.stamp_to_ask_for(client, set, item);
-            stamps[item as usize] = stamp;
-            self.tables.messages.push(Message::Get { client, item, stamp });
-        }
+        let stamps = self.stamps_to_ask_for(client, set);
+        self.send_gets(client, set, &stamps);
         let record = self.tables.client_mut(client);
         *record =
             Client { mode: READING, set, awaited: set, stamps, values: [0; ITEMS], ..*record };
+    }
+
+    pub(super) fn stamps_to_ask_for(&self, client: u64, set: u64) -> [Stamp; ITEMS] {
+        let mut stamps = [Stamp::INITIAL; ITEMS];
+        for item in items(set) {
+            stamps[item as usize] = self.stamp_to_ask_for(client, set, item);
+        }
+        stamps
+    }
+
+    pub(super) fn send_gets(&mut self, client: u64, set: u64, stamps: &[Stamp; ITEMS]) {
+        let get = |item| Message::Get { client, item, stamp: stamps[item as usize] };
+        self.tables.messages.extend(items(set).map(get));
     }
 
     /// The latest stamp among the view's own entry for the item and all view entries whose set
@@ -43,23 +52,31 @@ impl Store {
     /// The next number becomes the count and with the client makes the stamp; one prepare per item,
     /// ascending.
     pub(super) fn step_start_write(&mut self, client: u64, set: u64, given: &[u8]) {
-        let number = self.next_number(client, set);
-        let stamp = Stamp::new(number, client);
+        let stamp = self.take_number(client, set);
+        let values = values_of(set, given);
+        self.send_prepares(set, stamp, &values);
         let mut stamps = [Stamp::INITIAL; ITEMS];
-        let mut values = [0; ITEMS];
-        for (item, value) in items(set).zip(given.chunks(4)) {
-            let value = value.iter().fold(0, |number, byte| number * 256 + u64::from(*byte));
-            stamps[item as usize] = stamp;
-            values[item as usize] = value;
-            self.tables.messages.push(Message::Prepare(Version { item, value, stamp, set }));
-        }
-        let by_one = self.has(Fault::CountByOne);
+        items(set).for_each(|item| stamps[item as usize] = stamp);
         let record = self.tables.client_mut(client);
-        let count = if by_one { record.count + 1 } else { number };
-        *record = Client { mode: WRITING, count, set, awaited: set, stamps, values, ..*record };
+        *record = Client { mode: WRITING, set, awaited: set, stamps, values, ..*record };
         if self.has(Fault::ViewAtStart) {
             self.see_write(client, stamp, set);
         }
+    }
+
+    /// The stamp of the client's next write, whose number becomes its count.
+    pub(super) fn take_number(&mut self, client: u64, set: u64) -> Stamp {
+        let number = self.next_number(client, set);
+        let by_one = self.has(Fault::CountByOne);
+        let record = self.tables.client_mut(client);
+        record.count = if by_one { record.count + 1 } else { number };
+        Stamp::new(number, client)
+    }
+
+    pub(super) fn send_prepares(&mut self, set: u64, stamp: Stamp, values: &[u64; ITEMS]) {
+        let version = |item| Version { item, value: values[item as usize], stamp, set };
+        let prepares = items(set).map(|item| Message::Prepare(version(item)));
+        self.tables.messages.extend(prepares);
     }
 
     /// 1 more than the greatest among the client's count and all numbers in its view.
@@ -103,6 +120,9 @@ impl Store {
     /// Strikes the item from those awaited; with the last one the write ends.
     fn deliver_prepared(&mut self, item: u64, stamp: Stamp) -> u64 {
         let client = stamp.client;
+        if self.tables.client(client).mode == MIXING {
+            return self.deliver_prepared_to_mixed(client, item);
+        }
         let record = self.tables.client_mut(client);
         record.awaited = without(record.awaited, item);
         if record.awaited != 0 {
@@ -112,16 +132,21 @@ impl Store {
         let ended = Ended { kind: WRITE, set, stamp, values: record.values, ..Ended::NONE };
         *record = Client::resting(record.count, ended);
         self.see_write(client, stamp, set);
+        self.send_commits(stamp, set);
+        WRITE_ENDED
+    }
+
+    /// One commit for each partition with a written item, ascending.
+    pub(super) fn send_commits(&mut self, stamp: Stamp, set: u64) {
         for partition in 0..self.tables.sizes.partitions {
             if items(set).any(|item| self.tables.partition_of(item) == partition) {
                 self.tables.messages.push(Message::Commit { partition, stamp });
             }
         }
-        WRITE_ENDED
     }
 
     /// Each written item's view entry becomes the later of itself and this write.
-    fn see_write(&mut self, client: u64, stamp: Stamp, set: u64) {
+    pub(super) fn see_write(&mut self, client: u64, stamp: Stamp, set: u64) {
         for item in items(set) {
             self.see(client, item, Entry::new(stamp, set));
         }
@@ -222,6 +247,9 @@ impl Store {
         let record = self.tables.client_mut(client);
         record.values[item as usize] = version.value;
         record.awaited = without(record.awaited, item);
+        if record.mode == MIXING {
+            return self.got_delivered_to_mixed(client, item);
+        }
         if is_second {
             self.spoil_second_got(client, version, latest);
         }
@@ -252,6 +280,8 @@ impl Store {
         };
         if is_fast {
             self.spoil_shown(client, &mut ended);
+        } else {
+            self.spoil_chosen(client, &mut ended);
         }
         let record = self.tables.client_mut(client);
         *record = Client::resting(record.count, ended);
@@ -273,4 +303,14 @@ impl Store {
         }
         stamp > present
     }
+}
+
+/// By item of the set: its value, from four bytes each, ascending.
+pub(super) fn values_of(set: u64, given: &[u8]) -> [u64; ITEMS] {
+    let mut values = [0; ITEMS];
+    for (item, value) in items(set).zip(given.chunks(4)) {
+        values[item as usize] =
+            value.iter().fold(0, |number, byte| number * 256 + u64::from(*byte));
+    }
+    values
 }

@@ -60,11 +60,30 @@ pub const WRITING: u64 = 2;
 pub const FIRST_PART: u64 = 3;
 /// The mode of a client with a fast read that fetches items again.
 pub const SECOND_PART: u64 = 4;
+/// The mode of a client with a running mixed transaction.
+pub const MIXING: u64 = 5;
 /// How many modes there are.
-pub const MODES: u64 = 5;
+pub const MODES: u64 = 6;
+
+/// The write part of a mixed transaction.
+#[derive(Clone, Copy, Debug, PartialEq, Eq)]
+pub struct WritePart {
+    pub set: u64,
+    /// The items of the set whose prepared reply has not come.
+    pub awaited: u64,
+    pub stamp: Stamp,
+    /// By item of the set.
+    pub values: [u64; ITEMS],
+}
+
+impl WritePart {
+    /// No part.
+    pub const NONE: WritePart =
+        WritePart { set: 0, awaited: 0, stamp: Stamp::INITIAL, values: [0; ITEMS] };
+}
 
 /// A client (desk): its mode and its running transaction. Steps leave an idle client no set; damage
-/// may.
+/// may. Of a mixed transaction the set and what goes by it are the read part's.
 #[derive(Clone, Copy, Debug, PartialEq, Eq)]
 pub struct Client {
     pub mode: u64,
@@ -80,6 +99,8 @@ pub struct Client {
     /// By item of the set whose first reply has come to a fast read: that version's stamp and write
     /// set.
     pub firsts: [Entry; ITEMS],
+    /// Of a mixed transaction.
+    pub write: WritePart,
     pub last: Ended,
 }
 
@@ -91,20 +112,26 @@ pub const READ: u64 = 1;
 pub const WRITE: u64 = 2;
 /// The kind of a last ended fast read.
 pub const FAST_READ: u64 = 3;
+/// The kind of a last ended mixed transaction.
+pub const MIXED: u64 = 4;
 /// How many kinds of a last ended transaction there are.
-pub const KINDS: u64 = 4;
+pub const KINDS: u64 = 5;
 
-/// A client's last ended transaction.
+/// A client's last ended transaction. Of a mixed one the set and what goes by it are what it read.
 #[derive(Clone, Copy, Debug, PartialEq, Eq)]
 pub struct Ended {
     pub kind: u64,
     pub set: u64,
-    /// Of a write, its one stamp.
+    /// Of a write or a mixed transaction, its one stamp.
     pub stamp: Stamp,
-    /// Of a read, ordinary or fast, by item of the set.
+    /// Of all but a write, by item of the set.
     pub stamps: [Stamp; ITEMS],
     /// By item of the set.
     pub values: [u64; ITEMS],
+    /// Of a mixed transaction, what it wrote.
+    pub write_set: u64,
+    /// By item of that set.
+    pub write_values: [u64; ITEMS],
 }
 
 impl Ended {
@@ -115,6 +142,8 @@ impl Ended {
         stamp: Stamp::INITIAL,
         stamps: [Stamp::INITIAL; ITEMS],
         values: [0; ITEMS],
+        write_set: 0,
+        write_values: [0; ITEMS],
     };
 }
 
@@ -132,7 +161,23 @@ impl Client {
             stamps: [Stamp::INITIAL; ITEMS],
             values: [0; ITEMS],
             firsts: [Entry::INITIAL; ITEMS],
+            write: WritePart::NONE,
             last,
+        }
+    }
+
+    /// Whether it awaits no item, of either part.
+    pub fn awaits_none(&self) -> bool {
+        self.awaited == 0 && (self.mode != MIXING || self.write.awaited == 0)
+    }
+
+    /// The items whose replies count in the load: those of a write, ordinary or mixed, whose
+    /// prepared reply has come, and of a fast read's first part whose first reply has.
+    pub fn arrived(&self) -> u64 {
+        match self.mode {
+            WRITING | FIRST_PART => self.set & !self.awaited,
+            MIXING => self.write.set & !self.write.awaited,
+            _ => 0,
         }
     }
 
@@ -158,11 +203,11 @@ impl Client {
 
     /// The stamps of its last ended transaction.
     pub fn last_stamps(&self) -> Vec<Stamp> {
+        let read = items(self.last.set).map(|item| self.last.stamps[item as usize]);
         match self.last.kind {
-            READ | FAST_READ => {
-                items(self.last.set).map(|item| self.last.stamps[item as usize]).collect()
-            }
+            READ | FAST_READ => read.collect(),
             WRITE => vec![self.last.stamp],
+            MIXED => read.chain([self.last.stamp]).collect(),
             _ => Vec::new(),
         }
     }
@@ -238,14 +283,11 @@ impl Tables {
         seen.fold(self.client(client).count, u64::max)
     }
 
-    /// Messages, and the replies that have come: for each writing client the prepared replies, and
-    /// for each fast read the first replies until its first part is over.
+    /// Messages, and the replies that have come: for each write, of a mixed transaction too, the
+    /// prepared replies until it ends, and for each fast read the first replies until its first
+    /// part is over.
     pub fn load(&self) -> u64 {
-        let come: u64 = self
-            .existing_clients()
-            .filter(|client| [WRITING, FIRST_PART].contains(&client.mode))
-            .map(|client| size(client.set & !client.awaited))
-            .sum();
+        let come: u64 = self.existing_clients().map(|client| size(client.arrived())).sum();
         self.messages.len() as u64 + come
     }
 

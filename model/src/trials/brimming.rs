@@ -3,19 +3,22 @@
 use super::Busy;
 use crate::stamp::{Entry, Stamp};
 use crate::store::message::Message;
-use crate::store::tables::{Client, Sizes, Tables, Version, FIRST_PART, SECOND_PART, WRITING};
+use crate::store::tables::{
+    Client, Sizes, Tables, Version, WritePart, FIRST_PART, MIXING, SECOND_PART, WRITING,
+};
 
 const STAMP: Stamp = Stamp { number: 7, client: 2 };
 const VERSION: Version = Version { item: 3, value: 9, stamp: STAMP, set: 0b1000 };
 const GET: Message = Message::Get { client: 2, item: 3, stamp: Stamp::INITIAL };
 
 /// So many sorts of blocks there are, each at the brim and with 1, 2 and 3 less.
-pub const SORTS: usize = 11;
+pub const SORTS: usize = 15;
 
-/// Blocks full of messages, of messages and replies, of messages and first replies, of versions,
-/// and of versions and prepares, some that the widest read or write fills, one in which the last
-/// first reply makes room, and some whose count or a number in whose view is the greatest; and the
-/// same with 1, 2 and 3 less. The first are at the brim.
+/// Blocks full of messages, of messages and replies, also to a mixed transaction, of messages and
+/// first replies, of versions, and of versions and prepares, some that the widest read or write
+/// fills, one in which the last first reply makes room, one with room for a message but not for
+/// two, one with room for a version, and some whose count or a number in whose view is the
+/// greatest; and the same with 1, 2 and 3 less. The first are at the brim.
 pub fn brimming() -> Vec<Busy> {
     let sorts: [fn(usize) -> Tables; SORTS] = [
         messages,
@@ -25,6 +28,10 @@ pub fn brimming() -> Vec<Busy> {
         first_replies,
         second_part,
         last_first_reply,
+        mixed_replies,
+        mixed_gots,
+        room_for_a_shared_item,
+        room_for_what_is_written,
         versions,
         prepares,
         count,
@@ -103,6 +110,41 @@ fn last_first_reply(less: usize) -> Tables {
     let version = Version { item: 0, value: 9, stamp: STAMP, set: ALL_BUT_THE_LAST };
     let last = Message::FirstReply { client: 2, version, latest };
     tables.messages = [vec![GET; 65 - less], vec![last]].concat();
+    tables
+}
+
+/// Of client 2's mixed transaction all 62 prepared replies have come, and of 64 gots 62.
+fn mixed_replies(less: usize) -> Tables {
+    let write = WritePart { set: u64::MAX >> 2, stamp: STAMP, ..WritePart::NONE };
+    let mut tables = with_mixed(0b11, write);
+    tables.messages = vec![GET; 66 - less];
+    tables
+}
+
+/// Of client 2's mixed transaction all gots have come, which don't count, and no prepared reply.
+fn mixed_gots(less: usize) -> Tables {
+    let write = WritePart { set: 0b11, awaited: 0b11, stamp: STAMP, ..WritePart::NONE };
+    let mut tables = with_mixed(0, write);
+    tables.messages = vec![GET; 126 - less];
+    tables
+}
+
+/// One place: a mixed transaction that reads and writes one item takes two.
+fn room_for_a_shared_item(less: usize) -> Tables {
+    replies(less + 1)
+}
+
+/// One place for a version: a mixed transaction that reads and writes one item takes no more.
+fn room_for_what_is_written(less: usize) -> Tables {
+    versions(less + 1)
+}
+
+/// Client 2 in a mixed transaction that reads all of 64 items.
+fn with_mixed(awaited: u64, write: WritePart) -> Tables {
+    let mut tables = Tables::fresh(Sizes::new(2, 1, 64));
+    let count = STAMP.number;
+    *tables.client_mut(2) =
+        Client { mode: MIXING, count, set: u64::MAX, awaited, write, ..Client::INITIAL };
     tables
 }
 

@@ -41,7 +41,7 @@ impl Busy {
         let mut fields = fields(&tables);
         fields.sort_by_key(|field| field.place);
         for field in &fields {
-            words[field.place] = field.word;
+            field.store(&mut words);
         }
         Busy { tables, words, fields }
     }

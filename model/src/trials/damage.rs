@@ -40,10 +40,10 @@ pub fn damaged_blocks(
         let mut chooser =
             Chooser { random, tables: tables.as_ref().unwrap_or(&busy.tables), damaged: place };
         let [read, write] = [chooser.read(), chooser.write()];
-        let fast_read = chooser.fast_read();
+        let [fast_read, mixed] = [chooser.fast_read(), chooser.mixed()];
         let [hand_over, compare] = [chooser.hand_over(), chooser.compare()];
         let others = [chooser.deliver(), chooser.show(), Call::Clear, hand_over, compare];
-        for call in [read, fast_read, write].into_iter().chain(others) {
+        for call in [read, fast_read, write, mixed].into_iter().chain(others) {
             let answer = match &tables {
                 Some(_) => agree(served, &words, &call),
                 None => refused(served, &words, &call, 1),

@@ -5,6 +5,7 @@ use super::{Busy, Difference, Met};
 use crate::answer::Answer;
 use crate::block::Calls;
 use crate::call::Call;
+use crate::frames::log::MOST_BYTES;
 use crate::layout::NEEDED;
 use crate::set::size;
 use crate::store::tables::WIDEST_WRITE;
@@ -13,11 +14,21 @@ use crate::store::Store;
 /// Numbers that are far out of every range.
 const FAR: [u64; 6] = [1 << 32, (1 << 32) + 1, 1 << 61, 1 << 63, (1 << 63) + 1, u64::MAX];
 
-/// Each call at every edge, on a copy of the block.
+/// Each call at every edge, on a copy of the block; of fresh starts only those of `lengths`.
 pub fn edges(served: &dyn Calls, busy: &Busy, met: &mut Met) -> Result<(), Difference> {
     lengths(served, busy, met)?;
-    let calls = [sizes(), reads(busy), writes(busy), deliveries(busy), showings(busy), pairs(busy)];
+    let starts = [reads(busy), writes(busy), mixed(busy)];
+    let calls = [starts.concat(), deliveries(busy), showings(busy), pairs(busy)];
     for call in calls.concat().into_iter().chain([Call::Clear]) {
+        met.count_on(&busy.tables, &call, agree(served, &busy.words, &call)?);
+    }
+    Ok(())
+}
+
+/// A fresh start with sizes at every edge, on a copy of the block. What it held doesn't matter, so
+/// that a few blocks are enough.
+pub fn fresh_starts(served: &dyn Calls, busy: &Busy, met: &mut Met) -> Result<(), Difference> {
+    for call in sizes() {
         met.count_on(&busy.tables, &call, agree(served, &busy.words, &call)?);
     }
     Ok(())
@@ -32,8 +43,9 @@ fn lengths(served: &dyn Calls, busy: &Busy, met: &mut Met) -> Result<(), Differe
         Call::Read { client: 1, set: 1 },
         Call::FastRead { client: 1, set: 1 },
         Call::Write { client: 1, set: 1, values: vec![1; 4] },
+        Call::Mixed { client: 1, read: 1, write: 1, values: vec![1; 4] },
         Call::Deliver { place: 0 },
-        Call::Show { client: 1, output: vec![1; 600] },
+        Call::Show { client: 1, output: vec![1; MOST_BYTES] },
         Call::Clear,
         Call::HandOver { giver: 1, receiver: 2 },
         Call::Compare { first: 1, second: 1 },
@@ -74,7 +86,11 @@ fn clients(busy: &Busy) -> Vec<u64> {
     [&(0..=existing + 1).collect::<Vec<u64>>()[..], &[9, 15, 16, 17, 255, 256], &FAR].concat()
 }
 
-fn sets(busy: &Busy) -> Vec<u64> {
+/// The sets at every edge; for a client far out of range one set.
+fn sets(busy: &Busy, client: u64) -> Vec<u64> {
+    if client > busy.tables.sizes.clients + 1 {
+        return vec![1];
+    }
     let items = busy.tables.sizes.items;
     let all = u64::MAX >> (64 - items);
     let past = (1 << (items - 1)) << 1;
@@ -87,7 +103,7 @@ fn sets(busy: &Busy) -> Vec<u64> {
 fn reads(busy: &Busy) -> Vec<Call> {
     let mut calls = Vec::new();
     for client in clients(busy) {
-        for set in sets(busy) {
+        for set in sets(busy, client) {
             calls.extend([Call::Read { client, set }, Call::FastRead { client, set }]);
         }
     }
@@ -97,7 +113,7 @@ fn reads(busy: &Busy) -> Vec<Call> {
 fn writes(busy: &Busy) -> Vec<Call> {
     let mut calls = Vec::new();
     for client in clients(busy) {
-        for set in sets(busy) {
+        for set in sets(busy, client) {
             let right = 4 * size(set) as usize;
             for length in [0, right.saturating_sub(4), right.saturating_sub(1), right, right + 1] {
                 calls.push(Call::Write {
@@ -105,6 +121,22 @@ fn writes(busy: &Busy) -> Vec<Call> {
                     set,
                     values: (0..length).map(|place| place as u8).collect(),
                 });
+            }
+        }
+    }
+    calls
+}
+
+/// Each set read beside an item written, written beside one read, and both read and written, here
+/// also with a value byte too many.
+fn mixed(busy: &Busy) -> Vec<Call> {
+    let mut calls = Vec::new();
+    for client in clients(busy) {
+        for set in sets(busy, client) {
+            for (read, write, more) in [(set, 1, 0), (1, set, 0), (set, set, 0), (set, set, 1)] {
+                let length = 4 * size(write) + more;
+                let values = (0..length).map(|place| place as u8).collect();
+                calls.push(Call::Mixed { client, read, write, values });
             }
         }
     }
@@ -122,7 +154,7 @@ fn showings(busy: &Busy) -> Vec<Call> {
     let store = Store::with_tables(busy.tables.clone());
     let mut calls = Vec::new();
     for client in clients(busy) {
-        let frame = match store.show(client, &mut [0; 600]) {
+        let frame = match store.show(client, &mut [0; MOST_BYTES]) {
             Answer::Shown { length } => length as usize,
             _ => 10,
         };

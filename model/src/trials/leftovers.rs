@@ -12,6 +12,9 @@ pub(super) fn leftovers(sizes: &Sizes, length: usize, random: &mut Random) -> Ve
         words[places::scalar(client, Scalar::Stamp)] = stamp(sizes, random);
         words[places::scalar(client, Scalar::LastSet)] = set(sizes, random);
         words[places::scalar(client, Scalar::LastStamp)] = stamp(sizes, random);
+        for scalar in [Scalar::WriteSet, Scalar::WriteAwaited, Scalar::LastWriteSet] {
+            words[places::scalar(client, scalar)] = set(sizes, random);
+        }
         for item in 0..ITEMS {
             words[places::asked(client, item)] = stamp(sizes, random);
             words[places::value(client, item)] = value(random);

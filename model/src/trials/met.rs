@@ -16,6 +16,7 @@ pub struct Met {
     pub reads: usize,
     pub fast_reads: usize,
     pub writes: usize,
+    pub mixed: usize,
     /// By kind of message.
     pub delivered: [usize; 8],
     pub reads_ended: usize,
@@ -43,6 +44,7 @@ impl Met {
             Call::Read { .. } => self.reads += 1,
             Call::FastRead { .. } => self.fast_reads += 1,
             Call::Write { .. } => self.writes += 1,
+            Call::Mixed { .. } => self.mixed += 1,
             Call::Deliver { .. } => {
                 self.delivered[(answer >> 8 & 0xff) as usize] += 1;
                 match answer >> 32 {
@@ -91,7 +93,7 @@ impl Met {
     /// The least of the counts of accepted calls, by call, kind of message and end.
     pub fn rarest_accepted(&self) -> usize {
         let others = [self.cleared, self.handed_over, self.compared.iter().sum()];
-        let starts = [self.reads, self.fast_reads, self.writes];
+        let starts = [self.reads, self.fast_reads, self.writes, self.mixed];
         let calls = [&[self.fresh, self.shown], &starts[..], &others].concat();
         let ends = [self.reads_ended, self.writes_ended];
         let all = calls.iter().chain(&ends).chain(&self.delivered[1..]);

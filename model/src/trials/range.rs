@@ -35,7 +35,7 @@ pub fn every_field(
     let mut words = busy.words.clone();
     for field in &busy.fields {
         let greatest = field.sort.greatest(&busy.tables.sizes);
-        let word = field.word;
+        let word = busy.words[field.place];
         for damaged in [
             0,
             1,

@@ -32,6 +32,10 @@ pub struct Runs {
     pub committed_before: usize,
     pub own_committed: usize,
     pub committed_meanwhile: usize,
+    pub mixed_shown: usize,
+    pub ended_by_a_got: usize,
+    pub read_and_written: usize,
+    pub mixed_entries_shown: usize,
     pub greatest_load: u64,
     pub most_versions: usize,
 }
@@ -87,6 +91,10 @@ fn random_run(
     runs.committed_before += summary.committed_before;
     runs.own_committed += summary.own_committed;
     runs.committed_meanwhile += summary.committed_meanwhile;
+    runs.mixed_shown += summary.mixed_shown;
+    runs.ended_by_a_got += summary.ended_by_a_got;
+    runs.read_and_written += summary.read_and_written;
+    runs.mixed_entries_shown += summary.mixed_entries_shown;
     runs.greatest_load = runs.greatest_load.max(run.greatest_load);
     runs.most_versions = runs.most_versions.max(run.most_versions);
     Ok(())

@@ -7,8 +7,8 @@ use crate::set::items;
 use crate::stamp::{Entry, Stamp};
 use crate::store::message::Message;
 use crate::store::tables::{
-    Client, Ended, Sizes, Tables, Version, FAST_READ, FIRST_PART, IDLE, ITEMS, READ, READING,
-    SECOND_PART, WRITE, WRITING,
+    Client, Ended, Sizes, Tables, Version, WritePart, FAST_READ, FIRST_PART, IDLE, ITEMS, MIXED,
+    MIXING, READ, READING, SECOND_PART, WRITE, WRITING,
 };
 
 /// The block of a seed. Words that are no field often hold the stamp of a stored version.
@@ -96,9 +96,11 @@ impl Maker {
         let mut stamps = [Stamp::INITIAL; ITEMS];
         items(set).for_each(|item| stamps[item as usize] = stamp);
         let running = Client { set, stamps, ..Client::INITIAL };
-        let kind = self.random.pick(&[READ, FAST_READ]);
+        let kind = self.random.pick(&[READ, FAST_READ, MIXED]);
         let read = Ended { kind, set, stamps, ..Ended::NONE };
-        let write = Ended { kind: WRITE, set, stamp, ..Ended::NONE };
+        let kind = self.random.pick(&[WRITE, MIXED]);
+        let write = Ended { kind, set, stamp, ..Ended::NONE };
+        let asking = WritePart { set, awaited: set, ..WritePart::NONE };
         let mode = self.random.pick(&[FIRST_PART, SECOND_PART]);
         let awaited = set & self.random.number() | 1 << set.trailing_zeros();
         let fast = Client { mode, set, awaited, ..Client::INITIAL };
@@ -107,7 +109,7 @@ impl Maker {
             let kept: Vec<u64> = items(fast.first_replied()).collect();
             firsts[self.random.pick(&kept) as usize].stamp = stamp;
         }
-        match self.random.below(10) {
+        match self.random.below(13) {
             0 | 1 => Client { mode: WRITING, awaited: set, ..running },
             2 => Client { mode: READING, awaited: set, ..running },
             3 => Client { mode: IDLE, ..running },
@@ -115,6 +117,16 @@ impl Maker {
             5 => Client { last: write, ..Client::INITIAL },
             6 => Client { mode: FIRST_PART, awaited: set, ..running },
             7 => Client { mode: SECOND_PART, awaited: set, ..running },
+            // The stamp of its write part, whatever it awaits; or one that it asks for.
+            8 => {
+                let write = WritePart { stamp, ..asking };
+                Client { mode: MIXING, set, write, ..Client::INITIAL }
+            }
+            9 => {
+                let write = WritePart { stamp, awaited: 0, ..asking };
+                Client { mode: MIXING, set, awaited: set, write, ..Client::INITIAL }
+            }
+            10 => Client { mode: MIXING, awaited: set, write: asking, ..running },
             _ => Client { firsts, ..fast },
         }
     }

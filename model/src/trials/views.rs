@@ -4,7 +4,9 @@
 use super::Busy;
 use crate::random::Random;
 use crate::stamp::{Entry, Stamp};
-use crate::store::tables::{Client, Sizes, Tables, FIRST_PART, READING, SECOND_PART, WRITING};
+use crate::store::tables::{
+    Client, Sizes, Tables, WritePart, FIRST_PART, MIXING, READING, SECOND_PART, WRITING,
+};
 
 /// The block of a seed. Each view is a copy of another but for some entries, which are earlier,
 /// later, of another set or anything; now and then a client is busy.
@@ -87,9 +89,15 @@ impl Maker {
     /// Mostly idle, with any count.
     fn record(&mut self, client: u64) {
         let count = self.random.below(5);
-        let mode = self.random.pick(&[READING, WRITING, FIRST_PART, SECOND_PART]);
+        let mode = self.random.pick(&[READING, WRITING, FIRST_PART, SECOND_PART, MIXING]);
         let mut busy = Client { mode, count, set: 1, awaited: 1, ..Client::INITIAL };
         busy.stamps[0] = Stamp::new(1, client);
+        if mode == MIXING {
+            // Either part alone may await something.
+            let [read, awaited] = self.random.pick(&[[0, 1], [1, 0], [1, 1]]);
+            busy.awaited = read;
+            busy.write = WritePart { set: 1, awaited, stamp: busy.stamps[0], ..WritePart::NONE };
+        }
         *self.tables.client_mut(client) = match self.random.below(5) {
             0 => busy,
             _ => Client { count, ..Client::INITIAL },

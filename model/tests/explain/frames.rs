@@ -101,6 +101,8 @@ fn bytes_that_answer_no_such_frame_are_told() {
         ("06020000000000000003", "00"),
         ("06020000000000000003", "0006000200"),
         ("07", "00"),
+        ("07010000000000000001000000000000000100000007", "00"),
+        ("07010000000000000001000000000000000100000007", "0006000200"),
         ("40", "00"),
         ("40", "00000000"),
         ("410102", "00"),
@@ -173,6 +175,34 @@ fn a_fast_read_is_said_from_its_start_to_its_showing() {
         said("0502", "0023020000000000000001000000010100000007"),
         "client 2 is asked what it ended last: client 2 shows by a fast read item 0 from write \
          number 1 of client 1, value 7"
+    );
+}
+
+#[test]
+fn a_mixed_transaction_is_said_from_its_start_to_its_showing() {
+    assert_eq!(
+        said("07020000000000000003000000000000000200000009", "000003"),
+        "client 2 starts to read items 0 and 1 and to write item 1, value 9: accepted, 3 messages \
+         in flight"
+    );
+    assert_eq!(
+        said("070200000000000000030000000000000002", "06"),
+        "client 2 starts to read items 0 and 1 and to write item 1, with 0 values: refused by 6: \
+         not as many values as items"
+    );
+    let delivered = "the message at place 0 is delivered";
+    assert_eq!(
+        said("040000", "0005000102"),
+        format!("{delivered}: a got reply, 1 message in flight; with it a mixed transaction ends")
+    );
+    assert_eq!(
+        said("040000", "0002000102"),
+        format!("{delivered}: a prepared reply, 1 message in flight; with it a write ends")
+    );
+    assert_eq!(
+        said("0502", "0024020000000000000001000000000000000000000000000000000100000001000000a9"),
+        "client 2 is asked what it ended last: client 2 shows by a mixed transaction item 0 \
+         initial; write number 1 of client 2: item 0, value 169"
     );
 }
 

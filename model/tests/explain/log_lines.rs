@@ -37,6 +37,15 @@ fn a_fast_read() {
 }
 
 #[test]
+fn a_mixed_transaction() {
+    assert_lines(
+        "24020000000000000001000000010100000007000000000000000200000003000000a9\n",
+        "log line 1: client 2 shows by a mixed transaction item 0 from write number 1 of client 1, \
+         value 7; write number 3 of client 2: item 1, value 169\n",
+    );
+}
+
+#[test]
 fn a_hand_over() {
     assert_lines("220108\n", "log line 1: client 1 hands over to client 8\n");
 }

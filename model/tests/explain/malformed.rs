@@ -47,7 +47,17 @@ fn the_kind_and_length_of_a_store_frame() {
         ("00", "unknown kind 00"),
         ("06", "wrong length: a fast read has 10 bytes, this 1"),
         ("060200000000000003", "wrong length: a fast read has 10 bytes, this 9"),
-        ("07", "unknown kind 07"),
+        (
+            "07",
+            "wrong length: a mixed transaction has 18 bytes and 4 for each of at most 64 values, \
+             this 1",
+        ),
+        (
+            "0701000000000000000100000000000000010000",
+            "wrong length: a mixed transaction has 18 bytes and 4 for each of at most 64 values, \
+             this 20",
+        ),
+        ("08", "unknown kind 08"),
         ("20", "unknown kind 20"),
         ("010202", "wrong length: a fresh start has 4 bytes, this 3"),
         ("0102020202", "wrong length: a fresh start has 4 bytes, this 5"),
@@ -78,7 +88,12 @@ fn the_kind_and_length_of_a_store_frame() {
 #[test]
 fn the_kind_and_length_of_a_log_line() {
     let lines = [
-        ("24010000000000000001", "unknown kind 24"),
+        ("2401", "wrong length: 2, too short for a client and a set"),
+        ("24010000000000000001", "wrong length: 10, too short for what it reads and a write set"),
+        (
+            "240100000000000000010000000000000000000000000000000003",
+            "wrong length: a mixed transaction that reads 1 and writes 2 has 39 bytes, this 27",
+        ),
         ("25010000000000000001", "unknown kind 25"),
         ("23010000000000000001", "wrong length: a fast read of 1 item has 19 bytes, this 10"),
         ("2301", "wrong length: 2, too short for a client and a set"),

@@ -93,6 +93,7 @@ fn good_logs() -> Vec<Vec<u8>> {
         "equal numbers, sibling of a greater client",
         "chain in order",
         "own write missed below a fast read",
+        "own mixed write missed by a mixed transaction",
     ];
     let logs: Vec<Vec<u8>> = examples::all()
         .into_iter()

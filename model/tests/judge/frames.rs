@@ -16,6 +16,16 @@ const READ: &[u8] = &[
 const FAST_READ: &[u8] =
     &[0x23, 0x02, 0, 0, 0, 0, 0, 0, 0, 0x10, 0, 0, 0, 0x09, 0x03, 0, 0, 0, 0x04];
 const HAND_OVER: &[u8] = &[0x22, 0x08, 0x03];
+const MIXED: &[u8] = &[
+    0x24, 0x04, 0, 0, 0, 0, 0, 0, 0, 0x02, 0, 0, 0, 0x09, 0x03, 0, 0, 0, 0x04, 0, 0, 0, 0, 0, 0, 0,
+    0x81, 0, 0, 0, 0x0a, 0, 0, 0, 0x05, 0, 0, 0, 0x06,
+];
+const FRAMES: [&[u8]; 5] = [WRITE, READ, FAST_READ, HAND_OVER, MIXED];
+
+fn mixed() -> LogFrame {
+    let shown = Shown { number: 9, client: 3, value: 4 };
+    LogFrame::of_mixed(4, (0b10, vec![shown]), (0b1000_0001, 10, vec![5, 6]))
+}
 
 fn write() -> LogFrame {
     LogFrame::of_write(3, 1 << 63 | 1 << 1, 66_051, vec![7, 4_294_901_244])
@@ -69,6 +79,16 @@ fn frames_have_the_bytes_of_the_paper() {
     let hand_over = LogFrame::of_hand_over(8, 3);
     assert_eq!((hand_over.bytes(), hand_over.line()), (HAND_OVER.to_vec(), "220803\n".to_owned()));
     assert_eq!(LogFrame::parse(HAND_OVER), Ok(hand_over));
+    assert_eq!((mixed().bytes(), LogFrame::parse(MIXED)), (MIXED.to_vec(), Ok(mixed())));
+}
+
+#[test]
+fn a_mixed_transaction_shows_and_writes_what_its_parts_would_alone() {
+    let read = LogFrame::of_read(4, 0b10, vec![Shown { number: 9, client: 3, value: 4 }]);
+    let write = LogFrame::of_write(4, 0b1000_0001, 10, vec![5, 6]);
+    assert_eq!((mixed().shown(), mixed().written()), (read.shown(), write.written()));
+    let parts = [&read.bytes()[..], &write.bytes()[2..]].concat();
+    assert_eq!(MIXED[1..], parts[1..]);
 }
 
 #[test]
@@ -87,7 +107,7 @@ fn a_hand_over_shows_and_writes_nothing() {
 
 #[test]
 fn every_truncation_and_extension_of_a_frame_is_refused() {
-    for frame in [WRITE, READ, FAST_READ, HAND_OVER] {
+    for frame in FRAMES {
         for length in 0..frame.len() {
             assert!(LogFrame::parse(&frame[..length]).is_err());
         }
@@ -99,8 +119,8 @@ fn every_truncation_and_extension_of_a_frame_is_refused() {
 
 #[test]
 fn other_kinds_are_refused() {
-    for kind in (0..0x20).chain(0x24..=0xff) {
-        for frame in [WRITE, READ, FAST_READ, HAND_OVER] {
+    for kind in (0..0x20).chain(0x25..=0xff) {
+        for frame in FRAMES {
             assert!(LogFrame::parse(&[&[kind], &frame[1..]].concat()).is_err());
         }
     }
@@ -115,8 +135,14 @@ fn parsing_leaves_clients_sets_and_numbers_to_the_judge() {
         LogFrame::of_fast_read(9, 0, vec![]),
         LogFrame::of_hand_over(0, 9),
         LogFrame::of_hand_over(255, 255),
+        LogFrame::of_mixed(0, (0, vec![]), (0, 0, vec![])),
+        LogFrame::of_mixed(
+            255,
+            (u64::MAX, vec![Shown::INITIAL; 64]),
+            (u64::MAX, u32::MAX, vec![u32::MAX; 64]),
+        ),
     ];
-    let lengths = [14, 270, 10, 10, 3, 3];
+    let lengths = [14, 270, 10, 10, 3, 3, 22, 854];
     for (frame, length) in frames.into_iter().zip(lengths) {
         assert_eq!(frame.bytes().len(), length);
         assert_eq!(LogFrame::parse(&frame.bytes()), Ok(frame));
@@ -129,7 +155,7 @@ fn random_bytes_are_no_frame_or_the_bytes_of_their_frame() {
     let mut below = |bound| random.below(bound);
     let mut parsed = 0;
     for _ in 0..20_000 {
-        let mut bytes = vec![0x20 + below(4) as u8, below(256) as u8];
+        let mut bytes = vec![0x20 + below(5) as u8, below(256) as u8];
         let set = below(4) << (below(3) * 31);
         bytes.extend(set.to_be_bytes());
         bytes.extend((0..below(30)).map(|_| below(256) as u8));

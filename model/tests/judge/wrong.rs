@@ -1,8 +1,12 @@
 //! Wrong judges: the hand-worked examples and the random logs each tell them from a right one.
 
+use koolvent_model::frames::hex::from_line;
 use koolvent_model::frames::log::{LogFrame, Manner};
 use koolvent_model::judge::findings::{fractured, own_write_missed, unwritten, Finding};
-use koolvent_model::judge::generate::{random_log, random_long_log, with_kinds};
+use koolvent_model::judge::generate::{
+    every_small_log, every_small_log_with_hand_overs, random_log, random_long_log, read_and_write,
+    with_kinds,
+};
 use koolvent_model::judge::{examples, judge, judge_by, Verdict};
 use koolvent_model::random::Random;
 use koolvent_model::stamp::Stamp;
@@ -347,7 +351,7 @@ fn fast_reads_judged_as_ordinary_ones_are_caught() {
     assert_caught(&strict, "own write missed by a fast read");
     assert_caught(&strict, "giver's write missed by a fast read");
     let mut random = Random::new(7);
-    let long = (0..50).map(|_| random_long_log(&mut random));
+    let long = (0..100).map(|_| random_long_log(&mut random));
     assert!(long.filter(|log| strict(log) != judge(log)).count() >= 5);
 }
 
@@ -378,6 +382,90 @@ fn fast_reads_let_pass_are_caught() {
 fn fast_reads_refused_are_caught() {
     let refusing = |log: &[u8]| judge(&with_kinds(log, b"23", b"26"));
     assert_caught(&refusing, "whole fast read");
+}
+
+/// The log with each mixed line as these lines, made of its read part and its write part.
+fn with_mixed_as(log: &[u8], made: fn(String, String) -> String) -> Vec<u8> {
+    let lines = log.split_inclusive(|byte| *byte == b'\n');
+    let made = lines.map(|line| {
+        let frame = from_line(line).ok().and_then(|bytes| LogFrame::parse(&bytes).ok());
+        match frame {
+            Some(LogFrame { client, read: Some(read), write: Some(write), receiver }) => {
+                let part = LogFrame { client, read: None, write: None, receiver };
+                let read = LogFrame { read: Some(read), ..part.clone() }.line();
+                made(read, LogFrame { write: Some(write), ..part }.line()).into_bytes()
+            }
+            _ => line.to_vec(),
+        }
+    });
+    made.collect::<Vec<_>>().concat()
+}
+
+/// The verdict on the log with more lines, with its line as in this one.
+fn judge_in_place(log: &[u8], longer: &[u8]) -> Verdict {
+    let lines = |log: &[u8]| log.split_inclusive(|byte| *byte == b'\n').count();
+    let line_in = |line: usize| {
+        let above: Vec<&[u8]> = log.split_inclusive(|byte| *byte == b'\n').collect();
+        (1..=above.len()).find(|number| {
+            let text = above[..*number].concat();
+            lines(&with_mixed_as(&text, |read, write| read + &write)) >= line
+        })
+    };
+    match judge(longer) {
+        Verdict::Judged { finding, line } if finding != 0 => {
+            Verdict::Judged { finding, line: line_in(line).expect("a line of the log") }
+        }
+        Verdict::Malformed { line } => {
+            Verdict::Malformed { line: line_in(line).expect("a line of the log") }
+        }
+        other => other,
+    }
+}
+
+/// "The judge takes its read part as above its own write, and its write part as a `20` line."
+#[test]
+fn a_mixed_line_is_judged_as_its_read_part_above_its_write_part() {
+    let mut random = Random::new(9);
+    let examples = examples::findings().into_iter().map(|example| example.log);
+    let small = every_small_log().into_iter().chain(every_small_log_with_hand_overs());
+    let mut logs: Vec<Vec<u8>> = examples.chain(small.map(|log| read_and_write(&log))).collect();
+    logs.extend((0..5_000).map(|_| random_log(&mut random)));
+    let mut split = 0;
+    for log in &logs {
+        let longer = with_mixed_as(log, |read, write| read + &write);
+        split += usize::from(longer != *log);
+        assert_eq!(judge_in_place(log, &longer), judge(log));
+    }
+    assert!(split >= 45_360 + 15_552 + 500, "{split}");
+}
+
+#[test]
+fn mixed_lines_judged_otherwise_are_caught() {
+    let below = |log: &[u8]| judge_in_place(log, &with_mixed_as(log, |read, write| write + &read));
+    assert_caught(&below, "item initial to its own writer");
+    let unread = |log: &[u8]| judge(&with_mixed_as(log, |_, write| write));
+    assert_caught(&unread, "fractured mixed transaction");
+    let unwritten = |log: &[u8]| judge(&with_mixed_as(log, |read, _| read));
+    assert_caught(&unwritten, "read of a mixed write");
+    let fast = |log: &[u8]| {
+        let as_fast = with_mixed_as(log, |read, write| read.replacen("21", "23", 1) + &write);
+        judge_in_place(log, &as_fast)
+    };
+    assert_caught(&fast, "own write missed by a mixed transaction");
+    let refusing = |log: &[u8]| judge(&with_kinds(log, b"24", b"26"));
+    assert_caught(&refusing, "whole mixed transaction");
+}
+
+/// A log that is malformed is judged with its mixed lines' read parts alone, which have no number.
+#[test]
+fn mixed_numbers_left_out_of_the_strict_rise_are_caught() {
+    let unnumbered = |log: &[u8]| match judge(log) {
+        Verdict::Malformed { .. } => judge(&with_mixed_as(log, |read, _| read)),
+        other => other,
+    };
+    assert_caught(&unnumbered, "write number of a mixed one above");
+    assert_caught(&unnumbered, "mixed number of a write above");
+    assert_caught(&unnumbered, "equal mixed numbers");
 }
 
 #[test]

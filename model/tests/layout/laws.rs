@@ -6,13 +6,14 @@ use koolvent_model::runs::{run_watched, tables_amid, Sort as Runs};
 use koolvent_model::stamp::{Entry, Stamp};
 use koolvent_model::store::message::Message;
 use koolvent_model::store::tables::{
-    Client, Ended, Sizes, Tables, Version, FAST_READ, READ, READING, SECOND_PART, WRITE, WRITING,
+    Client, Ended, Sizes, Tables, Version, WritePart, FAST_READ, MIXED, MIXING, READ, READING,
+    SECOND_PART, WRITE, WRITING,
 };
 use std::collections::{BTreeMap, BTreeSet};
 
 /// The largest tables, all of whose words that can be fields are: two of the clients read and have
-/// ended writes, two fetch items again and have ended fast reads, and four write and have ended
-/// reads, two of them fast.
+/// ended writes, two fetch items again and have ended fast reads, two write and have ended reads,
+/// and two have a mixed transaction and have ended one.
 fn full_tables() -> Tables {
     let mut tables = Tables::fresh(Sizes::new(8, 8, 64));
     let stamp = Stamp::new(u64::from(u32::MAX), 8);
@@ -21,12 +22,17 @@ fn full_tables() -> Tables {
     tables.view = [[entry; 64]; 8];
     for (place, record) in tables.clients.iter_mut().enumerate() {
         let (mode, kind) =
-            [(READING, WRITE), (WRITING, READ), (SECOND_PART, FAST_READ), (WRITING, FAST_READ)]
+            [(READING, WRITE), (WRITING, READ), (SECOND_PART, FAST_READ), (MIXING, MIXED)]
                 [place % 4];
         let mut last = Ended { kind, set: u64::MAX, values: [1; 64], ..Ended::NONE };
         match kind {
             WRITE => last.stamp = stamp,
             _ => last.stamps = [stamp; 64],
+        }
+        let mut write = WritePart::NONE;
+        if mode == MIXING {
+            write = WritePart { set: u64::MAX, awaited: u64::MAX, stamp, values: [2; 64] };
+            last = Ended { stamp, write_set: u64::MAX, write_values: [2; 64], ..last };
         }
         let firsts = if mode == SECOND_PART { [entry; 64] } else { [Entry::INITIAL; 64] };
         *record = Client {
@@ -37,6 +43,7 @@ fn full_tables() -> Tables {
             stamps: [stamp; 64],
             values: [1; 64],
             firsts,
+            write,
             last,
         };
     }
@@ -57,7 +64,8 @@ fn fields_lie_within_the_needed_length_and_no_two_at_one_place() {
     assert_eq!(places.last(), Some(&(NEEDED - 1)));
     // Header, scalars, asked and last stamps, values, first replies, latest, views, versions,
     // messages.
-    let of_clients = 8 * 6 + 4 + 2 + 4 * 64 + 6 * 64 + 2 * 8 * 64 + 2 * 128;
+    let of_mixed = 2 * 3;
+    let of_clients = 8 * 6 + 4 + 4 + of_mixed + 6 * 64 + 6 * 64 + 2 * 8 * 64 + 2 * 128;
     let count = 5 + of_clients + 128 + 8 * 128 + 4 * 512 + 8 * 128;
     assert_eq!(fields.len(), count);
     for field in fields {
@@ -90,7 +98,7 @@ fn words_that_are_no_field_say_nothing() {
         let tables = tables_amid(Runs::AnySize, seed);
         let mut words: Vec<u64> = (0..NEEDED + 3).map(|_| random.number()).collect();
         for field in fields(&tables) {
-            words[field.place] = field.word;
+            field.store(&mut words);
         }
         assert_eq!(decode(&words), Some(tables), "seed {seed}");
     }
@@ -103,15 +111,16 @@ fn another_word_in_a_field_is_another_table_or_none() {
     for tables in small.chain((4..6).map(|seed| tables_amid(Runs::AnySize, seed))) {
         let mut words = encode(&tables);
         for field in fields(&tables) {
-            for other in [field.word ^ 1, field.word ^ 1 << 40, !field.word] {
-                words[field.place] = other;
+            let bits = [1, 1 << 40, u64::MAX].map(|bits| bits & field.mask);
+            for bits in bits.into_iter().filter(|bits| *bits != 0) {
+                words[field.place] = field.word ^ bits;
                 assert_ne!(decode(&words).as_ref(), Some(&tables), "{field:?}");
             }
             words[field.place] = field.word;
             *sorts.entry(field.sort).or_insert(0) += 1;
         }
     }
-    assert_eq!(sorts.len(), 17, "{sorts:?}");
+    assert_eq!(sorts.len(), 18, "{sorts:?}");
 }
 
 #[test]

@@ -4,6 +4,7 @@ mod clearing;
 mod fast_read;
 mod hand_over;
 mod laws;
+mod mixed;
 mod session;
 
 /// The words are those before them but for these rows, each with the place of its first word.

@@ -1,9 +1,9 @@
-//! The exported call. Its logs are more than 200,000: 121,824 small ones and 80,000 random ones
+//! The exported call. Its logs are more than 200,000: 182,736 small ones and 80,000 random ones
 //! alone.
 
 use koolvent_model::judge::generate::{
-    every_small_log, every_small_log_with_hand_overs, random_log, random_long_log, spoil,
-    with_kinds,
+    every_small_log, every_small_log_with_hand_overs, random_log, random_long_log, read_and_write,
+    spoil, with_kinds,
 };
 use koolvent_model::judge::{examples, judge, Verdict};
 use koolvent_model::proved;
@@ -124,6 +124,17 @@ fn every_small_log_of_a_fast_read() {
     tally.assert_met(&[Sort::Malformed, Sort::CLEAN], 1_000);
     tally.assert_met(&[Sort::Finding(1), Sort::Finding(2)], 500);
     assert_eq!(tally.met.get(&Sort::Finding(3)), None);
+}
+
+/// The same logs with a mixed transaction for the read, which writes item 0 too.
+#[test]
+fn every_small_log_of_a_mixed_transaction() {
+    let mut tally = Tally::default();
+    for log in every_small_log().into_iter().chain(every_small_log_with_hand_overs()) {
+        tally.count(agreed(&read_and_write(&log)));
+    }
+    tally.assert_met(&[Sort::Malformed, Sort::CLEAN], 1_000);
+    tally.assert_met(&FINDINGS, 500);
 }
 
 #[test]

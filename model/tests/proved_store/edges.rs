@@ -3,11 +3,13 @@
 use koolvent_model::proved::store::Proved;
 use koolvent_model::runs::Sort;
 use koolvent_model::store::tables::{Sizes, Tables};
-use koolvent_model::trials::edges::edges;
+use koolvent_model::trials::edges::{edges, fresh_starts};
 use koolvent_model::trials::{brimming, Busy, Met};
 
 fn met(blocks: Vec<Busy>) -> Met {
     let mut met = Met::default();
+    let held = blocks.iter().take(4).try_for_each(|busy| fresh_starts(&Proved, busy, &mut met));
+    assert_eq!(held, Ok(()));
     for busy in blocks {
         let held = edges(&Proved, &busy, &mut met);
         assert_eq!(held, Ok(()), "{:?}", busy.tables.sizes);
@@ -40,13 +42,13 @@ fn fresh_blocks() {
         Busy::holding(Tables::fresh(Sizes::new(clients, partitions, items)), items)
     };
     let met = met(sizes.map(fresh).into());
-    assert!(met.reads.min(met.fast_reads).min(met.writes) >= 50, "{met:?}");
+    assert!(met.reads.min(met.fast_reads).min(met.writes).min(met.mixed) >= 50, "{met:?}");
     met.assert_refused(&[1, 2, 3, 5, 6, 10, 13, 17, 18], 10);
 }
 
 #[test]
 fn blocks_at_the_brim_of_a_capacity() {
     let met = met(brimming());
-    assert!(met.reads.min(met.fast_reads).min(met.writes) >= 50, "{met:?}");
+    assert!(met.reads.min(met.fast_reads).min(met.writes).min(met.mixed) >= 50, "{met:?}");
     met.assert_refused(&[7, 8, 9, 10, 11, 17], 8);
 }

@@ -14,7 +14,7 @@ fn runs(sort: Sort, seeds: std::ops::Range<u64>) -> Runs {
 #[test]
 fn small_stores() {
     let runs = runs(Sort::Small, 100_000..104_600);
-    assert!(runs.met.rarest_accepted() >= 4_600, "{runs:?}");
+    assert!(runs.met.rarest_accepted() >= 3_000, "{runs:?}");
     runs.met.assert_refused(&[1, 2, 3, 4, 5, 6, 10, 13, 14, 18], 500);
     assert!(runs.met.compared.iter().all(|times| *times >= 500), "{runs:?}");
     assert!(runs.taken_over >= 800, "{runs:?}");
@@ -28,6 +28,8 @@ fn small_stores() {
     assert!(runs.fast_gots >= 500 && runs.stored_meanwhile >= 100, "{runs:?}");
     assert!(runs.committed_before >= 15_000 && runs.own_committed >= 10_000, "{runs:?}");
     assert!(runs.committed_meanwhile >= 2_000, "{runs:?}");
+    assert!(runs.mixed_shown >= 10_000 && runs.ended_by_a_got >= 3_000, "{runs:?}");
+    assert!(runs.read_and_written >= 10_000 && runs.mixed_entries_shown >= 5_000, "{runs:?}");
 }
 
 #[test]
@@ -37,10 +39,11 @@ fn stores_of_any_size() {
     runs.met.assert_refused(&[1, 2, 3, 4, 5, 6, 8, 10, 13, 14, 17, 18], 20);
     assert!(runs.written_entries_shown >= 2_000, "{runs:?}");
     assert!(runs.met.gone >= 100, "{runs:?}");
-    assert!(runs.taken_over >= 30, "{runs:?}");
+    assert!(runs.taken_over >= 5, "{runs:?}");
     assert!(runs.fast_reads_shown >= 500 && runs.fetched_again >= 100, "{runs:?}");
     assert!(runs.fast_gots >= 300 && runs.stored_meanwhile >= 60, "{runs:?}");
     assert!(runs.committed_before.min(runs.committed_meanwhile) >= 500, "{runs:?}");
+    assert!(runs.mixed_shown >= 500 && runs.ended_by_a_got >= 200, "{runs:?}");
 }
 
 #[test]
@@ -55,7 +58,8 @@ fn crowded_stores_of_some_thousand_calls() {
     assert!(runs.shown_again >= 1_500, "{runs:?}");
     assert!(runs.met.gone >= 1_000 && runs.served >= 100, "{runs:?}");
     assert!(runs.taken_over >= 400, "{runs:?}");
-    assert!(runs.fast_reads_shown >= 500 && runs.fetched_again >= 100, "{runs:?}");
+    assert!(runs.fast_reads_shown >= 250 && runs.fetched_again >= 100, "{runs:?}");
     assert!(runs.fast_gots >= 500 && runs.stored_meanwhile >= 100, "{runs:?}");
     assert!(runs.committed_before.min(runs.committed_meanwhile) >= 500, "{runs:?}");
+    assert!(runs.mixed_shown >= 200 && runs.ended_by_a_got >= 80, "{runs:?}");
 }

@@ -3,13 +3,17 @@
 
 use crate::program::{agreed, printed};
 
-/// A frame of each kind, the shortest and the longest write among them.
+/// A frame of each kind, the shortest and the longest write and mixed transaction among them.
 fn frames() -> Vec<String> {
     let write = |values: usize| format!("0301000000000000000f{}", "0000002a".repeat(values));
     let starts = ["01020204", "0201000000000000000f", "0601000000000000000f"];
     let others = ["040000", "0501", "40", "410102", "420201"];
     let writes = [0, 1, 4, 64].map(write);
-    starts.into_iter().chain(others).map(str::to_owned).chain(writes).collect()
+    let mixed = |values: usize| {
+        format!("07010000000000000003000000000000000f{}", "0000002a".repeat(values))
+    };
+    let mixed = [0, 1, 4, 64].map(mixed);
+    starts.into_iter().chain(others).map(str::to_owned).chain(writes).chain(mixed).collect()
 }
 
 const FRESH: &str = "01020204\n";
@@ -40,6 +44,8 @@ fn writes_of_every_width() {
         let set = u64::MAX.checked_shr(64 - items.min(64)).unwrap_or(0);
         let values = "0000002a".repeat(items as usize);
         input.extend(format!("0301{set:016x}{values}\n0201{set:016x}\n01080840\n").bytes());
+        let mixed = format!("0701{set:016x}{set:016x}{values}\n070100000000000000ff{set:016x}");
+        input.extend(format!("{mixed}{values}\n01080840\n").bytes());
     }
     agreed(&input, 1_000);
 }
@@ -90,10 +96,10 @@ fn no_bytes_no_answer() {
 #[test]
 fn lines_about_the_length_of_the_longest_frame_and_of_buffers() {
     let around = |length: usize| length - 6..length + 7;
-    let lengths = [532, 1_024, 4_096, 8_192, 65_536].into_iter().flat_map(around);
+    let lengths = [532, 548, 1_024, 4_096, 8_192, 65_536].into_iter().flat_map(around);
     let mut input = Vec::new();
     for length in lengths {
-        for beginning in ["", "01020204", "0301000000000000000f"] {
+        for beginning in ["", "01020204", "0301000000000000000f", "0701000000000000000f"] {
             let mut line = beginning.as_bytes().to_vec();
             line.resize(length, b'0');
             input.extend(amid(&line));

@@ -21,6 +21,10 @@ fn line(call: &Call) -> Option<String> {
         Call::Write { client, set, values } => {
             [&[3, byte(*client)?], &set.to_be_bytes()[..], values].concat()
         }
+        Call::Mixed { client, read, write, values } => {
+            let sets = [read.to_be_bytes(), write.to_be_bytes()].concat();
+            [&[7, byte(*client)?], &sets[..], values].concat()
+        }
         Call::Deliver { place } => {
             let place = u16::try_from(*place).ok()?;
             [&[4], &place.to_be_bytes()[..]].concat()

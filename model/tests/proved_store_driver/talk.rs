@@ -67,9 +67,9 @@ impl Drop for Talk {
     }
 }
 
-/// A write and a read of two items, a fast read that fetches one again, showings, clearings, a
-/// hand-over, comparisons, and lines that are refused.
-const LINES: [&str; 36] = [
+/// A write and a read of two items, a fast read that fetches one again, a mixed transaction that a
+/// got ends, showings, clearings, a hand-over, comparisons, and lines that are refused.
+const LINES: [&str; 45] = [
     "0501",
     "40",
     "410102",
@@ -101,6 +101,15 @@ const LINES: [&str; 36] = [
     "040001",
     "040001",
     "040001",
+    "040001",
+    "040001",
+    "0502",
+    "07020000000000000001000000000000000200000009",
+    "070200000000000000010000000000000002000009",
+    "040002",
+    "040002",
+    "40",
+    "0502",
     "040001",
     "040001",
     "0502",

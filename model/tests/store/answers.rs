@@ -98,4 +98,10 @@ fn a_number_is_an_answer_only_to_a_call_that_can_give_it() {
     assert_eq!(Answer::of(&fast, 0x8000), Some(Answer::Started { messages: 128 }));
     assert_eq!(Answer::of(&fast, 8), Some(Answer::Refused(8)));
     assert_eq!(Answer::of(&fast, 17), None);
+    let mixed = Call::Mixed { client: 1, read: 1, write: 1, values: vec![] };
+    assert_eq!(Answer::of(&mixed, 0x8000), Some(Answer::Started { messages: 128 }));
+    assert_eq!(Answer::of(&mixed, 17), Some(Answer::Refused(17)));
+    assert_eq!(Answer::of(&mixed, 18), None);
+    let ended = Answer::Delivered { kind: 5, messages: 1, outcome: WRITE_ENDED };
+    assert_eq!(Answer::of(&delivery, 0x02_0001_0500), Some(ended));
 }

@@ -288,3 +288,31 @@ fn a_fast_read_may_miss_its_client_s_own_uncommitted_write() {
     let (input, output): (Vec<&str>, Vec<&str>) = steps.into_iter().unzip();
     assert_eq!(run(input.concat().as_bytes()), output.concat());
 }
+
+/// Client 1 reads item 0, which nobody wrote, and writes it and item 1; its prepared replies come
+/// first, so that its got ends it. Client 2 then reads what it wrote and corrects item 1; a
+/// prepared reply ends that.
+#[test]
+fn a_mixed_transaction_ends_with_its_last_reply_of_either_kind() {
+    let steps = [
+        ("01020202\n", "00\n"),
+        ("070100000000000000010000000000000003000000060000000a\n", "000003\n"),
+        ("0501\n02010000000000000001\n", "04\n04\n"),
+        ("040001\n040001\n", "0001000300\n0001000300\n"),
+        ("040001\n040001\n", "0002000200\n0002000100\n"),
+        ("40\n", "000000\n"),
+        ("040000\n040000\n", "0004000100\n0005000202\n"),
+        (
+            "0501\n",
+            "0024010000000000000001000000000000000000000000000000000300000001000000060000000a\n",
+        ),
+        ("040000\n040000\n", "0003000100\n0003000000\n"),
+        ("02020000000000000001\n040000\n040000\n", "000001\n0004000100\n0005000001\n"),
+        ("0702000000000000000200000000000000020000000b\n", "000002\n"),
+        ("040000\n040001\n", "0004000200\n0005000100\n"),
+        ("040000\n040000\n", "0001000100\n0002000102\n"),
+        ("0502\n", "002402000000000000000200000001010000000a0000000000000002000000020000000b\n"),
+    ];
+    let (input, output): (Vec<&str>, Vec<&str>) = steps.into_iter().unzip();
+    assert_eq!(run(input.concat().as_bytes()), output.concat());
+}

@@ -4,7 +4,7 @@ use koolvent_model::call::Call;
 use koolvent_model::frames::store::{parse, run};
 use koolvent_model::random::Random;
 
-const GOOD: [&str; 11] = [
+const GOOD: [&str; 13] = [
     "01020202",
     "02020000000000000003",
     "030100000000000000030000000700000008",
@@ -13,6 +13,8 @@ const GOOD: [&str; 11] = [
     "0502",
     "02ffffffffffffffffff",
     "06020000000000000003",
+    "0702000000000000000300000000000000010000000700000008",
+    "070200000000000000030000000000000001",
     "40",
     "410102",
     "42ff00",
@@ -32,6 +34,7 @@ fn has_a_length_of_its_kind(bytes: &[u8]) -> bool {
         Some(3) => (10..=266).contains(&length) && length % 4 == 2,
         Some(4) => length == 3,
         Some(5) => length == 2,
+        Some(7) => (18..=274).contains(&length) && length % 4 == 2,
         Some(0x40) => length == 1,
         Some(0x41 | 0x42) => length == 3,
         _ => false,
@@ -47,6 +50,9 @@ fn every_good_frame_is_parsed() {
     let values = vec![0, 0, 0, 7, 0, 0, 0, 8];
     assert_eq!(parsed(GOOD[2].as_bytes()), Some(Call::Write { client: 1, set, values }));
     assert_eq!(parsed(b"06020000000000000003"), Some(Call::FastRead { client: 2, set }));
+    let values = vec![0, 0, 0, 7, 0, 0, 0, 8];
+    let mixed = Call::Mixed { client: 2, read: 3, write: 1, values };
+    assert_eq!(parsed(GOOD[8].as_bytes()), Some(mixed));
     assert_eq!(parsed(b"410102"), Some(Call::HandOver { giver: 1, receiver: 2 }));
     assert_eq!(parsed(b"42ff00"), Some(Call::Compare { first: 255, second: 0 }));
 }
@@ -56,7 +62,9 @@ fn every_truncation_of_a_good_frame_is_malformed_unless_shorter_by_whole_values(
     for frame in GOOD {
         for length in 0..frame.len() {
             let shorter = &frame.as_bytes()[..length];
-            let whole_values = frame.starts_with("03") && length >= 20 && length % 8 == 4;
+            let least = if frame.starts_with("03") { 20 } else { 36 };
+            let has_values = frame.starts_with("03") || frame.starts_with("07");
+            let whole_values = has_values && length >= least && length % 8 == 4;
             assert_eq!(parsed(shorter).is_some(), whole_values, "{length} of {frame}");
         }
     }
@@ -77,10 +85,10 @@ fn random_bytes_are_parsed_exactly_when_they_have_a_length_of_their_kind() {
     let mut random = Random::new(15);
     let mut frames = 0;
     for _ in 0..200_000 {
-        let length = random.below(24) as usize;
+        let length = random.below(32) as usize;
         let mut bytes = random.bytes(length);
         if let Some(first) = bytes.first_mut() {
-            *first = random.pick(&[0, 1, 2, 3, 4, 5, 6, 7, 0x40, 0x41, 0x42, 0x43]);
+            *first = random.pick(&[0, 1, 2, 3, 4, 5, 6, 7, 8, 0x40, 0x41, 0x42, 0x43]);
         }
         let line: String = bytes.iter().map(|byte| format!("{byte:02x}")).collect();
         let frame = parsed(line.as_bytes());

@@ -12,7 +12,7 @@ use koolvent_model::random::Random;
 use koolvent_model::runs::Sort;
 use koolvent_model::trials::clearings::clearings;
 use koolvent_model::trials::damage::{damaged_blocks, Damaged};
-use koolvent_model::trials::edges::edges;
+use koolvent_model::trials::edges::{edges, fresh_starts};
 use koolvent_model::trials::hand_overs::hand_overs;
 use koolvent_model::trials::range::{every_field, random_words, Judged, Valid};
 use koolvent_model::trials::runs::{random_runs, Runs};
@@ -21,9 +21,18 @@ use koolvent_model::trials::{brimming, Busy, Difference, Met, BRIMMING_SORTS};
 /// Runs of every sort.
 fn runs(served: &dyn Calls) -> Result<Runs, Difference> {
     let mut runs = Runs::default();
-    random_runs(served, Sort::Small, 0..150, &mut runs)?;
-    random_runs(served, Sort::AnySize, 0..20, &mut runs)?;
-    random_runs(served, Sort::Crowded, 0..4, &mut runs)?;
+    random_runs(served, Sort::Small, 0..200, &mut runs)?;
+    random_runs(served, Sort::AnySize, 0..30, &mut runs)?;
+    random_runs(served, Sort::Crowded, 0..6, &mut runs)?;
+    Ok(runs)
+}
+
+/// Fewer of them, for whoever no run catches.
+fn some_runs(served: &dyn Calls) -> Result<Runs, Difference> {
+    let mut runs = Runs::default();
+    random_runs(served, Sort::Small, 0..50, &mut runs)?;
+    random_runs(served, Sort::AnySize, 0..8, &mut runs)?;
+    random_runs(served, Sort::Crowded, 0..2, &mut runs)?;
     Ok(runs)
 }
 
@@ -43,17 +52,28 @@ fn damages(served: &dyn Calls) -> Result<Damaged, Difference> {
     Ok(damaged)
 }
 
+/// Small blocks with a mixed transaction that one reply ends: a got, or the last of its prepared
+/// replies, with which those that end or commit too early do so.
+const MIXED_NEAR_ITS_END: [u64; 3] = [15, 36, 43];
+
+/// A block with a fast read that the last got ends, and whose first reply for some item fetched
+/// again no sibling would show to be older.
+const AN_OLDER_REPLY_UNFRACTURED: u64 = 169;
+
 /// Edges of small blocks, of some at the brim of a capacity, and of some unlike any that calls
 /// leave.
 fn edge_calls(served: &dyn Calls) -> Result<Met, Difference> {
     let mut met = Met::default();
     for seed in 0..4 {
+        fresh_starts(served, &Busy::new(Sort::Small, seed), &mut met)?;
+    }
+    for seed in (0..4).chain(MIXED_NEAR_ITS_END) {
         edges(served, &Busy::new(Sort::Small, seed), &mut met)?;
     }
     for busy in brimming().iter().take(BRIMMING_SORTS) {
         edges(served, busy, &mut met)?;
     }
-    for seed in 95..165 {
+    for seed in (95..165).chain([AN_OLDER_REPLY_UNFRACTURED]) {
         edges(served, &Busy::unlike_any(seed), &mut met)?;
     }
     Ok(met)
@@ -79,7 +99,7 @@ fn range(valid: &Valid) -> Result<Judged, Difference> {
     let mut random = Random::new(1);
     let mut judged = Judged::default();
     let small = (0..10).map(|seed| Busy::new(Sort::Small, seed));
-    for busy in small.chain((16..22).map(Busy::unlike_any)) {
+    for busy in small.chain((16..32).chain([64]).map(Busy::unlike_any)) {
         every_field(valid, &busy, &mut random, &mut judged)?;
     }
     for busy in brimming().iter().take(BRIMMING_SORTS) {

@@ -20,6 +20,8 @@ fn runs_meet_every_call_and_most_refusals() {
     assert!(runs.fast_gots >= 50 && runs.stored_meanwhile >= 10, "{runs:?}");
     assert!(runs.committed_before >= 700 && runs.own_committed >= 350, "{runs:?}");
     assert!(runs.committed_meanwhile >= 150, "{runs:?}");
+    assert!(runs.mixed_shown >= 200 && runs.ended_by_a_got >= 50, "{runs:?}");
+    assert!(runs.read_and_written >= 100 && runs.mixed_entries_shown >= 100, "{runs:?}");
 }
 
 #[test]
@@ -34,10 +36,8 @@ fn damages_meet_every_call_and_refusal() {
 #[test]
 fn edges_meet_starts_deliveries_and_their_refusals() {
     let met = crate::edge_calls(&Modelled::default()).expect("the model's own answers");
-    assert!(
-        met.reads.min(met.fast_reads).min(met.writes).min(met.shown).min(met.cleared) >= 10,
-        "{met:?}"
-    );
+    let calls = [met.reads, met.fast_reads, met.writes, met.mixed, met.shown, met.cleared];
+    assert!(calls.iter().min() >= Some(&10), "{met:?}");
     assert!(met.handed_over.min(met.compared.iter().sum()) >= 10, "{met:?}");
     met.assert_refused(&[1, 2, 3, 4, 5, 6, 7, 8, 9, 10, 13, 14, 17, 18], 1);
     met.assert_refused_by_kind(20);

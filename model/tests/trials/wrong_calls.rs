@@ -1,7 +1,7 @@
 //! Wrong stores on blocks, each caught by a trial.
 
 use crate::wrong_store::Wrong;
-use crate::{cleared, damages, edge_calls, handed_over, runs};
+use crate::{cleared, damages, edge_calls, handed_over, runs, some_runs};
 use koolvent_model::block::Modelled;
 use koolvent_model::store::fault::Fault;
 
@@ -110,7 +110,7 @@ fn runs_damages_and_edges_catch_every_other_choice_of_stamps() {
     assert!(damages(&wrong).is_err());
     assert!(edge_calls(&wrong).is_err());
     let wrong = Modelled { fault: Some(Fault::OwnEntryByItsSet) };
-    assert!(runs(&wrong).is_ok());
+    assert!(some_runs(&wrong).is_ok());
     assert!(damages(&wrong).is_err());
     assert!(edge_calls(&wrong).is_err());
 }
@@ -120,7 +120,7 @@ fn runs_damages_and_edges_catch_every_other_choice_of_stamps() {
 #[test]
 fn damages_and_edges_catch_a_tie_that_takes_the_version_s_set() {
     let wrong = Modelled { fault: Some(Fault::TieTakesVersion) };
-    assert!(runs(&wrong).is_ok());
+    assert!(some_runs(&wrong).is_ok());
     assert!(damages(&wrong).is_err());
     assert!(edge_calls(&wrong).is_err());
 }
@@ -165,7 +165,7 @@ fn runs_and_clearings_catch_every_wrong_clearing() {
 #[test]
 fn clearings_catch_a_write_under_way_forgotten_once_its_prepares_are_delivered() {
     let wrong = Modelled { fault: Some(Fault::WriteUnderWayForgotten) };
-    assert!(runs(&wrong).is_ok());
+    assert!(some_runs(&wrong).is_ok());
     assert!(cleared(&wrong).is_err());
 }
 
@@ -214,7 +214,7 @@ fn runs_and_hand_overs_catch_every_wrong_hand_over_and_comparison() {
 fn hand_overs_and_edges_catch_sets_that_count_at_a_tie() {
     for fault in [Fault::TieTakesGivers, Fault::ComparesSets] {
         let wrong = Modelled { fault: Some(fault) };
-        assert!(runs(&wrong).is_ok(), "{fault:?}");
+        assert!(some_runs(&wrong).is_ok(), "{fault:?}");
         assert!(handed_over(&wrong).is_err(), "{fault:?}");
         assert!(edge_calls(&wrong).is_err(), "{fault:?}");
     }
@@ -289,7 +289,7 @@ fn damages_and_edges_catch_replies_that_no_run_has() {
         Fault::UnstoredLatestAnswered,
     ] {
         let wrong = Modelled { fault: Some(fault) };
-        assert!(runs(&wrong).is_ok(), "{fault:?}");
+        assert!(some_runs(&wrong).is_ok(), "{fault:?}");
         assert!(damages(&wrong).is_err(), "{fault:?}");
         assert!(edge_calls(&wrong).is_err(), "{fault:?}");
     }
@@ -330,6 +330,91 @@ fn damages_catch_wrong_words_of_fast_reads() {
         assert!(damages(&wrong).is_err(), "{wrong:?}");
     }
     assert!(runs(&Wrong::AsksAgainAlone).is_err());
+}
+
+/// Those that read and write in one transaction otherwise than document 02, P8.
+#[test]
+fn runs_and_edges_catch_every_wrong_mixed_transaction() {
+    for fault in [
+        Fault::PreparesBeforeGets,
+        Fault::OwnWriteAskedFor,
+        Fault::ChosenAtTheEnd,
+        Fault::MixedViewAtStart,
+        Fault::ViewWithTheLastPrepared,
+        Fault::EndsWithTheLastPrepared,
+        Fault::EndsWithTheLastGot,
+        Fault::CommitsWithTheLastPrepared,
+        Fault::GotSendsNoCommits,
+        Fault::GotLeavesTheView,
+        Fault::GotEndsARead,
+        Fault::SharedItemStruckTwice,
+        Fault::OwnWriteShown,
+        Fault::PartsSwapped,
+        Fault::ShownAsAWrite,
+        Fault::SharedItemOnce,
+        Fault::WrittenItemsAloneInTheLoad,
+        Fault::WidthOfBothSets,
+        Fault::EmptyReadSet,
+    ] {
+        let wrong = Modelled { fault: Some(fault) };
+        assert!(runs(&wrong).is_err(), "{fault:?}");
+        assert!(edge_calls(&wrong).is_err(), "{fault:?}");
+    }
+}
+
+/// Runs may fill their versions without a mixed start that tells; one of the blocks at the brim has
+/// room for just what is written.
+#[test]
+fn edges_catch_9_of_both_sets() {
+    assert!(edge_calls(&Modelled { fault: Some(Fault::NineOfBothSets) }).is_err());
+}
+
+#[test]
+fn runs_and_edges_catch_a_load_with_other_replies_to_mixed_transactions() {
+    for fault in [
+        Fault::MixedPreparedOutOfTheLoad,
+        Fault::MixedPreparedUntilTheLast,
+        Fault::MixedGotsInTheLoad,
+    ] {
+        let wrong = Modelled { fault: Some(fault) };
+        assert!(runs(&wrong).is_err(), "{fault:?}");
+        assert!(edge_calls(&wrong).is_err(), "{fault:?}");
+    }
+}
+
+/// In runs too: where its prepared replies have come and gots are awaited, nothing but the mixed
+/// transaction itself names its stamp.
+#[test]
+fn runs_and_clearings_catch_a_mixed_transaction_forgotten() {
+    for fault in [Fault::MixedForgotten, Fault::MixedAskedSpares] {
+        let wrong = Modelled { fault: Some(fault) };
+        assert!(cleared(&wrong).is_err(), "{fault:?}");
+    }
+    assert!(runs(&Modelled { fault: Some(Fault::MixedForgotten) }).is_err());
+}
+
+/// No run has a first reply to a client that doesn't await it; other blocks do.
+#[test]
+fn damages_and_edges_catch_a_first_reply_to_a_mixed_transaction() {
+    let wrong = Modelled { fault: Some(Fault::FirstReplyToAMixed) };
+    assert!(some_runs(&wrong).is_ok());
+    assert!(damages(&wrong).is_err());
+    assert!(edge_calls(&wrong).is_err());
+}
+
+#[test]
+fn damages_catch_wrong_words_of_mixed_transactions() {
+    for wrong in [
+        Wrong::MixesHalvesAlone,
+        Wrong::HalvesSwapped,
+        Wrong::GotTakesTheWord,
+        Wrong::ClearsWriteAtAnEnd,
+        Wrong::KeepsShownHalves,
+    ] {
+        assert!(damages(&wrong).is_err(), "{wrong:?}");
+    }
+    assert!(runs(&Wrong::HalvesSwapped).is_err());
+    assert!(runs(&Wrong::GotTakesTheWord).is_err());
 }
 
 /// No run comes near the greatest number; damages and edges have it in views.

@@ -11,8 +11,8 @@ use std::ops::Range;
 
 /// The clauses that runs on the store break, of each run the first.
 fn broken_by(store: Modelled) -> Vec<Clause> {
-    let small = broken(&store, Sort::Small, 0..150);
-    [small, broken(&store, Sort::AnySize, 0..20)].concat()
+    let small = broken(&store, Sort::Small, 0..300);
+    [small, broken(&store, Sort::AnySize, 0..40)].concat()
 }
 
 /// Runs on the store with the fault break each of these clauses, of whatever item and client.
@@ -38,7 +38,10 @@ const COMMITTED_MISSED: Clause = Clause::CommittedMissed { item: 0 };
 const STALE: Clause = Clause::Stale { item: 0 };
 const NOT_BROUGHT: Clause = Clause::NotBrought { item: 0 };
 const FRACTURED: Clause = Clause::Fractured { item: 0, older: 0 };
+const ANSWERED_BEFORE_STORED: Clause = Clause::AnsweredBeforeStored { item: 0 };
+const OWN_WRITE_MISSED: Clause = Clause::OwnWriteMissed { item: 0 };
 const WENT_BACK: Clause = Clause::WentBack { item: 0 };
+const NOT_CHOSEN: Clause = Clause::NotChosen { item: 0 };
 
 #[test]
 fn the_model_breaks_no_clause() {
@@ -87,8 +90,65 @@ fn fast_reads_shown_or_remembered_wrongly_are_found() {
     breaks(Fault::FirstRepliesUnseen, &[WENT_BACK, Clause::OlderThanShown]);
 }
 
-/// Which message of a client lies where, what is spared, and what only damaged blocks hold shows in
-/// tables alone; so does a start that is refused for want of room.
+/// What a read shows then is unfractured, no own write is missed, and nothing goes back: no other
+/// clause is broken.
+#[test]
+fn choices_from_another_part_of_the_view_or_from_more_are_found() {
+    for fault in [Fault::PassEndsWithTheSet, Fault::VersionToSiblings] {
+        let broken = broken_by(Modelled { fault: Some(fault) });
+        are_among(&broken, fault, &[NOT_CHOSEN]);
+        assert!(
+            broken.iter().all(|clause| matches!(clause, Clause::NotChosen { .. })),
+            "{fault:?}"
+        );
+    }
+}
+
+#[test]
+fn entries_that_were_not_chosen_at_the_start_are_found() {
+    breaks(Fault::ChosenAtTheEnd, &[ANSWERED_BEFORE_STORED, NOT_CHOSEN]);
+    breaks(Fault::OwnWriteShown, &[ANSWERED_BEFORE_STORED, NOT_CHOSEN]);
+    breaks(Fault::OwnWriteAskedFor, &[Clause::DeliveryWithinTheList, NOT_CHOSEN]);
+}
+
+#[test]
+fn mixed_transactions_that_send_or_end_otherwise_are_found() {
+    breaks(Fault::PreparesBeforeGets, &[Clause::Kind]);
+    breaks(Fault::EndsWithTheLastPrepared, &[Clause::MixedEnd]);
+    breaks(Fault::EndsWithTheLastGot, &[Clause::MixedEnd]);
+    breaks(Fault::GotEndsARead, &[Clause::MixedEnd]);
+    breaks(Fault::SharedItemStruckTwice, &[Clause::MixedEnd, Clause::DeliveryWithinTheList]);
+    breaks(Fault::CommitsWithTheLastPrepared, &[Clause::Length]);
+    breaks(Fault::GotSendsNoCommits, &[Clause::Length]);
+    breaks(Fault::GotLeavesTheView, &[OWN_WRITE_MISSED]);
+}
+
+#[test]
+fn mixed_transactions_shown_otherwise_are_found() {
+    breaks(Fault::PartsSwapped, &[Clause::Frame]);
+    breaks(Fault::ShownAsAWrite, &[Clause::Frame]);
+}
+
+/// A mixed start that there is no room for leaves a load that every later call refuses. A clearing
+/// that forgets a mixed transaction takes versions that are asked for later.
+#[test]
+fn mixed_transactions_without_room_or_forgotten_are_found() {
+    let refused = Clause::DeliveryWithinTheList;
+    for fault in [
+        Fault::SharedItemOnce,
+        Fault::WrittenItemsAloneInTheLoad,
+        Fault::MixedPreparedOutOfTheLoad,
+        Fault::MixedPreparedUntilTheLast,
+    ] {
+        breaks_in(Sort::Crowded, 0..6, fault, &[refused]);
+    }
+    breaks_in(Sort::Crowded, 0..6, Fault::NineOfBothSets, &[Clause::FreedPlaces]);
+    breaks(Fault::MixedForgotten, &[refused]);
+}
+
+/// Which message of a client lies where, what is spared, what a busy client has in its view, and
+/// what only damaged blocks hold shows in tables alone; so does a start that is refused for want of
+/// room.
 #[test]
 fn what_shows_in_tables_or_refusals_alone_breaks_no_clause() {
     for fault in [
@@ -99,6 +159,12 @@ fn what_shows_in_tables_or_refusals_alone_breaks_no_clause() {
         Fault::ThirdPart,
         Fault::FirstsInTheSecondLoad,
         Fault::FirstsSparedUnlessAwaited,
+        Fault::MixedViewAtStart,
+        Fault::ViewWithTheLastPrepared,
+        Fault::WidthOfBothSets,
+        Fault::MixedGotsInTheLoad,
+        Fault::MixedAskedSpares,
+        Fault::FirstReplyToAMixed,
     ] {
         assert_eq!(broken_by(Modelled { fault: Some(fault) }), [], "{fault:?}");
     }

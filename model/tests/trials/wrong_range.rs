@@ -5,7 +5,9 @@ use koolvent_model::layout::places::{self, Scalar, MESSAGE_WORDS};
 use koolvent_model::layout::{decode, is_valid};
 use koolvent_model::set::{has, size};
 use koolvent_model::store::range::in_range;
-use koolvent_model::store::tables::{Client, FIRST_PART, IDLE, READING, SECOND_PART, WRITING};
+use koolvent_model::store::tables::{
+    Client, FIRST_PART, IDLE, MIXING, READING, SECOND_PART, WRITING,
+};
 
 /// The check that first puts `good` for `bad` at the place is caught.
 fn lax_is_caught(name: &str, place: usize, bad: u64, good: u64) {
@@ -31,9 +33,9 @@ fn a_number_of_none_accepted() {
     let mode = places::scalar(1, Scalar::Mode);
     let kind = places::scalar(1, Scalar::LastKind);
     let message = places::message(0);
-    for as_mode in 0..5 {
-        lax_is_caught("mode 5", mode, 5, as_mode);
-        lax_is_caught("last kind 4", kind, 4, as_mode.min(3));
+    for as_mode in 0..6 {
+        lax_is_caught("mode 6", mode, 6, as_mode);
+        lax_is_caught("last kind 5", kind, 5, as_mode.min(4));
     }
     for as_kind in 1..8 {
         lax_is_caught("message kind 0", message, 0, as_kind);
@@ -130,8 +132,9 @@ fn a_first_reply_out_of_range_accepted() {
 /// modes, no first reply is a field.
 #[test]
 fn a_first_reply_that_is_not_kept_checked() {
-    let within = [READING, WRITING, FIRST_PART].map(|mode| (mode, true));
-    let outside = [IDLE, READING, WRITING, FIRST_PART, SECOND_PART].map(|mode| (mode, false));
+    let within = [READING, WRITING, FIRST_PART, MIXING].map(|mode| (mode, true));
+    let outside =
+        [IDLE, READING, WRITING, FIRST_PART, SECOND_PART, MIXING].map(|mode| (mode, false));
     for (mode, is_in_set) in within.into_iter().chain(outside) {
         let strict = |words: &[u64]| {
             let spoilt = with_firsts(words, |first, client, item| {
@@ -166,8 +169,8 @@ fn a_range_one_too_narrow() {
     strict_is_caught("partitions", places::PARTITIONS, 8);
     strict_is_caught("messages", places::MESSAGES, 128);
     strict_is_caught("versions", places::VERSIONS, 512);
-    strict_is_caught("kind", places::scalar(1, Scalar::LastKind), 3);
-    strict_is_caught("mode", places::scalar(1, Scalar::Mode), 4);
+    strict_is_caught("kind", places::scalar(1, Scalar::LastKind), 4);
+    strict_is_caught("mode", places::scalar(1, Scalar::Mode), 5);
     strict_is_caught("message kind", places::message(0), 7);
 }
 

@@ -1,11 +1,12 @@
 //! Stores on blocks that are wrong in one way.
 
 use koolvent_model::block::{Calls, Modelled};
+use koolvent_model::frames::log::MOST_BYTES;
 use koolvent_model::layout::places::{self, Scalar, NEEDED};
 use koolvent_model::layout::{decode, fields};
 use koolvent_model::set::items;
 use koolvent_model::store::tables::{
-    Client, FIRST_PART, IDLE, LOAD_CAPACITY, READING, SECOND_PART, WRITING,
+    Client, FIRST_PART, IDLE, LOAD_CAPACITY, MIXING, READING, SECOND_PART, WRITING,
 };
 use std::ops::Range;
 
@@ -69,6 +70,16 @@ pub enum Wrong {
     AsksAgainAlone,
     /// The first reply that ends a read isn't kept.
     LastFirstReplyUnkept,
+    /// A mixed start leaves the halves that it doesn't use.
+    MixesHalvesAlone,
+    /// A mixed transaction has its answers in the high halves, and what it writes in the low ones.
+    HalvesSwapped,
+    /// A got to a mixed transaction clears what is written there.
+    GotTakesTheWord,
+    /// The end of a mixed transaction clears its write part's words.
+    ClearsWriteAtAnEnd,
+    /// The end of a mixed transaction keeps of its words the halves that it shows.
+    KeepsShownHalves,
 }
 
 impl Wrong {
@@ -129,11 +140,54 @@ impl Wrong {
                     after[values.clone()].copy_from_slice(&before[values]);
                 }
                 Wrong::ClearsFirstsAtAnEnd if before[mode] > WRITING => after[firsts].fill(0),
+                Wrong::ClearsWriteAtAnEnd if before[mode] == MIXING => {
+                    after[places::scalar(client, Scalar::WriteSet)] = 0;
+                    after[places::scalar(client, Scalar::WriteAwaited)] = 0;
+                }
+                Wrong::KeepsShownHalves if before[mode] == MIXING => {
+                    let tables = decode(after).expect("an accepted call left tables");
+                    for item in 0..64 {
+                        let place = places::last_value(client, item);
+                        let field = fields(&tables).into_iter().find(|of| of.place == place);
+                        after[place] &= field.map_or(u64::MAX, |field| field.mask);
+                    }
+                }
                 Wrong::LastFirstReplyUnkept => {
                     after[firsts.clone()].copy_from_slice(&before[firsts]);
                 }
                 _ => (),
             }
+        }
+    }
+
+    fn spoil_mixed_start(self, before: &[u64], after: &mut [u64], client: usize, items: u64) {
+        let values: Vec<usize> = (0..64)
+            .filter(|item| items >> item & 1 == 1)
+            .map(|item| places::value(client, item))
+            .collect();
+        match self {
+            Wrong::MixesHalvesAlone => {
+                let fields = fields(&decode(after).expect("an accepted call left tables"));
+                for field in fields.iter().filter(|field| values.contains(&field.place)) {
+                    after[field.place] |= before[field.place] & !field.mask;
+                }
+            }
+            Wrong::HalvesSwapped => {
+                for place in values {
+                    after[place] = after[place].rotate_left(32);
+                }
+            }
+            _ => (),
+        }
+    }
+
+    /// The message at the place was a got to a mixed transaction.
+    fn spoil_mixed_got(self, before: &[u64], after: &mut [u64], place: usize) {
+        let message = places::message(place);
+        let [kind, client, item] = [0, 1, 2].map(|word| before[message + word] as usize);
+        let is_mixed = kind == 5 && before[places::scalar(client, Scalar::Mode)] == MIXING;
+        if is_mixed && self == Wrong::GotTakesTheWord {
+            after[places::value(client, item)] &= u64::from(u32::MAX);
         }
     }
 
@@ -262,6 +316,29 @@ impl Calls for Wrong {
         self.made(block, |block| MODEL.start_write(block, client, set, values))
     }
 
+    fn start_mixed(
+        &self,
+        block: &mut [u64],
+        client: u64,
+        read: u64,
+        write: u64,
+        values: &[u8],
+    ) -> u64 {
+        let client = self.client(client);
+        let right = 4 * write.count_ones() as usize;
+        let values = match self {
+            Wrong::TooManyValues => &values[..values.len().min(right)],
+            _ => values,
+        };
+        let before = block.to_vec();
+        let answer =
+            self.made(block, |block| MODEL.start_mixed(block, client, read, write, values));
+        if answer & 0xff == 0 {
+            self.spoil_mixed_start(&before, block, client as usize, read | write);
+        }
+        answer
+    }
+
     fn deliver(&self, block: &mut [u64], place: u64) -> u64 {
         let place = match self {
             Wrong::NarrowPlaces => place % 65_536,
@@ -271,6 +348,9 @@ impl Calls for Wrong {
         let answer = self.made(block, |block| MODEL.deliver(block, place));
         if *self == Wrong::AsksAgainAlone && answer & 0xff == 0 {
             ask_again_alone(&before, block);
+        }
+        if answer & 0xff == 0 {
+            self.spoil_mixed_got(&before, block, place as usize);
         }
         answer
     }
@@ -283,7 +363,7 @@ impl Calls for Wrong {
                 output[length] ^= 1;
             }
             Wrong::ShowsWhatFits if answer == 14 => {
-                let mut whole = [0; 600];
+                let mut whole = [0; MOST_BYTES];
                 MODEL.show(block, client, &mut whole);
                 let room = output.len();
                 output.copy_from_slice(&whole[..room]);

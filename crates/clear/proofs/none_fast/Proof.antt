@@ -1,20 +1,21 @@
--- `clear::none_fast` meets its contract: client after client, a mode below 3.
+-- `clear::none_fast` meets its contract: client after client, neither part of a fast read.
 use borrow.Author.Needs.{needs}
 use mathlib.Core.Path.{ap, _∙_}
 use Prim.Native.Nat.{ℕ, _+_, _-_}
 use native.Mathlib.Omega.{arith}
-use lib.Dec.{ltb}
+use lib.Dec.{eqb}
 use Rattle.basics.specs.Lists.{every}
-use Rattle.layout.specs.Layout.{at, scalars, modeAt}
+use Rattle.layout.specs.Layout.{at, scalars, modeAt, stageOf}
 use Rattle.gather.proofs.Tested.{SoFar, tested-none, tested-next, tested-all}
 use Rattle.clear.specs.Stamps.{noneFast}
+use Rattle.clear.proofs.Read.{stage-none}
 use Rattle.clear.proofs.Cleared.{clients-few}
 use Rattle.clear.proofs.none_fast.Statement.{statement}
 use Rattle.clear.proofs.none_fast.Tie as tie
 
 abbrev Inv-loop : tie.InvT-loop
 Inv-loop b clients ok₀ i₀ ok i =
-    SoFar clients (λ i. ltb (at b scalars (modeAt (i + 1))) 3) i ok
+    SoFar clients (λ i. eqb (stageOf (at b scalars (modeAt (i + 1)))) 0) i ok
 
 abbrev μ-loop : tie.MeasureT-loop
 μ-loop b clients ok₀ i₀ ok i = clients - i
@@ -45,15 +46,15 @@ loop-less c = search needs
 loop-again : tie.Need-loop-again Inv-loop μ-loop
 loop-again c =
     tested-next (c .before .before .loop .inv) (c .before .loop-test .taken)
-    (ap (λ (n : ℕ). ltb n 3) (c .mode .ensures))
+    (stage-none (c .mode .result) ∙ ap (λ (n : ℕ). eqb (stageOf n) 0) (c .mode .ensures))
 
 returns : tie.Need-returns Inv-loop μ-loop
 unfolding noneFast
 returns c =
     let l = c .before in
     tested-all (l .loop .inv) (c .loop-test .left)
-    ∙ ap (λ (n : ℕ). every n (λ i. ltb (at (l .before .before .before .args .b .now) scalars
-    (modeAt (i + 1))) 3)) (l .before .clients .ensures)
+    ∙ ap (λ (n : ℕ). every n (λ i. eqb (stageOf (at (l .before .before .before .args .b .now)
+    scalars (modeAt (i + 1)))) 0)) (l .before .clients .ensures)
 
 pub none-fast-spec : {M : Type 1} → statement M
 none-fast-spec =

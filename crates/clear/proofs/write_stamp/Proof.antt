@@ -13,8 +13,8 @@ clients-requires c κs = search needs
 mode-requires : tie.Need-mode-requires
 mode-requires c κs = search needs
 
-set-of-requires : tie.Need-set-of-requires
-set-of-requires c κs = search needs
+written-by-requires : tie.Need-written-by-requires
+written-by-requires c κs = search needs
 
 stamp-requires : tie.Need-stamp-requires
 stamp-requires c κs = search needs
@@ -23,14 +23,14 @@ returns : tie.Need-returns
 returns c =
     let a = c .before .before .before .before .before .before .args in
     write-some (a .b .now) (a .i) (c .before .before .before .before .clients .ensures)
-    (c .before .before .before .mode .ensures) (c .before .before .set-of .ensures)
+    (c .before .before .before .mode .ensures) (c .before .before .written-by .ensures)
     (c .before .if1 .taken) (c .stamp .ensures)
 
 returns-2 : tie.Need-returns-2
 returns-2 c =
     let a = c .before .before .before .before .before .args in
     write-none (a .b .now) (a .i) (c .before .before .before .clients .ensures)
-    (c .before .before .mode .ensures) (c .before .set-of .ensures) (c .if1 .left)
+    (c .before .before .mode .ensures) (c .before .written-by .ensures) (c .if1 .left)
 
 pub write-stamp-spec : {M : Type 1} → statement M
 write-stamp-spec =
@@ -39,7 +39,7 @@ write-stamp-spec =
     add-d
     clients-requires
     mode-requires
-    set-of-requires
+    written-by-requires
     stamp-requires
     returns
     returns-2)

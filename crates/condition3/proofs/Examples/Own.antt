@@ -25,6 +25,7 @@ use Rattle.condition3.specs.World.{World, begin, next, after, joining, l
 use Rattle.condition3.specs.World.{begun, withoutAll, storing, outcomeIn, delivers, stays}
 use Rattle.condition3.specs.Condition3.{EndedBy, Own, outputOfRead, shownNumber, shownWriter}
 use Rattle.condition3.specs.Condition3.{shownValue}
+use Rattle.condition3.specs.Condition3.Company.{alone}
 use Rattle.condition3.specs.Condition3.Own.{own, inherited}
 use Rattle.condition3.specs.Condition3.Manner.{ordinary}
 use Rattle.protocol.proofs.Examples.Table.{same}
@@ -91,7 +92,7 @@ unfolding next after joining leaving staying begun withoutAll storing outcomeIn 
 handedOn =
     let is : EndedBy capacities w 1 (startWrite 1 1 bytes) [] (deliver 0 ∷ []) (deliver 0) =
     record { underWay = record { accepted = refl; unended = refl }; ended = refl } in
-    let mine : CountsFor [] 1 ended = own ended (deliver 0 ∷ []) (deliver 0) [] refl is in
+    let mine : CountsFor [] 1 ended = own alone ended (deliver 0 ∷ []) (deliver 0) [] refl is in
     let second : CountsFor [] 2 handed =
     inherited 1 2 handed ended (startRead 3 1 ∷ handOver 2 3 ∷ deliver 1 ∷ deliver 1 ∷ []) refl refl
     mine in (

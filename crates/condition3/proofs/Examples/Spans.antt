@@ -35,7 +35,9 @@ use Rattle.condition3.specs.World.{outcomeIn, delivers, endsFor, stays, 
 use Rattle.protocol.proofs.Examples.Table.{same}
 use Rattle.condition3.specs.Condition3.{now, sent, came, shownAt, output, later, outputOfRead}
 use Rattle.condition3.specs.Condition3.{answeredAt, shownNumber, shownWriter, shownValue}
-use Rattle.condition3.specs.Condition3.{shownOwnNumber, ShownOlder, Falls}
+use Rattle.condition3.specs.Condition3.{shownOwnSet, shownOwnNumber, shownOwnValue}
+use Rattle.condition3.specs.Condition3.{ShownOlder, Falls}
+use Rattle.condition3.specs.Condition3.Company.{alone}
 use Rattle.condition3.specs.Condition3.Manner.{ordinary}
 
 abbrev w : World
@@ -140,6 +142,14 @@ times =
     && same (map answeredAt (leaves between clearedAmong)) (12 ∷ 12 ∷ 13 ∷ 15 ∷ [])
     && same (map answeredAt (leaves between comparedAmong)) (12 ∷ 12 ∷ 13 ∷ 15 ∷ [])
 
+-- The session's write shows both its values, each at its item's place.
+abbrev ownValues : Bool
+ownValues =
+    let shownOwn =
+    output capacities w 1 (startWrite 1 3 (0 ∷ 0 ∷ 0 ∷ 7 ∷ 0 ∷ 0 ∷ 0 ∷ 8 ∷ [])) []
+    (deliver 0 ∷ deliver 0 ∷ deliver 0 ∷ []) (deliver 0) (deliver 0 ∷ []) room in
+    same (shownOwnValue alone 3 shownOwn 0 ∷ shownOwnValue alone 3 shownOwn 1 ∷ []) (7 ∷ 8 ∷ [])
+
 -- After its showing client 2, which has written nothing, starts a write of item 0: since it was
 -- shown number 1, its number is 2, and so its own showing says; a third write's is 3.
 abbrev corrected : List Call
@@ -157,7 +167,9 @@ numbers =
     (deliver 0 ∷ []) in
     accepts capacities v correction
     && eqb (nextStamp (v .tables) 2) (stampOf 2 2)
-    && eqb (shownOwnNumber shownOwn) 2
+    && eqb (shownOwnSet alone shownOwn) 1
+    && eqb (shownOwnNumber alone shownOwn) 2
+    && eqb (shownOwnValue alone 1 shownOwn 0) 9
     && accepts capacities next correction
     && eqb (nextStamp (next .tables) 2) (stampOf 3 2)
 
@@ -272,6 +284,7 @@ rows =
     ∷ oneEach
     ∷ showing
     ∷ times
+    ∷ ownValues
     ∷ numbers
     ∷ ownCommits
     ∷ readsBoth untilFirst

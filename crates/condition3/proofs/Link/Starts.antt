@@ -4,7 +4,7 @@ use mathlib.Core.Bool.{true, false}
 use mathlib.Core.List.{List, [], _∷_, _++_, map, append-nil}
 use mathlib.Core.Logic.{_⊎_, inl, inr, ⊎-elim}
 use mathlib.Core.Path.{_≡_, refl, sym, ap, _∙_, subst}
-use Prim.Native.Nat.{ℕ, _<_}
+use Prim.Native.Nat.{ℕ, suc, _<_}
 use native.Mathlib.Nat.{le-refl, le-trans}
 use native.Mathlib.Omega.{arith}
 use lib.Dec.{eqb}
@@ -15,15 +15,15 @@ use Rattle.itemset.specs.Set.{has}
 use Rattle.protocol.specs.declared.Message.{Message}
 use Rattle.protocol.specs.declared.Message.the-variants.{Prepare, Get, FirstGet}
 use Rattle.protocol.specs.Tables.{Client, writerOf, put}
-use Rattle.protocol.specs.Message.{isPrepare, isAnyGot, ownerOf}
+use Rattle.protocol.specs.Message.{partsOf, isPrepare, isAnyGot, ownerOf}
 use Rattle.protocol.specs.Range.{Capacities}
 use Rattle.protocol.specs.FastRead.{fastReader, firstGets}
 use Rattle.protocol.specs.Steps.{stored, gets, prepares, nextStamp, valueOf, writer, reader, asks}
-use Rattle.protocol.specs.Steps.{version}
-use Rattle.protocol.specs.Calls.{Call, startRead, startFastRead, startWrite, effect}
+use Rattle.protocol.specs.Steps.{version, greatestOf, mixer, mixedMessages}
+use Rattle.protocol.specs.Calls.{Call, startRead, startFastRead, startWrite, startMixed, effect}
 use Rattle.condition3.specs.World.{World, Labelled, Write, labelled, withoutAll, joining}
 use Rattle.condition3.specs.World.{staying, begun, storing}
-use Rattle.protocol.proofs.Each.{Each, each-upto}
+use Rattle.protocol.proofs.Each.{Each, each-upto, each-append}
 use Rattle.protocol.proofs.Put.{put-same}
 use Rattle.protocol.proofs.Ranges.Values.{IsClient}
 use Rattle.protocol.proofs.Sorts.{Apart}
@@ -114,7 +114,7 @@ module _ (caps : Capacities) (w : World) (inv : Inv caps w) where
         comes = λ l i. absurd (rw (apart-joining w c a) at i);
       }
 
-  -- ---- the start of a write
+  -- ---- the start of a write, alone or in a mixed transaction
 
   module _ (d s : ℕ) (bytes : List ℕ) (is-client : IsClient (w .tables .sizes) d) where
     abbrev stamp : ℕ
@@ -149,70 +149,106 @@ module _ (caps : Capacities) (w : World) (inv : Inv caps w) where
         (λ y. x ∙ sym y) (old-or-new b q))
         (old-or-new a p)
 
-    abbrev client′ : ℕ → Client
-    client′ = put (w .tables .client) d (writer (w .tables) d s bytes)
+    -- with a client c that has its number as count
+    module _ (c : Client) (number : c .count ≡ suc (greatestOf (w .tables) d)) where
+      abbrev client′ : ℕ → Client
+      client′ = put (w .tables .client) d c
 
-    new-entered : Entered L′ client′ new
-    new-entered =
-        record {
-          set = sym (put-same (L .set) stamp s);
-          values = λ k e.
-              sym (ap (λ (f : ℕ → ℕ). f k) (put-same (L .value) stamp (valueOf s bytes)));
-          number = rw (writer-is, put-same (w .tables .client) d (writer (w .tables) d s bytes))
-              (omega arith);
-        }
+      new-entered : Entered L′ client′ new
+      new-entered =
+          record {
+            set = sym (put-same (L .set) stamp s);
+            values = λ k e.
+                sym (ap (λ (f : ℕ → ℕ). f k) (put-same (L .value) stamp (valueOf s bytes)));
+            number = rw (writer-is, put-same (w .tables .client) d c) (omega (arith, number));
+          }
 
-    write-entered : (a : Write) → In a (known (w .writes ++ new ∷ [])) → Entered L′ client′ a
-    write-entered a p =
-        ⊎-elim
-        (λ q. let x = inv .entered a q in
-        let c = carries caps L (w .tables) (inv .sound) d s bytes is-client (a .stamp)
-        (x .number) in
-        record {
-          set = x .set ∙ sym (c .set);
-          values = λ k e. x .values k e
-              ∙ sym (c .value k (or-right (eqb (a .stamp) 0) (has (L .set (a .stamp)) k)
-              (subst (λ (r : ℕ). has r k ≡ true) (x .set) e)));
-          number = le-trans (x .number)
-              (put-rises (w .tables .client) d (writer (w .tables) d s bytes)
-              (omega arith) (writerOf (a .stamp)));
-        })
-        (λ q. subst (λ (z : Write). Entered L′ client′ z) (sym q) new-entered)
-        (old-or-new a p)
+      write-entered : (a : Write) → In a (known (w .writes ++ new ∷ [])) → Entered L′ client′ a
+      write-entered a p =
+          ⊎-elim
+          (λ q. let x = inv .entered a q in
+          let carried = carries caps L (w .tables) (inv .sound) d s bytes is-client (a .stamp)
+          (x .number) in
+          record {
+            set = x .set ∙ sym (carried .set);
+            values = λ k e. x .values k e
+                ∙ sym (carried .value k (or-right (eqb (a .stamp) 0) (has (L .set (a .stamp)) k)
+                (subst (λ (r : ℕ). has r k ≡ true) (x .set) e)));
+            number = le-trans (x .number)
+                (put-rises (w .tables .client) d c (omega (arith, number)) (writerOf (a .stamp)));
+          })
+          (λ q. subst (λ (z : Write). Entered L′ client′ z) (sym q) new-entered)
+          (old-or-new a p)
 
     abbrev prepare : ℕ → Message
     prepare k = Prepare (version k (valueOf s bytes k) stamp s)
 
+    -- the messages of such a start: each is of client d, a prepare of this write or a request
+    pub record Joins (m : Message) : Type 0 where
+      pub owner : ownerOf m ≡ d
+      pub stampOfPrepare : isPrepare m ≡ true → partsOf m .stamp ≡ stamp
+      pub noGot : isAnyGot m ≡ false
+
+    prepares-join : Each Joins (prepares (w .tables) d s bytes)
+    prepares-join =
+        each-upto Joins prepare (w .tables .sizes .items) (has s)
+        (λ k l e. record { owner = writer-is; stampOfPrepare = λ p. refl; noGot = refl })
+
+    gets-join : (r : ℕ) → Each Joins (gets (w .tables) d r)
+    gets-join r =
+        each-upto Joins (λ k. Get d k (asks (w .tables) d k)) (w .tables .sizes .items) (has r)
+        (λ k l e. record { owner = refl; stampOfPrepare = λ p. not-both p refl; noGot = refl })
+
+    module _ (ms : List Message) (joins : Each Joins ms) where
+      joins-owners : (l : Labelled) → In l (map (labelled d (w .time) (w .time)) ms)
+          → l .label .client ≡ ownerOf (l .message)
+      joins-owners = joining-owners d (w .time) ms (λ m i. joins m i .owner)
+
+      joins-come : (l : Labelled) → In l (map (labelled d (w .time) (w .time)) ms)
+          → Comes (w .writes ++ new ∷ []) (w .stores ++ []) (l .label) (l .message)
+      joins-come l i =
+          let y = in-map (labelled d (w .time) (w .time)) l ms i in
+          let x = joins (y .0) (y .1) in
+          subst (λ (x : Labelled). Comes (w .writes ++ new ∷ []) (w .stores ++ []) (x .label)
+          (x .message)) (sym (y .2))
+          (record {
+            prepare = λ p. record {
+              write = new;
+              isIn = in-right new (w .writes) (new ∷ []) (inl refl);
+              same = sym (x .stampOfPrepare p);
+              started = refl;
+            };
+            got = λ p. not-both p (x .noGot);
+          })
+
     pub write-owes : Owes caps w inv (startWrite d s bytes)
     unfolding effect joining staying withoutAll begun storing
     write-owes =
+        let ms = prepares (w .tables) d s bytes in
         record {
-          inFlight = joining-messages d (w .time) (w .time) (w .inFlight)
-              (prepares (w .tables) d s bytes)
-              (w .tables .messages) (inv .inFlight);
+          inFlight = joining-messages d (w .time) (w .time) (w .inFlight) ms (w .tables .messages)
+              (inv .inFlight);
           stays = λ l i. i;
-          owners = joining-owners d (w .time) (prepares (w .tables) d s bytes)
-              (each-upto (λ m. ownerOf m ≡ d) prepare (w .tables .sizes .items) (has s)
-              (λ k l e. writer-is));
+          owners = joins-owners ms prepares-join;
           unique = write-unique;
-          entered = write-entered;
+          entered = write-entered (writer (w .tables) d s bytes) refl;
           stored = λ v i. inl i;
-          comes = λ l i.
-              let y = in-map (labelled d (w .time) (w .time)) l
-              (prepares (w .tables) d s bytes) i in
-              subst (λ (x : Labelled). Comes (w .writes ++ new ∷ []) (w .stores ++ []) (x .label)
-              (x .message)) (sym (y .2))
-              (each-upto (λ m. Comes (w .writes ++ new ∷ []) (w .stores ++ [])
-              (record { client = d; start = w .time; since = w .time }) m) prepare
-              (w .tables .sizes .items) (has s)
-              (λ k l e. record {
-                prepare = λ p. record {
-                  write = new;
-                  isIn = in-right new (w .writes) (new ∷ []) (inl refl);
-                  same = refl;
-                  started = refl;
-                };
-                got = λ p. not-both p refl;
-              })
-              (y .0) (y .1));
+          comes = joins-come ms prepares-join;
+        }
+
+    pub mixed-owes : (r : ℕ) → Owes caps w inv (startMixed d r s bytes)
+    unfolding effect joining staying withoutAll begun storing
+    mixed-owes r =
+        let ms = mixedMessages (w .tables) d r s bytes in
+        let joins : Each Joins ms = each-append Joins (gets (w .tables) d r)
+        (prepares (w .tables) d s bytes) (gets-join r) prepares-join in
+        record {
+          inFlight = joining-messages d (w .time) (w .time) (w .inFlight) ms (w .tables .messages)
+              (inv .inFlight);
+          stays = λ l i. i;
+          owners = joins-owners ms joins;
+          unique = write-unique;
+          entered = write-entered (mixer (w .tables) d r s bytes) refl;
+          stored = λ v i. inl i;
+          comes = joins-come ms joins;
         }

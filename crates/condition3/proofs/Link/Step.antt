@@ -12,14 +12,15 @@ use Rattle.protocol.specs.Range.{Capacities, sizesInRange}
 use Rattle.protocol.specs.Steps.{stored}
 use Rattle.protocol.specs.Calls.{Call, refusal}
 use Rattle.condition3.specs.World.{World, Write, begin, accepts, moved, passed, next}
-use Rattle.protocol.proofs.Sorts.{Sort, reads, readsFast, writes, delivers, apart, sort}
+use Rattle.protocol.proofs.Sorts.{Sort, reads, readsFast, writes, mixes, delivers, apart, sort}
 use Rattle.condition3.proofs.Sound.Step.{blank, sound-fresh}
 use Rattle.condition3.proofs.Sound.StartWrite.{entered}
 use Rattle.condition3.proofs.Link.{Entered, Inv}
 use Rattle.condition3.proofs.Link.Grows.{grow-stored, grows-self}
 use Rattle.condition3.proofs.Link.Messages.{placed-here}
 use Rattle.condition3.proofs.Link.Owes.{Owes, pay}
-use Rattle.condition3.proofs.Link.Starts.{read-owes, fast-read-owes, write-owes, apart-owes}
+use Rattle.condition3.proofs.Link.Starts.{read-owes, fast-read-owes, write-owes, mixed-owes}
+use Rattle.condition3.proofs.Link.Starts.{apart-owes}
 use Rattle.condition3.proofs.Link.Delivery.{deliver-owes}
 use Rattle.condition3.proofs.Common.{known, origin}
 
@@ -64,6 +65,7 @@ module _ (caps : Capacities) (w : World) (inv : Inv caps w) where
   sort-owes (reads d s a) = read-owes caps w inv d s
   sort-owes (readsFast d s a) = fast-read-owes caps w inv d s
   sort-owes (writes d s bytes a) = write-owes caps w inv d s bytes (a .start .client)
+  sort-owes (mixes d r s bytes a) = mixed-owes caps w inv d s bytes (a .read .client) r
   sort-owes (delivers i a) = deliver-owes caps w inv i (placed-here caps w inv i (a .place))
   sort-owes (apart c v a) = apart-owes caps w inv c a
 

@@ -1,19 +1,19 @@
--- Two reads of one item by one client, the second, an ordinary one, started after the first was
--- shown: what the first showed has been in the view since its end, the view only grows, and the
--- second asks for no earlier stamp than the view has.
+-- Two reads of one item by one client, the second, by its view, started after the first was shown:
+-- what the first showed has been in the view since its end, the view only grows, and the second
+-- asks for no earlier stamp than the view has.
 use mathlib.Core.Bool.{true}
 use mathlib.Core.List.{List, [], _∷_, _++_}
-use mathlib.Core.Path.{_≡_, refl, sym, subst}
-use Prim.Native.Nat.{ℕ, _+_, _*_, _≤_, _<_}
+use mathlib.Core.Path.{_≡_, sym, subst}
+use Prim.Native.Nat.{ℕ, _≤_, _<_}
 use native.Mathlib.Nat.{le-trans}
 use native.Mathlib.Omega.{arith}
 use lib.ListN.{length}
-use Rattle.itemset.specs.Set.{has, count}
+use Rattle.itemset.specs.Set.{has}
 use Rattle.protocol.specs.Range.{Capacities}
-use Rattle.protocol.specs.Calls.{Call, startRead, show}
+use Rattle.protocol.specs.Calls.{Call, show}
 use Rattle.condition3.specs.World.{World, after, rests}
-use Rattle.condition3.specs.Condition3.{Manner, startOf, Falls, outputOfRead}
-use Rattle.condition3.specs.Condition3.Manner.{ordinary}
+use Rattle.condition3.specs.Condition3.{Manner, startOf, lengthOf, byView, Falls}
+use Rattle.condition3.specs.Condition3.{outputOfRead}
 use Rattle.condition3.proofs.Link.{Inv}
 use Rattle.condition3.proofs.Runs.Run.{longer-view}
 use Rattle.condition3.proofs.Runs.Ended.{EndedRead}
@@ -26,14 +26,15 @@ module _ (caps : Capacities) (w : World) (inv : Inv caps w) (μ : Manner) (d s :
     (until : List Call) (room : List ℕ)
     (quietly : rests caps (after caps w (before ++ startOf μ d s ∷ during ++ end ∷ [])) d until
     ≡ true)
-    (enough : 10 + 9 * count s ≤ length room)
-    (s′ : ℕ) (between before′ during′ : List Call) (end′ : Call)
-    (r′ : EndedRead caps w ordinary d s′ before′ during′ end′)
+    (enough : lengthOf μ s ≤ length room)
+    (μ′ : Manner) (viewed : byView μ′ ≡ true) (s′ : ℕ) (between before′ during′ : List Call)
+    (end′ : Call)
+    (r′ : EndedRead caps w μ′ d s′ before′ during′ end′)
     (until′ : List Call) (room′ : List ℕ)
     (split : before′ ≡ before ++ startOf μ d s ∷ during ++ end ∷ until ++ show d room ∷ between)
-    (quietly′ : rests caps (after caps w (before′ ++ startRead d s′ ∷ during′ ++ end′ ∷ [])) d
+    (quietly′ : rests caps (after caps w (before′ ++ startOf μ′ d s′ ∷ during′ ++ end′ ∷ [])) d
     until′ ≡ true)
-    (enough′ : 10 + 9 * count s′ ≤ length room′) where
+    (enough′ : lengthOf μ′ s′ ≤ length room′) where
   abbrev stamps : ℕ → ℕ
   stamps = r .stamps
 
@@ -47,19 +48,19 @@ module _ (caps : Capacities) (w : World) (inv : Inv caps w) (μ : Manner) (d s :
       (le-trans (shown-seen caps w inv μ d s before during end r until [] room quietly enough k m)
       (longer-view caps w (before ++ startOf μ d s ∷ during ++ end ∷ until) (show d room ∷ between)
       d k)))
-      (r′ .late refl k m′)
+      (r′ .late viewed k m′)
 
   pub never-falls : (k : ℕ) → has s k ≡ true → has s′ k ≡ true
       → Falls s (outputOfRead caps w μ d s before during end until room) s′
-      (outputOfRead caps w ordinary d s′ before′ during′ end′ until′ room′) k → ⊥
+      (outputOfRead caps w μ′ d s′ before′ during′ end′ until′ room′) k → ⊥
   never-falls k m m′ falls =
       let less : stamps′ k < stamps k = parts-less (stamps′ k) (stamps k)
       (rw (
         ← number-shown caps w inv μ d s before during end r until [] room quietly enough k m,
         ← writer-shown caps w inv μ d s before during end r until [] room quietly enough k m,
-        ← number-shown caps w inv ordinary d s′ before′ during′ end′ r′ until′ [] room′ quietly′
+        ← number-shown caps w inv μ′ d s′ before′ during′ end′ r′ until′ [] room′ quietly′
             enough′ k m′,
-        ← writer-shown caps w inv ordinary d s′ before′ during′ end′ r′ until′ [] room′ quietly′
+        ← writer-shown caps w inv μ′ d s′ before′ during′ end′ r′ until′ [] room′ quietly′
             enough′ k m′,
       ) falls) in
       omega (arith, not-earlier k m m′)

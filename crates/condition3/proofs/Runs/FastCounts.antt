@@ -31,9 +31,9 @@ use Rattle.condition3.proofs.Link.{Inv}
 use Rattle.condition3.proofs.Link.Step.{next-inv}
 use Rattle.condition3.proofs.Runs.Run.{after-append, leaving-append, joining-append}
 use Rattle.condition3.proofs.Runs.Run.{next-accepted, after-inv, still-client}
-use Rattle.condition3.proofs.Runs.Replies.{Awaiting}
-use Rattle.condition3.proofs.Runs.Spans.{starts-awaiting}
-use Rattle.condition3.proofs.Runs.Ended.{EndedRead, fast-not}
+use Rattle.condition3.proofs.Runs.Replies.{Awaiting, reads-on}
+use Rattle.condition3.proofs.Runs.Spans.{starts-awaiting, starts-beside, starts-busy}
+use Rattle.condition3.proofs.Runs.Ended.{EndedRead}
 use Rattle.condition3.proofs.Runs.ReadCounts.{after-start, after-span}
 use Rattle.condition3.proofs.Runs.FastKinds.{counted-kinds, first-counted, Firsts}
 use Rattle.condition3.proofs.Runs.FastSpan.{Fetching}
@@ -47,14 +47,25 @@ use Rattle.condition3.proofs.Common.{members-once}
 pub record Open (d s : ℕ) (v : World) (left sent : List Labelled) : Type 0 where
   pub again : ℕ
   pub awaiting : Awaiting d s again v left
+  pub busy : eqb (v .tables .client d .read .awaited) 0 ≡ false
   pub requests : Requests d s again sent
 
 pub open-part : (d s : ℕ) (v : World) (left sent : List Labelled) → Fast d s v left sent
     → Open d s v left sent
 open-part d s v left sent (first r q) =
-    record { again = 0; awaiting = r .awaiting; requests = q }
+    record {
+      again = 0;
+      awaiting = r .awaiting;
+      busy = reads-on d v left (r .beside) (r .busy);
+      requests = q;
+    }
 open-part d s v left sent (second again asked within r firsts q) =
-    record { again = again; awaiting = r .awaiting; requests = q }
+    record {
+      again = again;
+      awaiting = r .awaiting;
+      busy = reads-on d v left (r .beside) (r .busy);
+      requests = q;
+    }
 
 -- of each item of s at most two requests, of any other none, and one first reply and one got
 abbrev AtMostTwice : ℕ → ℕ → ℕ → List Labelled → List Labelled → Type 0
@@ -101,7 +112,8 @@ fewer-firsts : (d s : ℕ) (v : World) (left : List Labelled) → Fetching d s v
     → counted (isReply d) left < count s
 fewer-firsts d s v left r =
     let a = v .tables .client d .read .awaited in
-    let some : count a ≡ 0 → ⊥ = λ z. eqb-false a 0 (r .awaiting .busy) (count-zero a z) in
+    let some : count a ≡ 0 → ⊥ =
+    λ z. eqb-false a 0 (reads-on d v left (r .beside) (r .busy)) (count-zero a z) in
     omega (arith, some, r .awaiting .replied, count-empty)
 
 -- and one request an item was sent; in the second as many replies have come
@@ -139,9 +151,9 @@ sends-none caps v inv d s left sent (first r q) all c =
     absurd (omega (arith, all, fewer-firsts d s v left r))
 sends-none caps v inv d s left sent (second again asked within r firsts q) all c =
     by-test (endsFor caps v d c)
-    (λ e. let f = read-ends caps v inv d s 2 again asked left r c e in
+    (λ e. let f = read-ends caps v inv d s 2 again 0 asked left r c e in
     rw (eq-eqb (refusal caps (v .tables) c) 0 (f .accepted)) (f .requests))
-    (λ e. read-goes-on caps v inv d s 2 again asked left r c e .1)
+    (λ e. read-goes-on caps v inv d s 2 again 0 asked left r c e .1)
 
 -- it awaits some item, so its replies are fewer than its requests
 fewer : (d s : ℕ) (v : World) (left sent : List Labelled) → Fast d s v left sent
@@ -150,7 +162,7 @@ fewer d s v left sent f =
     let o = open-part d s v left sent f in
     let a = v .tables .client d .read .awaited in
     let some : count a ≡ 0 → ⊥ =
-    λ z. eqb-false a 0 (o .awaiting .busy) (count-zero a z) in
+    λ z. eqb-false a 0 (o .busy) (count-zero a z) in
     omega (arith, some, o .awaiting .replied, o .requests .all)
 
 -- an item of the set that has had no reply, or fewer replies than requests, is awaited
@@ -214,7 +226,11 @@ module _ (caps : Capacities) (w : World) (inv : Inv caps w) (d s : ℕ)
       first
       (record {
         awaiting = starts-awaiting d s (moved w (startFastRead d s)) (fastReader (w .tables) d s)
-            client-is refl refl refl (start .some);
+            client-is refl refl (start .some);
+        beside = starts-beside d 0 (moved w (startFastRead d s)) (fastReader (w .tables) d s)
+            client-is refl refl;
+        busy = starts-busy s (moved w (startFastRead d s) .tables .client d)
+            (fastReader (w .tables) d s) client-is refl (start .some);
         isStage = ap (λ (c : Client). c .read .stage) client-is;
         firsts = λ l p. absurd p;
         answered =
@@ -436,6 +452,6 @@ module _ (caps : Capacities) (w : World) (inv : Inv caps w) (d s : ℕ) (before 
           left = left;
           done = f .done;
           leftAll = left-all f;
-          late = λ o k m. absurd (fast-not o);
+          late = λ o k m. not-both o refl;
           firsts = λ o. subst (Firsts d s (f .asked)) (sym (left-all f)) (f .firsts);
         }

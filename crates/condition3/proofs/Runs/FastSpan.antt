@@ -22,10 +22,10 @@ use Rattle.protocol.specs.declared.Message.{Message}
 use Rattle.protocol.specs.declared.Message.the-variants.{Get, FirstReply}
 use Rattle.protocol.specs.Tables.{Client, ReadPart, entryOf, withRead}
 use Rattle.protocol.specs.Message.{partsOf, isFirstReply, isAnyGot, itemOf, ownerOf}
-use Rattle.protocol.specs.Range.{Capacities}
+use Rattle.protocol.specs.Range.{Capacities, isIdle}
 use Rattle.protocol.specs.FastRead.{repliesOf, freshest, stale, firstKept, secondPart}
 use Rattle.condition3.specs.World.{World, Labelled, labelled, placed, isRequest, isRequestFor}
-use Rattle.condition3.specs.World.{isReply, isReplyFor}
+use Rattle.condition3.specs.World.{isReply, isReplyFor, isPreparedReply}
 use Rattle.protocol.proofs.Each.{each-one, each-append}
 use Rattle.protocol.proofs.Put.{put-same, put-other}
 use Rattle.protocol.proofs.FastRead.{freshest-own, stale-below, freshest-first}
@@ -39,8 +39,8 @@ use Rattle.condition3.proofs.Link.Messages.{in-message, fits}
 use Rattle.condition3.proofs.Link.Asks.{Picked, picked, picked-grows}
 use Rattle.condition3.proofs.Runs.Replies.{Answer, Awaiting, answer-grows, no-reply-for}
 use Rattle.condition3.proofs.Runs.Replies.{still-awaiting, Reply, Brings, not-for, brought}
-use Rattle.condition3.proofs.Runs.Replies.{all-replied, once-each}
-use Rattle.condition3.proofs.Runs.Replies.{goes-on as still-awaited}
+use Rattle.condition3.proofs.Runs.Replies.{all-replied, once-each, Beside, still-beside}
+use Rattle.condition3.proofs.Runs.Replies.{no-prepared, goes-on as still-awaited}
 use Rattle.condition3.proofs.Runs.FastKinds.{AllFirst, first-counted, Firsts}
 use Rattle.condition3.proofs.Runs.ReadSpan.{Reading}
 use Rattle.condition3.proofs.Common.{members-once}
@@ -48,6 +48,8 @@ use Rattle.condition3.proofs.Common.{members-once}
 -- a fast read of s by client d in its first part: each first reply that has come is an answer
 pub record Fetching (d s : ℕ) (v : World) (left : List Labelled) : Type 0 where
   pub awaiting : Awaiting d s 0 v left
+  pub beside : Beside d 0 v left
+  pub busy : isIdle (v .tables .client d) ≡ false
   pub isStage : v .tables .client d .read .stage ≡ 1
   pub firsts : AllFirst d left
   pub answered : (k : ℕ) → has s k ≡ true → has (v .tables .client d .read .awaited) k ≡ false
@@ -59,10 +61,15 @@ pub record Fetching (d s : ℕ) (v : World) (left : List Labelled) : Type 0 wher
 pub still-fetching : (d s : ℕ) (v v′ : World) (left more : List Labelled) → Grows v v′
     → v′ .tables .client d ≡ v .tables .client d
     → ((l : Labelled) → In l more → isReply d l ≡ false)
+    → ((l : Labelled) → In l more → isPreparedReply d l ≡ false)
     → Fetching d s v left → Fetching d s v′ (left ++ more)
-still-fetching d s v v′ left more g same none r =
+still-fetching d s v v′ left more g same none unprepared r =
     record {
-      awaiting = still-awaiting d s 0 v v′ left more same none (r .awaiting);
+      awaiting = still-awaiting d s 0 v v′ left more (ap (λ (c : Client). c .read) same) none
+          (r .awaiting);
+      beside = still-beside d 0 v v′ left more (ap (λ (c : Client). c .write) same) unprepared
+          (r .beside);
+      busy = ap isIdle same ∙ r .busy;
       isStage = ap (λ (c : Client). c .read .stage) same ∙ r .isStage;
       firsts = each-append (λ l. isReply d l ≡ true → isFirstReply (l .message) ≡ true) left more
           (r .firsts) (λ l i e. not-both e (none l i));
@@ -161,6 +168,11 @@ module _ (caps : Capacities) (v : World) (inv : Inv caps v) (d s : ℕ) (left : 
       (each-one (λ l. isReply d l ≡ true → isFirstReply (l .message) ≡ true) (placed v i)
       (λ e. ap isFirstReply is-first))
 
+  -- no write part is beside it
+  beside-after : (v′ : World) → v′ .tables .client d .write ≡ c .write → Beside d 0 v′ more
+  beside-after v′ same = still-beside d 0 v v′ left (placed v i ∷ []) same
+      (no-prepared caps v inv d i u reply) (r .beside)
+
   -- not the last: the first part goes on
   pub fetches-on : (v′ : World) → Brings caps v inv d i u reply v′
       → v′ .tables .client d ≡ withRead c kept → eqb (kept .awaited) 0 ≡ false
@@ -168,8 +180,9 @@ module _ (caps : Capacities) (v : World) (inv : Inv caps v) (d s : ℕ) (left : 
   fetches-on v′ b same f =
       record {
         awaiting = still-awaited caps v inv d i u reply s 0 left (r .awaiting) v′
-            (ap (λ (x : Client). x .read .set) same) (ap (λ (x : Client). x .read .awaited) same)
-            (ap (λ (x : Client). x .write) same) f;
+            (ap (λ (x : Client). x .read .set) same) (ap (λ (x : Client). x .read .awaited) same);
+        beside = beside-after v′ (ap (λ (x : Client). x .write) same);
+        busy = ap isIdle same ∙ rw f refl;
         isStage = ap (λ (x : Client). x .read .stage) same ∙ r .isStage;
         firsts = all-first;
         answered =
@@ -230,7 +243,7 @@ module _ (caps : Capacities) (v : World) (inv : Inv caps v) (d s : ℕ) (left : 
     -- the second part begins
     pub turns : (v′ : World) → Brings caps v inv d i u reply v′
         → v′ .tables .client d ≡ withRead c (secondPart n kept) → eqb again 0 ≡ false
-        → Reading d s 2 again asked v′ more
+        → Reading d s 2 again 0 asked v′ more
     turns v′ b same some =
         let awaited : v′ .tables .client d .read .awaited ≡ again =
         ap (λ (x : Client). x .read .awaited) same in
@@ -239,9 +252,7 @@ module _ (caps : Capacities) (v : World) (inv : Inv caps v) (d s : ℕ) (left : 
         record {
           awaiting = record {
             mode = λ z. r .awaiting .mode (sym set ∙ z);
-            alone = ap (λ (x : Client). x .write) same ∙ r .awaiting .alone;
             set = set ∙ r .awaiting .set;
-            busy = ap (λ (x : ℕ). eqb x 0) awaited ∙ some;
             once = λ j. ap (λ (x : ℕ). counted (isReplyFor d j) more + cond (has x j) 1 0) awaited
                 ∙ ap (λ (m : ℕ). m + cond (has again j) 1 0)
                 (once-each caps v inv d i u reply s 0 left (r .awaiting) over j
@@ -253,6 +264,8 @@ module _ (caps : Capacities) (v : World) (inv : Inv caps v) (d s : ℕ) (left : 
               count-empty,
             );
           };
+          beside = beside-after v′ (ap (λ (x : Client). x .write) same);
+          busy = ap isIdle same ∙ rw some refl;
           isStage = ap (λ (x : Client). x .read .stage) same;
           byStamp = λ z. absurd (omega (arith, ap (λ (x : Client). x .read .stage) same));
           asks = ap (λ (x : Client). x .read .asked) same;

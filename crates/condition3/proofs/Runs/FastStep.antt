@@ -17,8 +17,8 @@ use Rattle.protocol.specs.declared.Version.{Version}
 use Rattle.protocol.specs.declared.Entry.{Entry}
 use Rattle.protocol.specs.declared.Message.{Message}
 use Rattle.protocol.specs.declared.Message.the-variants.{FirstReply}
-use Rattle.protocol.specs.Tables.{Tables, Client, ReadPart, WritePart, rested, withRead}
-use Rattle.protocol.specs.Message.{isFirstReply, ownerOf}
+use Rattle.protocol.specs.Tables.{Tables, Client, ReadPart, rested, withRead}
+use Rattle.protocol.specs.Message.{ownerOf}
 use Rattle.protocol.specs.Range.{Capacities}
 use Rattle.protocol.specs.FastRead.{freshest, stale, firstKept, secondPart, firstReplied}
 use Rattle.protocol.specs.FastRead.{secondGets}
@@ -36,11 +36,12 @@ use Rattle.condition3.proofs.Link.Messages.{placed-message, fits}
 use Rattle.condition3.proofs.Link.Grows.{moved-grows, grows-self}
 use Rattle.condition3.proofs.Runs.Touch.{delivered-outcome, Way, quiet, starts, answers, way}
 use Rattle.condition3.proofs.Runs.Touch.{answers-owner, first-of}
-use Rattle.condition3.proofs.Runs.Replies.{Brings, all-replied, once-each}
+use Rattle.condition3.proofs.Runs.Replies.{none-beside, Brings, all-prepared, each-prepared}
+use Rattle.condition3.proofs.Runs.Replies.{all-replied, once-each}
 use Rattle.condition3.proofs.Runs.FastKinds.{Firsts, firsts-stay}
 use Rattle.condition3.proofs.Runs.ReadSpan.{Reading}
 use Rattle.condition3.proofs.Runs.ReadStep.{Finished, not-started, delivers-reply, ends-by}
-use Rattle.condition3.proofs.Runs.ReadStep.{silent, refused-ends, got-here, read-goes-on}
+use Rattle.condition3.proofs.Runs.ReadStep.{silent, refused-ends, not-first, read-goes-on}
 use Rattle.condition3.proofs.Runs.ReadStep.{read-ends}
 use Rattle.condition3.proofs.Runs.FastSpan.{Fetching, still-fetching, reply, fetches-on}
 use Rattle.condition3.proofs.Runs.FastSpan.{chosen-after, answered-first, turns, gets-all}
@@ -83,7 +84,7 @@ again-requested d s again sent more q all each =
 pub data Fast (d s : ℕ) (v : World) (left sent : List Labelled) : Type 0 where
   first : Fetching d s v left → Requests d s 0 sent → Fast d s v left sent
   second : (again : ℕ) (asked : ℕ → ℕ) → ((k : ℕ) → has again k ≡ true → has s k ≡ true)
-      → Reading d s 2 again asked v left → Firsts d s asked left → Requests d s again sent
+      → Reading d s 2 again 0 asked v left → Firsts d s asked left → Requests d s again sent
       → Fast d s v left sent
 
 -- and once it has ended
@@ -92,7 +93,7 @@ pub record FastEnded (caps : Capacities) (d s : ℕ) (v : World) (c : Call)
   pub again : ℕ
   pub asked : ℕ → ℕ
   pub within : (k : ℕ) → has again k ≡ true → has s k ≡ true
-  pub done : Finished caps d s 3 again asked v c left
+  pub done : Finished caps d s 3 again 0 asked v c left
   pub firsts : Firsts d s asked (left ++ leaving v c)
   pub requests : Requests d s again (sent ++ joining v c)
 
@@ -247,10 +248,11 @@ module _ (caps : Capacities) (v : World) (inv : Inv caps v) (d s : ℕ) (left se
               let ended-by : outcomeIn (step caps (v .tables) (deliver i) .answer) ≡ 1 =
               outcome-with (secondPart n kept) is-second true e in
               let one = reply caps v inv d s left r i here u latest is-first in
+              let unwritten = none-beside d v left (r .beside) in
               let requests : Requests d s 0 (sent ++ joining v (deliver i)) =
               subst (λ (x : ℕ). Requests d s x (sent ++ joining v (deliver i))) none requested in
               ends
-              (ends-by caps v inv d i ended-by
+              (ends-by caps v inv d i 1 refl ended-by
               (delivers-reply caps v inv d i here (ap ownerOf is-first)))
               (record {
                 again = 0;
@@ -259,6 +261,9 @@ module _ (caps : Capacities) (v : World) (inv : Inv caps v) (d s : ℕ) (left se
                 done = record {
                   accepted = a;
                   outcome = ended-by;
+                  beside = r .beside .set;
+                  prepared = all-prepared caps v inv d i u one 0 left (r .beside) unwritten;
+                  preparedEach = each-prepared caps v inv d i u one 0 left (r .beside) unwritten;
                   replied = all-replied caps v inv d i u one s 0 left (r .awaiting) over;
                   onceEach = once-each caps v inv d i u one s 0 left (r .awaiting) over;
                   requests = omega (
@@ -269,7 +274,7 @@ module _ (caps : Capacities) (v : World) (inv : Inv caps v) (d s : ℕ) (left se
                   );
                   values = kept .values;
                   client = record-after ∙ ends-with c p (secondPart n kept) is-second e
-                      ∙ rw (r .awaiting .alone, r .awaiting .set) refl;
+                      ∙ rw (r .beside .set, r .awaiting .set) refl;
                   picked = chosen-after caps v inv d s left r i here u latest is-first over v′
                       brings;
                   answered = λ j m. answered-first caps v inv d s left r i here u latest is-first
@@ -290,33 +295,33 @@ module _ (caps : Capacities) (v : World) (inv : Inv caps v) (d s : ℕ) (left se
           goes
           (first
           (still-fetching d s v (moved v c′) left (leaving v c′) (moved-grows caps v c′ a)
-          (x .client) (x .replies) r)
+          (x .client) (x .replies) (x .prepareds) r)
           (no-more-requests d s 0 sent (joining v c′) (x .requests) q))
           (x .ends)
-      first-way c a (starts c′ t) = absurd (not-started caps v inv d (r .awaiting .busy) c′ a t)
+      first-way c a (starts c′ t) = absurd (not-started caps v inv d (r .busy) c′ a t)
       first-way c a (answers i here t) =
           let m = placed v i .message in
           let owner = answers-owner m d t in
           let g = first-of (inv .ledger) (v .tables .versions) (v .tables .client (ownerOf m)) m d t
           (fits caps v inv (placed v i) here)
           (subst (λ (x : ℕ). v .tables .client x .write .set ≡ 0) (sym owner)
-          (ap (λ (x : WritePart). x .set) (r .awaiting .alone)))
+          (r .beside .set))
           (subst (λ (x : ℕ). v .tables .client x .read .stage ≡ 1) (sym owner) (r .isStage)) in
           by-first i a here (g .0) (g .1 .0) (g .1 .1)
 
     -- ---- in the second part no first reply comes
 
-    module _ (again : ℕ) (asked : ℕ → ℕ) (r : Reading d s 2 again asked v left) where
+    module _ (again : ℕ) (asked : ℕ → ℕ) (r : Reading d s 2 again 0 asked v left) where
       no-first-by : (c : Call) → refusal caps (v .tables) c ≡ 0 → Way caps v inv d c → (k : ℕ)
           → Each (λ l. isFirstReplyFor d k l ≡ false) (leaving v c)
       unfolding leaving
       no-first-by c a (quiet c′ x) k = λ l p. rw (x .replies l p) refl
       no-first-by c a (starts c′ t) k =
-          absurd (not-started caps v inv d (r .awaiting .busy) c′ a t)
+          absurd (not-started caps v inv d (r .busy) c′ a t)
       no-first-by c a (answers i here t) k =
           each-one (λ l. isFirstReplyFor d k l ≡ false) (placed v i)
           (ap (λ (b : Bool). isReplyFor d k (placed v i) && b)
-          (ap isFirstReply (got-here caps v inv d s 2 again asked left r i here t .1 .1))
+          (not-first caps v inv d s 2 again 0 asked left r i here t)
           ∙ and-false (isReplyFor d k (placed v i)))
 
       no-firsts : (c : Call) (k : ℕ)
@@ -338,14 +343,15 @@ module _ (caps : Capacities) (v : World) (inv : Inv caps v) (d s : ℕ) (left se
         (λ a. rw a (go (first-way r q c (eqb-true (refusal caps (v .tables) c) 0 a)
         (way caps v inv d c (eqb-true (refusal caps (v .tables) c) 0 a)))))
         (λ a. rw a (first
-        (still-fetching d s v (passed v) left [] (grows-self v) refl (λ l p. absurd p) r)
+        (still-fetching d s v (passed v) left [] (grows-self v) refl (λ l p. absurd p)
+        (λ l p. absurd p) r)
         (no-more-requests d s 0 sent [] refl q)))
       where
         go : Ways c → Fast d s (moved v c) (left ++ leaving v c) (sent ++ joining v c)
         go (goes x y) = x
         go (ends x y) = not-both x f
     fast-goes-on (second again asked within r firsts q) c f =
-        let x = read-goes-on caps v inv d s 2 again asked left r c f in
+        let x = read-goes-on caps v inv d s 2 again 0 asked left r c f in
         second again asked within (x .0)
         (firsts-stay d s asked left (cond (accepts caps v c) (leaving v c) [])
         (no-firsts again asked r c) firsts)
@@ -363,7 +369,7 @@ module _ (caps : Capacities) (v : World) (inv : Inv caps v) (d s : ℕ) (left se
         go (goes x y) = not-both e y
         go (ends x y) = y
     fast-ends (second again asked within r firsts q) c e =
-        let f = read-ends caps v inv d s 2 again asked left r c e in
+        let f = read-ends caps v inv d s 2 again 0 asked left r c e in
         record {
           again = again;
           asked = asked;

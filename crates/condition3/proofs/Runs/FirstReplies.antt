@@ -14,29 +14,29 @@ use Rattle.basics.specs.Lists.{In}
 use Rattle.basics.proofs.Lists.{in-right, in-append, in-map, in-without}
 use Rattle.itemset.specs.Set.{has}
 use Rattle.protocol.specs.declared.Message.{Message}
-use Rattle.protocol.specs.declared.Message.the-variants.{Prepare, Get, FirstGet}
+use Rattle.protocol.specs.declared.Message.the-variants.{FirstGet}
 use Rattle.protocol.specs.Tables.{Tables}
 use Rattle.protocol.specs.Message.{partsOf, isAnyGot, isFirstGet, isFirstReply, itemOf, ownerOf}
 use Rattle.protocol.specs.Range.{Capacities}
 use Rattle.protocol.specs.FastRead.{firstGets}
-use Rattle.protocol.specs.Steps.{asks, gets, version, valueOf, nextStamp, prepares, messageAt}
-use Rattle.protocol.specs.Steps.{joined}
-use Rattle.protocol.specs.Calls.{Call, startRead, startFastRead, startWrite, deliver, clear}
-use Rattle.protocol.specs.Calls.{refusal}
+use Rattle.protocol.specs.Steps.{gets, prepares, mixedMessages, messageAt, joined}
+use Rattle.protocol.specs.Calls.{Call, startRead, startFastRead, startWrite, startMixed, deliver}
+use Rattle.protocol.specs.Calls.{clear, refusal}
 use Rattle.condition3.specs.World.{World, Labelled, labelled, placed, withoutAll, does}
 use Rattle.condition3.specs.World.{joining, leaving, staying, accepts, next, after}
 use Rattle.condition3.specs.World.{leavingOver, isReply, isReplyFor, isFirstReplyFor}
 use Rattle.condition3.specs.Condition3.{AddedBy}
-use Rattle.protocol.proofs.Each.{Each, each-one, each-upto}
+use Rattle.protocol.proofs.Each.{Each, each-one, each-append, each-upto}
 use Rattle.protocol.proofs.Delivered.{Reply, joined-each}
 use Rattle.protocol.proofs.MessageKinds.{first-get-is}
 use Rattle.protocol.proofs.Refusals.{Idle}
-use Rattle.protocol.proofs.Sorts.{Sort, reads, readsFast, writes, delivers, apart, sort}
+use Rattle.protocol.proofs.Sorts.{Sort, reads, readsFast, writes, mixes, delivers, apart, sort}
 use Rattle.condition3.proofs.Link.{Inv}
 use Rattle.condition3.proofs.Link.Step.{moved-inv, next-inv}
 use Rattle.condition3.proofs.Link.Messages.{placed-message, placed-here, in-message}
 use Rattle.condition3.proofs.Runs.Run.{next-all, after-inv}
 use Rattle.condition3.proofs.Runs.Touch.{got-answers, no-answer}
+use Rattle.condition3.proofs.Common.{gets-none, prepares-none}
 
 -- ---- what is in flight, and what leaves, was in flight at first or joined
 
@@ -64,6 +64,7 @@ module _ (caps : Capacities) where
   sort-leaves w inv (reads d s a) = λ l i. absurd i
   sort-leaves w inv (readsFast d s a) = λ l i. absurd i
   sort-leaves w inv (writes d s bytes a) = λ l i. absurd i
+  sort-leaves w inv (mixes d r s bytes a) = λ l i. absurd i
   sort-leaves w inv (delivers j a) =
       each-one (λ l. In l (w .inFlight)) (placed w j) (placed-here caps w inv j (a .place))
   sort-leaves w inv (apart c ok a) = rw (a .does) (λ l i. absurd i)
@@ -147,18 +148,19 @@ module _ (caps : Capacities) (w : World) (inv : Inv caps w) where
   sort-first : {c : Call} → Sort caps t c → Each (FirstFrom w c) (joining w c)
   unfolding joining
   sort-first (reads d s a) =
-      not-sent w (startRead d s) d (gets t d s)
-      (each-upto (λ m. isFirstReply m ≡ false) (λ k. Get d k (asks t d k)) (t .sizes .items)
-      (has s) (λ k l h. refl))
+      not-sent w (startRead d s) d (gets t d s) (gets-none isFirstReply t d s (λ k n. refl))
   sort-first (readsFast d s a) =
       not-sent w (startFastRead d s) d (firstGets t d s)
       (each-upto (λ m. isFirstReply m ≡ false) (FirstGet d) (t .sizes .items) (has s)
       (λ k l h. refl))
   sort-first (writes d s bytes a) =
       not-sent w (startWrite d s bytes) d (prepares t d s bytes)
-      (each-upto (λ m. isFirstReply m ≡ false)
-      (λ k. Prepare (version k (valueOf s bytes k) (nextStamp t d) s)) (t .sizes .items) (has s)
-      (λ k l h. refl))
+      (prepares-none isFirstReply t d s bytes (λ u. refl))
+  sort-first (mixes d r s bytes a) =
+      not-sent w (startMixed d r s bytes) d (mixedMessages t d r s bytes)
+      (each-append (λ m. isFirstReply m ≡ false) (gets t d r) (prepares t d s bytes)
+      (gets-none isFirstReply t d r (λ k n. refl))
+      (prepares-none isFirstReply t d s bytes (λ u. refl)))
   sort-first (delivers j a) = answered-all j
   sort-first (apart c ok a) = rw (a .does) (λ l i. absurd i)
 

@@ -1,9 +1,9 @@
 -- The places that a clearing frees serve the next writes: calls occupy no more than the prepares
 -- that join.
-use mathlib.Core.Bool.{Bool, cond}
+use mathlib.Core.Bool.{Bool, cond, _||_}
 use mathlib.Core.List.{List, [], _∷_, _++_}
 use mathlib.Core.Path.{_≡_, refl, sym, ap, _∙_}
-use Prim.Native.Nat.{ℕ, _+_, _≤_}
+use Prim.Native.Nat.{ℕ, _+_, _≤_, _<_}
 use native.Mathlib.Omega.{arith}
 use lib.ListN.{length}
 use borrow.Author.Tests.{eqb-true}
@@ -16,9 +16,11 @@ use Rattle.protocol.specs.Tables.{Tables}
 use Rattle.protocol.specs.Message.{isPrepare}
 use Rattle.protocol.specs.Range.{Capacities, occupied}
 use Rattle.protocol.specs.Clear.{cleared, gone}
-use Rattle.protocol.specs.Calls.{Call, startWrite, clear, refusal, effect, reply, step}
+use Rattle.protocol.specs.Calls.{Call, clear, badSet, refusal, effect, reply, step}
 use Rattle.condition3.specs.World.{World, Labelled, accepts, labelFor, labelled, does}
 use Rattle.condition3.specs.World.{joining, next, after, joiningOver}
+use Rattle.condition3.specs.Condition3.{Company, startWith}
+use Rattle.condition3.specs.Condition3.Company.{alone, reading}
 use Rattle.protocol.proofs.Cleared.{length-cleared}
 use Rattle.protocol.proofs.Keeps.{keeps}
 use Rattle.protocol.proofs.Refusals.{accepted-clear, refused-full}
@@ -67,6 +69,14 @@ module _ (caps : Capacities) where
 
 -- ---- a clearing
 
+-- a write, alone or in a mixed transaction, is refused by 9 for want of versions alone
+full-with : (caps : Capacities) (t : Tables) (κ : Company) (d s : ℕ) (bytes : List ℕ)
+    → refusal caps t (startWith κ d s bytes) ≡ 9 → caps .versions < occupied t + count s
+unfolding refusal
+full-with caps t alone d s bytes e = refused-full caps t d (badSet t s) s bytes (count s) e
+full-with caps t (reading r) d s bytes e =
+    refused-full caps t d (badSet t r || badSet t s) s bytes (count r + count s) e
+
 -- as many places are free as went
 occupied-cleared : (t : Tables) → occupied (cleared t) + gone t ≡ occupied t
 unfolding occupied
@@ -103,19 +113,19 @@ module _ (caps : Capacities) (w : World) (inv : Inv caps w) (before : List Call)
       after-append caps w before (clear ∷ between)
       ∙ ap (λ (v : World). after caps v between) (sym (after-append caps w before (clear ∷ [])))
 
-  pub serves : (between : List Call) (n d s : ℕ) (bytes : List ℕ)
+  pub serves : (κ : Company) (between : List Call) (n d s : ℕ) (bytes : List ℕ)
       → step caps here clear .answer ≡ Cleared n
       → counted isPreparing (joiningOver caps (after caps w (before ++ clear ∷ [])) between)
       + count s ≤ n
-      → refusal caps (after caps w (before ++ clear ∷ between) .tables) (startWrite d s bytes) ≡ 9
+      → refusal caps (after caps w (before ++ clear ∷ between) .tables) (startWith κ d s bytes) ≡ 9
       → ⊥
-  serves between n d s bytes e enough full =
+  serves κ between n d s bytes e enough full =
       let same : Cleared (gone here) ≡ Cleared n = sym answers ∙ e in
       let went : gone here ≡ n = cc in
       let there = after caps w (before ++ clear ∷ between) .tables in
       omega (
         arith,
-        refused-full caps there d s bytes full,
+        full-with caps there κ d s bytes full,
         ap (λ (v : World). occupied (v .tables)) (later between),
         occupied-after caps (after caps w (before ++ clear ∷ [])) between,
         ap occupied leaves,

@@ -41,7 +41,8 @@ module _ (caps : Capacities) (w : World) (inv : Inv caps w) (μ : Manner) (d s :
   no-delivery : (i : ℕ) → begins ≡ deliver i → ⊥
   no-delivery i =
       by-manner (λ ν. startOf ν d s ≡ deliver i → ⊥) (λ e. not-both (eqb-same d) (ap isStarting e))
-      (λ e. not-both (eqb-same d) (ap isStarting e)) μ
+      (λ e. not-both (eqb-same d) (ap isStarting e))
+      (λ z bytes e. not-both (eqb-same d) (ap isStarting e)) μ
 
   pub answered : AnsweredSince caps w₁ d k begins (during ++ end ∷ []) (first .reply)
   answered = answered-since caps w₁ inv₁ d k (r .start .idle) begins no-delivery

@@ -19,7 +19,7 @@ use Rattle.condition3.specs.World.{World, Write, placed, moved, next, af
 use Rattle.condition3.specs.Condition3.{DeliveredBy}
 use Rattle.protocol.proofs.Behaviour.{committed-raised, latest-by}
 use Rattle.protocol.proofs.Refusals.{accepted-deliver}
-use Rattle.protocol.proofs.Sorts.{Sort, reads, readsFast, writes, delivers, apart, sort}
+use Rattle.protocol.proofs.Sorts.{Sort, reads, readsFast, writes, mixes, delivers, apart, sort}
 use Rattle.condition3.proofs.Sound.{Fits, FitsCommit}
 use Rattle.condition3.proofs.Link.{Landed, Inv}
 use Rattle.condition3.proofs.Link.Step.{next-inv}
@@ -103,6 +103,7 @@ module _ (caps : Capacities) (k : ℕ) where
   sort-latest w inv (reads d s a) = inl refl
   sort-latest w inv (readsFast d s a) = inl refl
   sort-latest w inv (writes d s bytes a) = inl refl
+  sort-latest w inv (mixes d r s bytes a) = inl refl
   sort-latest w inv (delivers i a) =
       ⊎-elim (λ e. inl e) (λ e. inr (i, refl, placed-message caps w inv i ∙ e))
       (latest-by (w .tables) _ k)

@@ -8,9 +8,9 @@ use native.Mathlib.Nat.{le-trans}
 use Rattle.itemset.specs.Set.{has}
 use Rattle.protocol.specs.Range.{Capacities}
 use Rattle.protocol.specs.Steps.{nextStamp}
-use Rattle.protocol.specs.Calls.{Call, startWrite, handOver, refusal, effect}
+use Rattle.protocol.specs.Calls.{Call, handOver, refusal, effect}
 use Rattle.condition3.specs.World.{World, next, after}
-use Rattle.condition3.specs.Condition3.{Own}
+use Rattle.condition3.specs.Condition3.{startWith, Own}
 use Rattle.condition3.specs.Condition3.Own.{own, inherited}
 use Rattle.protocol.proofs.HandOver.{handed-given}
 use Rattle.condition3.proofs.Link.{Inv}
@@ -42,9 +42,9 @@ module _ (caps : Capacities) (w : World) where
     pub own-seen : {d : ℕ} {before : List Call} → Own caps w e v bytes earlier d before
         → (k : ℕ) → has v k ≡ true
         → nextStamp (after caps w earlier .tables) e ≤ after caps w before .tables .view d k .stamp
-    own-seen (own before meanwhile finish later split ended) k h =
-        since before (earlier ++ startWrite e v bytes ∷ meanwhile) finish later split e k _
-        (ended-write caps w inv e v bytes earlier meanwhile finish ended .seen k h)
+    own-seen (own κ before meanwhile finish later split ended) k h =
+        since before (earlier ++ startWith κ e v bytes ∷ meanwhile) finish later split e k _
+        (ended-write caps w inv κ e v bytes earlier meanwhile finish ended .seen k h)
     own-seen (inherited giver d before above below split accepted o) k h =
         since before above (handOver giver d) below split d k _
         (le-trans (own-seen o k h) (given (after caps w above) giver d accepted k))

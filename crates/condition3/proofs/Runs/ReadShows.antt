@@ -1,10 +1,10 @@
--- What a read, ordinary or fast, shows once it has ended: the stamps it chose and the values of
--- their writes, read off the output bytes.
-use mathlib.Core.Bool.{true, false}
+-- What a read, in any manner, shows once it has ended: the stamps it chose and the values of their
+-- writes, read off the output bytes.
+use mathlib.Core.Bool.{true}
 use mathlib.Core.List.{List, [], _∷_, _++_}
 use mathlib.Core.Logic.{_⊎_, inl, inr, ⊎-elim}
 use mathlib.Core.Path.{_≡_, refl, sym, ap, _∙_, subst}
-use Prim.Native.Nat.{ℕ, _+_, _*_, _≤_, _<_}
+use Prim.Native.Nat.{ℕ, _+_, _*_, _^_, _≤_, _<_}
 use native.Mathlib.Nat.{le-trans}
 use native.Mathlib.Omega.{arith}
 use lib.Dec.{eqb}
@@ -14,22 +14,24 @@ use Rattle.basics.proofs.Cases.{not-both, or-cases}
 use Rattle.basics.specs.Lists.{In}
 use Rattle.hex.specs.Number.{bigEndian}
 use Rattle.itemset.specs.Set.{has, count}
-use Rattle.itemset.proofs.Laws.{has-empty, has-below}
-use Rattle.protocol.specs.Tables.{Sizes, Ended, showsRead, showsWrite, rested, numberOf, writerOf}
+use Rattle.itemset.proofs.Laws.{has-empty, has-below, below-le}
+use Rattle.protocol.specs.Tables.{Sizes, Ended, showsRead, rested, numberOf, writerOf}
 use Rattle.protocol.specs.Message.{partsOf}
 use Rattle.protocol.specs.Range.{Capacities}
-use Rattle.protocol.specs.LogFrame.{frameByte}
+use Rattle.protocol.specs.LogFrame.{frameByte, frame}
 use Rattle.protocol.specs.Steps.{nextStamp}
 use Rattle.protocol.specs.Calls.{Call, show, step, written}
 use Rattle.condition3.specs.World.{World, Labelled, Write, Store, leaving, moved, after}
 use Rattle.condition3.specs.World.{stays, rests}
-use Rattle.condition3.specs.Condition3.{Manner, startOf, byteOf, StoredBefore, LastReply}
-use Rattle.condition3.specs.Condition3.{answeredAt}
-use Rattle.condition3.specs.Condition3.{came, shownNumber, shownWriter, shownValue, Initial}
+use Rattle.condition3.specs.Condition3.{Manner, startOf, byteOf, lengthOf, byView}
+use Rattle.condition3.specs.Condition3.{StoredBefore, LastReply, answeredAt, came}
+use Rattle.condition3.specs.Condition3.{shownNumber, shownWriter, shownValue, Initial}
 use Rattle.condition3.specs.Condition3.{ShownWith, ShownOlder, Own, Shows}
-use Rattle.condition3.specs.Condition3.Manner.{ordinary}
+use Rattle.condition3.specs.Condition3.Manner.{ordinary, fast, writing}
 use Rattle.protocol.proofs.Known.{greatest-ge}
-use Rattle.protocol.proofs.Ranges.Values.{IsClient}
+use Rattle.protocol.proofs.Ranges.Values.{SizesInRange, IsClient}
+use Rattle.protocol.proofs.Ranges.Clients.{EndedInRange}
+use Rattle.protocol.proofs.Shown.{length-frame-read, length-frame-mixed}
 use Rattle.protocol.proofs.Refusals.{AcceptedStart, idle-rested}
 use Rattle.condition3.proofs.Link.{Inv}
 use Rattle.condition3.proofs.Link.Asks.{Picked}
@@ -38,13 +40,33 @@ use Rattle.condition3.proofs.Runs.Run.{longer-view, after-known, after-
 use Rattle.condition3.proofs.Runs.Replies.{Answer}
 use Rattle.condition3.proofs.Runs.ReadStep.{Finished, wasRead}
 use Rattle.condition3.proofs.Runs.Spans.{at-rest, rest-stays}
-use Rattle.condition3.proofs.Runs.Ended.{by-manner, kindOf, EndedRead}
+use Rattle.condition3.proofs.Runs.Ended.{by-manner, kindOf, besideOf, EndedRead}
 use Rattle.condition3.proofs.Runs.Fresh.{first, answered, then, asked-then, then-time}
 use Rattle.condition3.proofs.Runs.Fresh.{then-stamp}
 use Rattle.condition3.proofs.Runs.Own.{own-seen}
 use Rattle.condition3.proofs.Runs.Shows.{answer-is, head-is, number-is, writer-is, value-is}
 use Rattle.condition3.proofs.Runs.ReadCounts.{after-start, after-span}
 use Rattle.condition3.proofs.Common.{known, origin}
+
+-- how long the frame of a read of s is, beside a write of what its manner says
+frame-long : (μ : Manner) (z : Sizes) (d : ℕ) (e : Ended) → e .kind ≡ kindOf μ
+    → e .write .set ≡ besideOf μ → SizesInRange z → EndedInRange z e
+    → length (frame d e) ≡ lengthOf μ (e .read .set)
+frame-long μ z d e kind beside sizes range = go μ kind beside
+  where
+    below : (s : ℕ) → s < 2 ^ z .items → s < 2 ^ 64
+    below s l = below-le s (z .items) 64 l (sizes .items)
+
+    go : (ν : Manner) → e .kind ≡ kindOf ν → e .write .set ≡ besideOf ν
+        → length (frame d e) ≡ lengthOf ν (e .read .set)
+    go ordinary k b = length-frame-read d e (rw k refl) (rw k refl)
+        (below (e .read .set) (range .read (rw k refl) .set))
+    go fast k b = length-frame-read d e (rw k refl) (rw k refl)
+        (below (e .read .set) (range .read (rw k refl) .set))
+    go (writing y bytes) k b =
+        length-frame-mixed d e k (below (e .read .set) (range .read (rw k refl) .set))
+        (below (e .write .set) (range .write (rw k refl) .set))
+        ∙ ap (λ (x : ℕ). 22 + 9 * count (e .read .set) + 4 * count x) b
 
 -- ---- stamps by their parts
 
@@ -63,7 +85,7 @@ module _ (caps : Capacities) (w : World) (inv : Inv caps w) (μ : Manner) (d s :
     (until rest : List Call) (room : List ℕ)
     (quietly : rests caps (after caps w (before ++ startOf μ d s ∷ during ++ end ∷ [])) d until
     ≡ true)
-    (enough : 10 + 9 * count s ≤ length room) where
+    (enough : lengthOf μ s ≤ length room) where
   abbrev w₁ : World
   w₁ = after caps w before
 
@@ -76,7 +98,7 @@ module _ (caps : Capacities) (w : World) (inv : Inv caps w) (μ : Manner) (d s :
   abbrev stamps : ℕ → ℕ
   stamps = r .stamps
 
-  done : Finished caps d s (kindOf μ) (r .again) stamps v end (r .left)
+  done : Finished caps d s (kindOf μ) (r .again) (besideOf μ) stamps v end (r .left)
   done = r .done
 
   start : AcceptedStart caps (w₁ .tables) d s
@@ -98,7 +120,7 @@ module _ (caps : Capacities) (w : World) (inv : Inv caps w) (μ : Manner) (d s :
 
   -- the client keeps what it read
   abbrev last : Ended
-  last = wasRead (kindOf μ) s stamps (done .values)
+  last = wasRead (kindOf μ) s stamps (done .values) (v .tables .client d .write)
 
   kept : x .tables .client d ≡ rested (v .tables .client d) last
   kept =
@@ -115,23 +137,24 @@ module _ (caps : Capacities) (w : World) (inv : Inv caps w) (μ : Manner) (d s :
   isClient : IsClient (x .tables .sizes) d
   isClient = subst (λ z. IsClient z d) (sym sizes-same) (start .client)
 
-  -- its kind shows a read part alone
+  -- its kind shows a read part
   shows-part : showsRead (kindOf μ) ≡ true
-  shows-part = by-manner (λ ν. showsRead (kindOf ν) ≡ true) refl refl μ
+  shows-part = by-manner (λ ν. showsRead (kindOf ν) ≡ true) refl refl (λ z bytes. refl) μ
 
-  shows-none : showsWrite (kindOf μ) ≡ false
-  shows-none = by-manner (λ ν. showsWrite (kindOf ν) ≡ false) refl refl μ
+  long : SizesInRange (x .tables .sizes) → EndedInRange (x .tables .sizes) last
+      → length (frame d last) ≡ lengthOf μ s
+  long = frame-long μ (x .tables .sizes) d last refl (done .beside)
 
   abbrev output : List ℕ
   output = step caps (x .tables) (show d room) .output
 
   pub number-shown : (k : ℕ) → has s k ≡ true → shownNumber s output k ≡ numberOf (stamps k)
   number-shown k m = number-is caps x inv-shown d (v .tables .client d) last
-      room isClient shows-part shows-none kept enough k m
+      room isClient shows-part kept (lengthOf μ s) long enough k m
 
   pub writer-shown : (k : ℕ) → has s k ≡ true → shownWriter s output k ≡ writerOf (stamps k)
   writer-shown k m = writer-is caps x inv-shown d (v .tables .client d) last
-      room isClient shows-part shows-none kept enough k m
+      room isClient shows-part kept (lengthOf μ s) long enough k m
 
   shown-with : (k : ℕ) → has s k ≡ true → (a : ℕ) → ShownWith s output k a → stamps k ≡ a
   shown-with k m a p = parts-same (stamps k) a (sym (number-shown k m) ∙ p .0)
@@ -198,7 +221,7 @@ module _ (caps : Capacities) (w : World) (inv : Inv caps w) (μ : Manner) (d s :
 
   value-shown : (k : ℕ) → has s k ≡ true → shownValue s output k ≡ done .values k
   value-shown k m = value-is caps x inv-shown d (v .tables .client d) last
-      room isClient shows-part shows-none kept enough k m
+      room isClient shows-part kept (lengthOf μ s) long enough k m
 
   -- the write that answered item k, as the whole list knows it, is the one chosen
   chosen : (k : ℕ) (m : has s k ≡ true) → chose .write k m ≡ answer k m .write
@@ -267,9 +290,10 @@ module _ (caps : Capacities) (w : World) (inv : Inv caps w) (μ : Manner) (d s :
       subst (λ (y : World). stamps k ≤ y .tables .view d k .stamp) (sym shown-is)
       (le-trans (answer k m .seen) (after-view caps (moved v end) until d k))
 
-  -- ---- no entry of an ordinary read is older than a write that counted as its client's own before
+  -- ---- no entry of a read by the view is older than a write that counted as its client's own
+  -- before
 
-  own : μ ≡ ordinary → (o z : ℕ) (bytes : List ℕ) (earlier : List Call)
+  own : byView μ ≡ true → (o z : ℕ) (bytes : List ℕ) (earlier : List Call)
       → Own caps w o z bytes earlier d before → (k : ℕ) → has s k ≡ true → has z k ≡ true
       → ShownOlder s output k (nextStamp (after caps w earlier .tables) o) → ⊥
   own is o z bytes earlier counts k m h older =
@@ -318,11 +342,11 @@ module _ (caps : Capacities) (w : World) (inv : Inv caps w) (μ : Manner) (d s :
   shows =
       record {
         shown = answer-is caps x inv-shown d (v .tables .client d) last
-            room isClient shows-part shows-none kept enough;
+            room isClient shows-part kept (lengthOf μ s) long enough;
         head = head-is caps x inv-shown d (v .tables .client d) last
-            room isClient shows-part shows-none kept enough
+            room isClient shows-part kept (lengthOf μ s) long enough
             ∙ ap (λ (b : ℕ). b ∷ d ∷ bigEndian 8 s)
-            (by-manner (λ ν. frameByte (kindOf ν) ≡ byteOf ν) refl refl μ);
+            (by-manner (λ ν. frameByte (kindOf ν) ≡ byteOf ν) refl refl (λ z bytes. refl) μ);
         unfractured = unfractured;
         written = λ k m. (
           answer k m .reply,

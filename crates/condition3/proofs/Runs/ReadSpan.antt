@@ -1,5 +1,6 @@
--- A read under way that awaits gots, an ordinary one or the second part of a fast one: what it
--- asked for stays, and each got brings the value of the write asked for.
+-- A read under way that awaits gots, an ordinary one, the second part of a fast one or the read
+-- part of a mixed transaction: what it asked for stays, and each got brings the value of the write
+-- asked for.
 use mathlib.Core.Bool.{true, false}
 use mathlib.Core.List.{List, [], _∷_, _++_}
 use mathlib.Core.Logic.{_≢_}
@@ -15,11 +16,11 @@ use Rattle.protocol.specs.declared.Version.{Version}
 use Rattle.protocol.specs.declared.Entry.{Entry}
 use Rattle.protocol.specs.declared.Message.{Message}
 use Rattle.protocol.specs.declared.Message.the-variants.{Got}
-use Rattle.protocol.specs.Tables.{Client, put}
+use Rattle.protocol.specs.Tables.{Client, ReadPart, ofRead, put}
 use Rattle.protocol.specs.Message.{partsOf, isAnyGot, itemOf, ownerOf}
-use Rattle.protocol.specs.Range.{Capacities}
-use Rattle.protocol.specs.Steps.{answered}
-use Rattle.condition3.specs.World.{World, Labelled, placed, isReply}
+use Rattle.protocol.specs.Range.{Capacities, isIdle}
+use Rattle.protocol.specs.Steps.{answered, isLast}
+use Rattle.condition3.specs.World.{World, Labelled, placed, isReply, isPreparedReply}
 use Rattle.protocol.proofs.Put.{put-same, put-other}
 use Rattle.condition3.proofs.Sound.{Fits, FitsGot}
 use Rattle.condition3.proofs.Link.{Inv}
@@ -27,13 +28,16 @@ use Rattle.condition3.proofs.Link.Grows.{Grows}
 use Rattle.condition3.proofs.Link.Messages.{fits}
 use Rattle.condition3.proofs.Link.Asks.{Picked, picked-grows}
 use Rattle.condition3.proofs.Runs.Replies.{Answer, Awaiting, answer-grows, no-reply-for}
-use Rattle.condition3.proofs.Runs.Replies.{still-awaiting, Reply, Brings, not-for, brought}
+use Rattle.condition3.proofs.Runs.Replies.{still-awaiting, Beside, still-beside, Reply}
+use Rattle.condition3.proofs.Runs.Replies.{Brings, not-for, brought, no-prepared}
 use Rattle.condition3.proofs.Runs.Replies.{goes-on as still-awaited}
 
--- the read of s by client d, at this stage, that asked for these stamps
-pub record Reading (d s stage again : ℕ) (asked : ℕ → ℕ) (v : World)
+-- the read of s by client d, at this stage, that asked for these stamps, beside a write of z
+pub record Reading (d s stage again z : ℕ) (asked : ℕ → ℕ) (v : World)
     (left : List Labelled) : Type 0 where
   pub awaiting : Awaiting d s again v left
+  pub beside : Beside d z v left
+  pub busy : isIdle (v .tables .client d) ≡ false
   pub isStage : v .tables .client d .read .stage ≡ stage
   pub byStamp : v .tables .client d .read .stage ≢ 1
   pub asks : v .tables .client d .read .asked ≡ asked
@@ -41,33 +45,48 @@ pub record Reading (d s stage again : ℕ) (asked : ℕ → ℕ) (v : World)
   pub answered : (k : ℕ) → has s k ≡ true → has (v .tables .client d .read .awaited) k ≡ false
       → Answer v d k (asked k) (v .tables .client d .read .values k) left
 
--- ---- a call that leaves the client's record as it was
+-- ---- a call that leaves the read part as it was
 
-pub undisturbed : (d s stage again : ℕ) (asked : ℕ → ℕ) (v v′ : World) (left more : List Labelled)
-    → Grows v v′ → v′ .tables .client d ≡ v .tables .client d
+pub undisturbed : (d s stage again z : ℕ) (asked : ℕ → ℕ) (v v′ : World)
+    (left more : List Labelled) → Grows v v′
+    → v′ .tables .client d .read ≡ v .tables .client d .read
     → ((l : Labelled) → In l more → isReply d l ≡ false)
-    → Reading d s stage again asked v left → Reading d s stage again asked v′ (left ++ more)
-undisturbed d s stage again asked v v′ left more g same none r =
+    → Beside d z v′ (left ++ more) → isIdle (v′ .tables .client d) ≡ false
+    → Reading d s stage again z asked v left → Reading d s stage again z asked v′ (left ++ more)
+undisturbed d s stage again z asked v v′ left more g same none beside busy r =
     record {
       awaiting = still-awaiting d s again v v′ left more same none (r .awaiting);
-      isStage = ap (λ (c : Client). c .read .stage) same ∙ r .isStage;
-      byStamp = λ z. r .byStamp (sym (ap (λ (c : Client). c .read .stage) same) ∙ z);
-      asks = ap (λ (c : Client). c .read .asked) same ∙ r .asks;
+      beside = beside;
+      busy = busy;
+      isStage = ap (λ (p : ReadPart). p .stage) same ∙ r .isStage;
+      byStamp = λ e. r .byStamp (sym (ap (λ (p : ReadPart). p .stage) same) ∙ e);
+      asks = ap (λ (p : ReadPart). p .asked) same ∙ r .asks;
       picked = picked-grows v v′ g s asked (r .picked);
       answered =
           λ k e f. subst
-          (λ (c : Client). Answer v′ d k (asked k) (c .read .values k) (left ++ more))
+          (λ (p : ReadPart). Answer v′ d k (asked k) (p .values k) (left ++ more))
           (sym same)
           (answer-grows v v′ d k (asked k) (v .tables .client d .read .values k) left more g
           (no-reply-for d k more none)
-          (r .answered k e (sym (ap (λ (c : Client). has (c .read .awaited) k) same) ∙ f)));
+          (r .answered k e (sym (ap (λ (p : ReadPart). has (p .awaited) k) same) ∙ f)));
     }
+
+-- and the whole record of the client
+pub unmoved : (d s stage again z : ℕ) (asked : ℕ → ℕ) (v v′ : World)
+    (left more : List Labelled) → Grows v v′ → v′ .tables .client d ≡ v .tables .client d
+    → ((l : Labelled) → In l more → isReply d l ≡ false)
+    → ((l : Labelled) → In l more → isPreparedReply d l ≡ false)
+    → Reading d s stage again z asked v left → Reading d s stage again z asked v′ (left ++ more)
+unmoved d s stage again z asked v v′ left more g same none unprepared r =
+    undisturbed d s stage again z asked v v′ left more g (ap (λ (c : Client). c .read) same) none
+    (still-beside d z v v′ left more (ap (λ (c : Client). c .write) same) unprepared (r .beside))
+    (ap isIdle same ∙ r .busy) r
 
 -- ---- the delivery of one of its gots
 
-module _ (caps : Capacities) (v : World) (inv : Inv caps v) (d s stage again : ℕ) (asked : ℕ → ℕ)
-    (left : List Labelled)
-    (r : Reading d s stage again asked v left) (i : ℕ) (here : In (placed v i) (v .inFlight))
+module _ (caps : Capacities) (v : World) (inv : Inv caps v) (d s stage again z : ℕ)
+    (asked : ℕ → ℕ) (left : List Labelled)
+    (r : Reading d s stage again z asked v left) (i : ℕ) (here : In (placed v i) (v .inFlight))
     (u : Version) (latest : Entry) (is-got : placed v i .message ≡ Got d u latest) where
   abbrev c : Client
   c = v .tables .client d
@@ -124,14 +143,15 @@ module _ (caps : Capacities) (v : World) (inv : Inv caps v) (d s stage again : �
 
   -- not the last: the read goes on
   pub goes-on : (v′ : World) → Brings caps v inv d i u reply v′
-      → v′ .tables .client d ≡ answered c k (u .value)
-      → eqb (remove (c .read .awaited) k) 0 ≡ false
-      → Reading d s stage again asked v′ (left ++ placed v i ∷ [])
+      → v′ .tables .client d ≡ answered c k (u .value) → isLast ofRead c k ≡ false
+      → Reading d s stage again z asked v′ (left ++ placed v i ∷ [])
   goes-on v′ b same f =
       record {
         awaiting = still-awaited caps v inv d i u reply s again left (r .awaiting) v′
-            (ap (λ (x : Client). x .read .set) same) (ap (λ (x : Client). x .read .awaited) same)
-            (ap (λ (x : Client). x .write) same) f;
+            (ap (λ (x : Client). x .read .set) same) (ap (λ (x : Client). x .read .awaited) same);
+        beside = still-beside d z v v′ left (placed v i ∷ []) (ap (λ (x : Client). x .write) same)
+            (no-prepared caps v inv d i u reply) (r .beside);
+        busy = ap isIdle same ∙ f;
         isStage = ap (λ (x : Client). x .read .stage) same ∙ r .isStage;
         byStamp = λ z. r .byStamp (sym (ap (λ (x : Client). x .read .stage) same) ∙ z);
         asks = ap (λ (x : Client). x .read .asked) same ∙ r .asks;

@@ -1,6 +1,6 @@
--- A showing of a read that is its client's last transaction: accepted with room enough, and its
--- output bytes say the read's stamps and values.
-use mathlib.Core.Bool.{true, false}
+-- A showing of a read that is its client's last transaction, or part of it: accepted with room
+-- enough, and its output bytes say the read's stamps and values.
+use mathlib.Core.Bool.{true}
 use mathlib.Core.List.{List, _∷_, _++_}
 use mathlib.Core.Path.{_≡_, ap, _∙_, subst}
 use Prim.Native.Nat.{ℕ, _+_, _*_, _^_, _≤_, _<_}
@@ -10,10 +10,10 @@ use lib.ListN.{length, take, drop}
 use borrow.Author.Tests.{eqb-true, eqb-false}
 use Rattle.basics.proofs.Cases.{by-test}
 use Rattle.hex.specs.Number.{numberAt, bigEndian}
-use Rattle.itemset.specs.Set.{has, count, rank}
+use Rattle.itemset.specs.Set.{has, rank}
 use Rattle.itemset.proofs.Laws.{below-le}
 use Rattle.protocol.specs.declared.Answer.the-variants.{Shown}
-use Rattle.protocol.specs.Tables.{Client, Ended, showsRead, showsWrite, rested, numberOf, writerOf}
+use Rattle.protocol.specs.Tables.{Client, Ended, showsRead, rested, numberOf, writerOf}
 use Rattle.protocol.specs.Range.{Capacities}
 use Rattle.protocol.specs.LogFrame.{frameByte, frame}
 use Rattle.protocol.specs.Calls.{show, refusal, step, reply, written, isNothing, shownFrame}
@@ -23,17 +23,19 @@ use Rattle.protocol.proofs.Ranges.Values.{SizesInRange, IsClient}
 use Rattle.protocol.proofs.Ranges.Clients.{ReadPartInRange, EndedInRange}
 use Rattle.protocol.proofs.Ranges.Tables.{Valid}
 use Rattle.protocol.proofs.Refusals.{accepted-show, idle-rested}
-use Rattle.protocol.proofs.Shown.{shows-some, length-frame-read, frame-head-client, shown-number}
-use Rattle.protocol.proofs.Shown.{shown-writer, shown-value}
+use Rattle.protocol.proofs.Shown.{shows-some, frame-head-client, shown-number, shown-writer}
+use Rattle.protocol.proofs.Shown.{shown-value}
 use Rattle.condition3.proofs.Link.{Inv}
 
 -- ---- a showing of a read that is the client's last transaction
 
 module _ (caps : Capacities) (x : World) (inv : Inv caps x) (d : ℕ) (before : Client) (e : Ended)
     (room : List ℕ) (isClient : IsClient (x .tables .sizes) d)
-    (shows : showsRead (e .kind) ≡ true) (none : showsWrite (e .kind) ≡ false)
-    (kept : x .tables .client d ≡ rested before e)
-    (enough : 10 + 9 * count (e .read .set) ≤ length room) where
+    (shows : showsRead (e .kind) ≡ true)
+    (kept : x .tables .client d ≡ rested before e) (size : ℕ)
+    (long : SizesInRange (x .tables .sizes) → EndedInRange (x .tables .sizes) e
+    → length (frame d e) ≡ size)
+    (enough : size ≤ length room) where
   valid-here : Valid caps (x .tables)
   valid-here = inv .sound .valid
 
@@ -46,9 +48,12 @@ module _ (caps : Capacities) (x : World) (inv : Inv caps x) (d : ℕ) (before : 
   abbrev stamps : ℕ → ℕ
   stamps = e .read .asked
 
+  in-range : EndedInRange (x .tables .sizes) e
+  in-range = subst (λ (c : Client). EndedInRange (x .tables .sizes) (c .last)) kept
+      (valid-here .inRange .client d isClient .last)
+
   ended : ReadPartInRange (x .tables .sizes) (e .read)
-  ended = subst (λ (c : Client). EndedInRange (x .tables .sizes) (c .last)) kept
-      (valid-here .inRange .client d isClient .last) .read shows
+  ended = in-range .read shows
 
   below-64 : s < 2 ^ 64
   below-64 = below-le s (x .tables .sizes .items) 64 (ended .set) (sizes .items)
@@ -56,8 +61,8 @@ module _ (caps : Capacities) (x : World) (inv : Inv caps x) (d : ℕ) (before : 
   frame-is : shownFrame (x .tables) d ≡ frame d e
   frame-is = ap (λ (c : Client). frame d (c .last)) kept
 
-  frame-length : length (shownFrame (x .tables) d) ≡ 10 + 9 * count s
-  frame-length = ap length frame-is ∙ length-frame-read d e shows none below-64
+  frame-length : length (shownFrame (x .tables) d) ≡ size
+  frame-length = ap length frame-is ∙ long sizes in-range
 
   accepted : refusal caps (x .tables) (show d room) ≡ 0
   unfolding isNothing
@@ -71,7 +76,7 @@ module _ (caps : Capacities) (x : World) (inv : Inv caps x) (d : ℕ) (before : 
         room = omega (arith, frame-length, enough);
       })
 
-  pub answer-is : step caps (x .tables) (show d room) .answer ≡ Shown (10 + 9 * count s)
+  pub answer-is : step caps (x .tables) (show d room) .answer ≡ Shown size
   unfolding step reply
   answer-is = rw accepted (ap Shown frame-length)
 

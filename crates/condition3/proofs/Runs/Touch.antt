@@ -8,7 +8,7 @@ use mathlib.Core.Path.{_≡_, refl, sym, ap, _∙_, subst}
 use Prim.Native.Nat.{ℕ, zero, suc}
 use lib.Dec.{eqb}
 use borrow.Author.Tests.{eqb-true, eqb-false, eq-eqb}
-use Rattle.basics.proofs.Cases.{by-test, not-both, and-left, and-right, and-both, or-right}
+use Rattle.basics.proofs.Cases.{by-test, not-both, and-left, and-right, and-both, or-right, or-left}
 use Rattle.basics.proofs.Cases.{or-cases, eqb-same}
 use Rattle.basics.specs.Lists.{In, counted}
 use Rattle.basics.proofs.Lists.{none-counted, in-map}
@@ -22,16 +22,18 @@ use Rattle.protocol.specs.Message.{kindOf, isPrepared, isGot, isFirstReply, isA
 use Rattle.protocol.specs.Message.{ownerOf}
 use Rattle.protocol.specs.Range.{Capacities}
 use Rattle.protocol.specs.FastRead.{fastReader, firstGets}
-use Rattle.protocol.specs.Steps.{joined, gets, prepares, reader, writer, messageAt}
-use Rattle.protocol.specs.Calls.{Call, startRead, startFastRead, startWrite, deliver, refusal}
-use Rattle.protocol.specs.Calls.{effect, step, reply, outcomeOf, pick}
+use Rattle.protocol.specs.Steps.{joined, gets, prepares, reader, writer, mixer, mixedMessages}
+use Rattle.protocol.specs.Steps.{messageAt}
+use Rattle.protocol.specs.Calls.{Call, startRead, startFastRead, startWrite, startMixed, deliver}
+use Rattle.protocol.specs.Calls.{refusal, effect, step, reply, outcomeOf, pick}
 use Rattle.condition3.specs.World.{World, Labelled, labelled, placed, joining, leaving}
-use Rattle.condition3.specs.World.{isRequest, isReply, startsFor, accepts, outcomeIn}
-use Rattle.condition3.specs.World.{isDelivery, delivers, endsFor}
+use Rattle.condition3.specs.World.{isRequest, isReply, isPreparedReply, startsFor, accepts}
+use Rattle.condition3.specs.World.{outcomeIn, isDelivery, delivers, endsFor}
 use Rattle.protocol.proofs.Refusals.{Idle}
-use Rattle.protocol.proofs.Sorts.{Apart, Sort, reads, readsFast, writes, delivers as delivered-at}
-use Rattle.protocol.proofs.Sorts.{apart, sort}
+use Rattle.protocol.proofs.Sorts.{Apart, Sort, reads, readsFast, writes, mixes}
+use Rattle.protocol.proofs.Sorts.{delivers as delivered-at, apart, sort}
 use Rattle.protocol.proofs.Put.{put-other}
+use Rattle.protocol.proofs.Each.{Each}
 use Rattle.protocol.proofs.Delivered.{isAnswer, delivered-work, outcome-none, joined-each}
 use Rattle.protocol.proofs.MessageKinds.{answer-is, answer-asks}
 use Rattle.condition3.proofs.Sound.{Ledger, Fits, FitsPrepared, FitsGot, FitsFirstReply}
@@ -103,28 +105,40 @@ pub record Quiet (caps : Capacities) (v : World) (c : Call) (d : ℕ) : Type 0 w
   pub client : effect (v .tables) c .client d ≡ v .tables .client d
   pub requests : counted (isRequest d) (joining v c) ≡ 0
   pub replies : (l : Labelled) → In l (leaving v c) → isReply d l ≡ false
+  pub prepareds : (l : Labelled) → In l (leaving v c) → isPreparedReply d l ≡ false
 
--- labels of another client make no request of d
-others-labelled : (d e n : ℕ) → eqb e d ≡ false → (ms : List Message)
-    → counted (isRequest d) (map (labelled e n n) ms) ≡ 0
-others-labelled d e n f ms =
-    none-counted (isRequest d) (map (labelled e n n) ms)
-    (λ x i. let q = in-map (labelled e n n) x ms i in ap (isRequest d) (q .2) ∙ rw f refl)
+-- a message of client d, of the kinds q
+abbrev pub ofClient : (Message → Bool) → ℕ → Labelled → Bool
+ofClient q d l = eqb (l .label .client) d && q (l .message)
+
+-- labels of another client make none of d
+pub others-labelled : (q : Message → Bool) (d e n : ℕ) → eqb e d ≡ false → (ms : List Message)
+    → counted (ofClient q d) (map (labelled e n n) ms) ≡ 0
+others-labelled q d e n f ms =
+    none-counted (ofClient q d) (map (labelled e n n) ms)
+    (λ x i. let y = in-map (labelled e n n) x ms i in ap (ofClient q d) (y .2) ∙ rw f refl)
 
 module _ (caps : Capacities) (v : World) (inv : Inv caps v) (d : ℕ) where
-  -- a delivery makes no request of the client, but that of a first reply of its
+  -- a delivery makes none of the client join, where its message is none of its
+  pub none-join : (q : Message → Bool) (i : ℕ) → (eqb (placed v i .label .client) d ≡ true
+      → Each (λ m. q m ≡ false) (joined (v .tables) (messageAt (v .tables) i)))
+      → counted (ofClient q d) (joining v (deliver i)) ≡ 0
+  unfolding joining
+  none-join q i none =
+      none-counted (ofClient q d) (joining v (deliver i))
+      (λ x p. let y = in-map (labelled (placed v i .label .client) (placed v i .label .start)
+      (v .time)) x (joined (v .tables) (messageAt (v .tables) i)) p in
+      ap (ofClient q d) (y .2)
+      ∙ by-test (eqb (placed v i .label .client) d) (λ t. rw t (none t (y .0) (y .1)))
+      (λ t. rw t refl))
+
+  -- no request does, but with a first reply of its
   pub no-requests : (i : ℕ) → (eqb (placed v i .label .client) d ≡ true
       → isFirstReply (messageAt (v .tables) i) ≡ false)
       → counted (isRequest d) (joining v (deliver i)) ≡ 0
-  unfolding joining
   no-requests i none =
-      none-counted (isRequest d) (joining v (deliver i))
-      (λ x p. let q = in-map (labelled (placed v i .label .client) (placed v i .label .start)
-      (v .time)) x (joined (v .tables) (messageAt (v .tables) i)) p in
-      ap (isRequest d) (q .2)
-      ∙ by-test (eqb (placed v i .label .client) d)
-      (λ t. rw t (joined-no-get (v .tables) (messageAt (v .tables) i) (none t) (q .0) (q .1)))
-      (λ t. rw t refl))
+      none-join isAnyGet i
+      (λ t. joined-no-get (v .tables) (messageAt (v .tables) i) (none t))
 
   no-end : (i : ℕ) → In (placed v i) (v .inFlight) → answersTo d (placed v i .message) ≡ false
       → endsFor caps v d (deliver i) ≡ false
@@ -143,6 +157,21 @@ module _ (caps : Capacities) (v : World) (inv : Inv caps v) (d : ℕ) where
       (λ a. refused-outcome caps v (deliver i) a) in
       rw none (and-false (eqb (placed v i .label .client) d)))
       (λ t. rw t refl)
+
+  -- a message that is no answer to the client is none of a kind of answers, by its label
+  no-answer-of : (q : Message → Bool) → ((m : Message) → q m ≡ true → isAnswer m ≡ true)
+      → (i : ℕ) → In (placed v i) (v .inFlight) → answersTo d (placed v i .message) ≡ false
+      → (eqb (placed v i .label .client) d && q (placed v i .message)) ≡ false
+  no-answer-of q is i here f =
+      let l = placed v i in
+      by-test (eqb (l .label .client) d && q (l .message))
+      (λ t. not-both
+      (and-both (isAnswer (l .message)) (eqb (ownerOf (l .message)) d)
+      (is (l .message) (and-right (eqb (l .label .client) d) (q (l .message)) t))
+      (eq-eqb (ownerOf (l .message)) d (sym (inv .owners l here)
+      ∙ eqb-true (l .label .client) d (and-left (eqb (l .label .client) d) (q (l .message)) t))))
+      f)
+      (λ t. t)
 
   quiet-delivery : (i : ℕ) → In (placed v i) (v .inFlight)
       → answersTo d (placed v i .message) ≡ false
@@ -163,15 +192,11 @@ module _ (caps : Capacities) (v : World) (inv : Inv caps v) (d : ℕ) where
             (λ e. e));
         replies = λ l p. ⊎-elim
             (λ e. ap (isReply d) e
-            ∙ by-test (isReply d (placed v i))
-            (λ t. not-both
-            (got-answers (placed v i .message) d
-            (and-right (eqb (placed v i .label .client) d) (isAnyGot (placed v i .message)) t)
-            (sym (inv .owners (placed v i) here)
-            ∙ eqb-true (placed v i .label .client) d
-            (and-left (eqb (placed v i .label .client) d) (isAnyGot (placed v i .message)) t)))
-            f)
-            (λ t. t))
+            ∙ no-answer-of isAnyGot (λ m t. or-right (isPrepared m) (isAnyGot m) t) i here f)
+            (λ z. absurd z) p;
+        prepareds = λ l p. ⊎-elim
+            (λ e. ap (isPreparedReply d) e
+            ∙ no-answer-of isPrepared (λ m t. or-left (isPrepared m) (isAnyGot m) t) i here f)
             (λ z. absurd z) p;
       }
 
@@ -187,6 +212,7 @@ module _ (caps : Capacities) (v : World) (inv : Inv caps v) (d : ℕ) where
         requests = ap (counted (isRequest d)) (apart-joining v c a)
             ∙ none-counted (isRequest d) [] (λ x p. absurd p);
         replies = λ l p. absurd (rw (apart-leaving v c a) at p);
+        prepareds = λ l p. absurd (rw (apart-leaving v c a) at p);
       }
 
   -- the three ways of an accepted call
@@ -206,8 +232,9 @@ module _ (caps : Capacities) (v : World) (inv : Inv caps v) (d : ℕ) where
         ends = refl;
         client = put-other (v .tables .client) e (reader (v .tables) e s) d
             (λ q. eqb-false e d f (sym q));
-        requests = others-labelled d e (v .time) f (gets (v .tables) e s);
+        requests = others-labelled isAnyGet d e (v .time) f (gets (v .tables) e s);
         replies = λ l p. absurd p;
+        prepareds = λ l p. absurd p;
       }))
   sort-way (readsFast e s a) =
       by-test (eqb e d)
@@ -217,8 +244,9 @@ module _ (caps : Capacities) (v : World) (inv : Inv caps v) (d : ℕ) where
         ends = refl;
         client = put-other (v .tables .client) e (fastReader (v .tables) e s) d
             (λ q. eqb-false e d f (sym q));
-        requests = others-labelled d e (v .time) f (firstGets (v .tables) e s);
+        requests = others-labelled isAnyGet d e (v .time) f (firstGets (v .tables) e s);
         replies = λ l p. absurd p;
+        prepareds = λ l p. absurd p;
       }))
   sort-way (writes e s bytes a) =
       by-test (eqb e d)
@@ -228,8 +256,21 @@ module _ (caps : Capacities) (v : World) (inv : Inv caps v) (d : ℕ) where
         ends = refl;
         client = put-other (v .tables .client) e (writer (v .tables) e s bytes) d
             (λ q. eqb-false e d f (sym q));
-        requests = others-labelled d e (v .time) f (prepares (v .tables) e s bytes);
+        requests = others-labelled isAnyGet d e (v .time) f (prepares (v .tables) e s bytes);
         replies = λ l p. absurd p;
+        prepareds = λ l p. absurd p;
+      }))
+  sort-way (mixes e r s bytes a) =
+      by-test (eqb e d)
+      (λ t. starts (startMixed e r s bytes) t)
+      (λ f. quiet (startMixed e r s bytes)
+      (record {
+        ends = refl;
+        client = put-other (v .tables .client) e (mixer (v .tables) e r s bytes) d
+            (λ q. eqb-false e d f (sym q));
+        requests = others-labelled isAnyGet d e (v .time) f (mixedMessages (v .tables) e r s bytes);
+        replies = λ l p. absurd p;
+        prepareds = λ l p. absurd p;
       }))
   sort-way (delivered-at i a) =
       let here = placed-here caps v inv i (a .place) in
@@ -266,16 +307,21 @@ module _ (L : Ledger) (vs : List Version) (c : Client) (m : Message) (d : ℕ)
       (sym (ap ownerOf (x .1 .1 .1)) ∙ answers-owner m d t)) (subst (Fits L vs c) (x .1 .1 .1) f)))
       (answer-is m (and-left (isAnswer m) (eqb (ownerOf m) d) t))
 
-  -- with no write part, a got or a first reply; with no read part, a prepared reply
-  pub got-of : c .write .set ≡ 0 → c .read .stage ≢ 1
-      → (u : Version) × ((e : Entry) × (m ≡ Got d u e))
-  got-of none n = go kind-of
+  -- outside the first part of a fast read, a got or a prepared reply
+  pub data Answers : Type 0 where
+    byGot : (u : Version) (e : Entry) → m ≡ Got d u e → Answers
+    byPrepared : (k s : ℕ) → m ≡ Prepared k s → writerOf s ≡ d → c .write .set ≢ 0
+        → c .write .stamp ≡ s → Answers
+
+  pub answers-of : c .read .stage ≢ 1 → Answers
+  answers-of n = go kind-of
     where
-      go : Kind → (u : Version) × ((e : Entry) × (m ≡ Got d u e))
-      go (prepared k s is own fit) = absurd (fit .mode none)
-      go (got u e is fit) = (u, (e, is))
+      go : Kind → Answers
+      go (prepared k s is own fit) = byPrepared k s is own (fit .mode) (fit .stamp)
+      go (got u e is fit) = byGot u e is
       go (first u e is fit) = absurd (n (fit .byItem))
 
+  -- in it a first reply, where there is no write part
   pub first-of : c .write .set ≡ 0 → c .read .stage ≡ 1
       → (u : Version) × ((e : Entry) × (m ≡ FirstReply d u e))
   first-of none stage = go kind-of
@@ -284,16 +330,6 @@ module _ (L : Ledger) (vs : List Version) (c : Client) (m : Message) (d : ℕ)
       go (prepared k s is own fit) = absurd (fit .mode none)
       go (got u e is fit) = absurd (fit .byStamp stage)
       go (first u e is fit) = (u, (e, is))
-
-  pub prepared-of : c .read .set ≡ 0
-      → (k : ℕ) × ((s : ℕ) × (m ≡ Prepared k s) × (writerOf s ≡ d) × (c .write .stamp ≡ s))
-  prepared-of none = go kind-of
-    where
-      go : Kind → (k : ℕ) × ((s : ℕ) × (m ≡ Prepared k s) × (writerOf s ≡ d)
-          × (c .write .stamp ≡ s))
-      go (prepared k s is own fit) = (k, (s, is, own, fit .stamp))
-      go (got u e is fit) = absurd (fit .mode none)
-      go (first u e is fit) = absurd (fit .mode none)
 
 -- and an idle client has none
 pub no-answer : (caps : Capacities) (L : Ledger) (t : Tables) → SoundBy caps L t → (m : Message)

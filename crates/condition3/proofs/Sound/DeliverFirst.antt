@@ -24,12 +24,12 @@ use Rattle.protocol.specs.Message.{ownerOf}
 use Rattle.protocol.specs.Range.{Capacities, hasFirst}
 use Rattle.protocol.specs.FastRead.{repliesOf, freshest, stale, firstKept, secondPart, firstReplied}
 use Rattle.protocol.specs.FastRead.{secondGets}
-use Rattle.protocol.specs.Steps.{delivered, joined, gotFirst, offered, endedRead, ended, isLast}
+use Rattle.protocol.specs.Steps.{delivered, joined, gotFirst, offered, ended, isLast}
 use Rattle.protocol.proofs.Each.{Each, each-none, each-append, each-upto}
 use Rattle.protocol.proofs.Put.{by-cond, put-same, put-every}
 use Rattle.protocol.proofs.FastRead.{first-in-set, no-first, first-come, first-other, stale-below}
 use Rattle.protocol.proofs.FastRead.{stale-in-set}
-use Rattle.protocol.proofs.Kept.Values.{reads-alone, no-write-awaited}
+use Rattle.protocol.proofs.Kept.Values.{fast-alone, no-write-awaited}
 use Rattle.protocol.proofs.Ranges.Values.{IsClient}
 use Rattle.protocol.proofs.Ranges.Clients.{ClientInRange}
 use Rattle.protocol.proofs.Ranges.Tables.{Valid}
@@ -133,7 +133,7 @@ module _ (caps : Capacities) (L : Ledger) (t : Tables) (sound : SoundBy caps L t
       (rw (eqb-same d) (eqb-same k))
 
   no-write : c .write .set ≡ 0
-  no-write = reads-alone (t .sizes) c k range awaited
+  no-write = fast-alone (t .sizes) c range (fit .byItem)
 
   none-written : c .write .awaited ≡ 0
   none-written = no-write-awaited (t .sizes) (c .write) (range .write) no-write
@@ -198,8 +198,7 @@ module _ (caps : Capacities) (L : Ledger) (t : Tables) (sound : SoundBy caps L t
   ended-here =
       by-test ends
       (λ e. subst (λ (x : Client). Last L (put (t .client) d c′) (x .last)) (sym (is-ended e))
-      (ended-last caps L t sound d is-client (put (t .client) d c′) count (endedRead p)
-      (eqb (p .stage) 0)))
+      (ended-last caps L t sound d is-client (put (t .client) d c′) count p))
       (λ e. subst (λ (x : Client). Last L (put (t .client) d c′) (x .last)) (sym (is-open e))
       (last-recounted L (t .client) (put (t .client) d c′) count (c .last)
       (sound .last d is-client)))

@@ -4,7 +4,6 @@ use mathlib.Core.List.{List, []}
 use mathlib.Core.Logic.{_≢_, _⊎_, inl, inr}
 use mathlib.Core.Path.{_≡_, refl, sym, _∙_, subst}
 use Prim.Native.Nat.{ℕ, _≤_, _<_}
-use lib.Dec.{eqb}
 use native.Mathlib.Nat.{le-refl}
 use Rattle.basics.proofs.Cases.{by-test, not-both}
 use Rattle.basics.specs.Lists.{counted, without}
@@ -19,7 +18,7 @@ use Rattle.protocol.specs.Tables.{put}
 use Rattle.protocol.specs.Message.{ownerOf}
 use Rattle.protocol.specs.Range.{Capacities, hasFirst}
 use Rattle.protocol.specs.Steps.{delivered, joined, stored, seen, commits, got, answered, offered}
-use Rattle.protocol.specs.Steps.{endedRead, ended, isLast}
+use Rattle.protocol.specs.Steps.{ended, isLast}
 use Rattle.protocol.proofs.Each.{Each, each-none, each-append}
 use Rattle.protocol.proofs.Put.{by-cond, put-every}
 use Rattle.protocol.proofs.FastRead.{no-first, first-apart}
@@ -128,7 +127,7 @@ module _ (caps : Capacities) (L : Ledger) (t : Tables) (sound : SoundBy caps L t
       by-test last
       (λ l. subst (λ (x : Client). Last L (put (t .client) d c′) (x .last)) (sym (by-cond-true l))
       (ended-last caps L t sound d is-client (put (t .client) d c′) count
-      (endedRead (answered c k (v .value) .read)) (eqb (c .read .stage) 0)))
+      (answered c k (v .value) .read)))
       (λ f. subst (λ (x : Client). Last L (put (t .client) d c′) (x .last)) (sym (by-cond-false f))
       (last-recounted L (t .client) (put (t .client) d c′) count (c .last)
       (sound .last d is-client)))

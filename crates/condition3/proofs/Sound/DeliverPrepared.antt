@@ -18,8 +18,8 @@ use Rattle.protocol.specs.Tables.{Tables, Client, Side, ofRead, ofWrite, awaite
 use Rattle.protocol.specs.Tables.{writerOf, put}
 use Rattle.protocol.specs.Message.{ownerOf}
 use Rattle.protocol.specs.Range.{Capacities, hasFirst}
-use Rattle.protocol.specs.Steps.{delivered, joined, stored, prepared, struck, ended, seen}
-use Rattle.protocol.specs.Steps.{endedRead, isLast, commits}
+use Rattle.protocol.specs.Steps.{delivered, joined, stored, prepared, struck, ended, seen, isLast}
+use Rattle.protocol.specs.Steps.{commits}
 use Rattle.protocol.proofs.Each.{Each, each-none, each-append}
 use Rattle.protocol.proofs.Put.{by-cond, put-every}
 use Rattle.protocol.proofs.FastRead.{no-first}
@@ -137,7 +137,7 @@ module _ (caps : Capacities) (L : Ledger) (t : Tables) (sound : SoundBy caps L t
       by-test last
       (λ l. subst (λ (x : Client). Last L (put (t .client) d c′) (x .last)) (sym (by-cond-true l))
       (ended-last caps L t sound d is-client (put (t .client) d c′) count
-      (endedRead (c .read)) (eqb (c .read .stage) 0)))
+      (c .read)))
       (λ f. subst (λ (x : Client). Last L (put (t .client) d c′) (x .last)) (sym (by-cond-false f))
       (last-recounted L (t .client) (put (t .client) d c′) count (c .last)
       (sound .last d is-client)))

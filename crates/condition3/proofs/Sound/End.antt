@@ -1,7 +1,7 @@
 -- What the end of a transaction does for its write part, whichever reply ends it: the entries that
 -- its items' views take are good, its commits fit and are for no item, and the ended write agrees
 -- with the ledger.
-use mathlib.Core.Bool.{Bool, true, cond}
+use mathlib.Core.Bool.{true}
 use mathlib.Core.Path.{_≡_, refl, sym, ap, subst}
 use mathlib.Core.Logic.{_≢_}
 use Prim.Native.Nat.{ℕ, zero, suc, _≤_}
@@ -18,7 +18,7 @@ use Rattle.protocol.specs.declared.Message.{Message}
 use Rattle.protocol.specs.declared.Message.the-variants.{Commit}
 use Rattle.protocol.specs.Tables.{Tables, Client, ReadPart, Side, ofRead, ofWrite, writerOf}
 use Rattle.protocol.specs.Range.{Capacities}
-use Rattle.protocol.specs.Steps.{stored, seen, commits, touches, endedWrite}
+use Rattle.protocol.specs.Steps.{stored, seen, commits, touches, endedRead, endedWrite, kindEnded}
 use Rattle.protocol.proofs.Each.{Each, each-upto}
 use Rattle.protocol.proofs.Ranges.Values.{IsClient}
 use Rattle.condition3.proofs.Sound.{Ledger, GoodEntry, Last, Fits, SoundBy}
@@ -62,15 +62,16 @@ module _ (caps : Capacities) (L : Ledger) (t : Tables) (sound : SoundBy caps L t
   stamp = c .write .stamp
 
   pub ended-last : (client′ : ℕ → Client) → ((e : ℕ) → t .client e .count ≤ client′ e .count)
-      → (p : ReadPart) (fast : Bool)
+      → (p : ReadPart)
       → Last L client′ (record {
-        kind = cond (eqb (c .write .set) 0) (cond fast 1 3) 2;
-        read = p;
+        kind = kindEnded p (c .write);
+        read = endedRead p;
         write = endedWrite (c .write);
       })
-  ended-last client′ rises p fast shows =
+  ended-last client′ rises p shows =
       by-test (eqb (c .write .set) 0)
-      (λ e. not-both (rw e at shows) (by-test fast (λ f. rw f refl) (λ f. rw f refl)))
+      (λ e. not-both (rw e at shows)
+      (by-test (eqb (p .stage) 0) (λ f. rw f refl) (λ f. rw f refl)))
       (λ e. let some = eqb-false (c .write .set) 0 e in
       record {
         agrees = sound .writes d is-client some .agrees;

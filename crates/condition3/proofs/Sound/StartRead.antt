@@ -2,7 +2,7 @@
 -- the view.
 use mathlib.Core.Bool.{true, _||_, cond, _&&_}
 use mathlib.Core.Logic.{⊎-elim}
-use mathlib.Core.Path.{_≡_, refl, sym, subst, _∙_}
+use mathlib.Core.Path.{_≡_, refl, sym, ap, subst, _∙_}
 use Prim.Native.Nat.{ℕ, _^_, _<_}
 use native.Mathlib.Nat.{le-refl}
 use native.Mathlib.Omega.{arith}
@@ -13,11 +13,11 @@ use Rattle.itemset.specs.Set.{has}
 use Rattle.itemset.proofs.Laws.{has-below, has-empty}
 use Rattle.protocol.specs.declared.Entry.{Entry}
 use Rattle.protocol.specs.declared.Message.the-variants.{Get}
-use Rattle.protocol.specs.Tables.{Tables, ofRead, ofWrite, awaitedOf, put}
+use Rattle.protocol.specs.Tables.{Tables, Client, ReadPart, ofRead, ofWrite, awaitedOf, put}
 use Rattle.protocol.specs.Message.{ownerOf}
 use Rattle.protocol.specs.Range.{Capacities}
 use Rattle.protocol.specs.Steps.{choice, asks, reader, startedRead, gets}
-use Rattle.protocol.proofs.Each.{each-upto}
+use Rattle.protocol.proofs.Each.{Each, each-upto}
 use Rattle.protocol.proofs.Put.{put-same}
 use Rattle.protocol.proofs.Refusals.{Idle}
 use Rattle.protocol.proofs.Stored.{Chosen, choice-chosen}
@@ -54,10 +54,28 @@ module _ (L : Ledger) (t : Tables) (view : ℕ → Entry) (n : ℕ)
         whole = e .good .whole;
       })
 
+-- the gets of s fit a client with that read part
+module _ (L : Ledger) (t : Tables) (d s : ℕ) (below : s < 2 ^ t .sizes .items)
+    (good : (k : ℕ) → k < t .sizes .items → GoodEntry L (t .versions) k (t .view d k))
+    (c : Client) (reads : c .read ≡ reader t d s .read) where
+  pub gets-fit : Each (λ x. Fits L (t .versions) (put (t .client) d c (ownerOf x)) x) (gets t d s)
+  unfolding Fits
+  gets-fit =
+      each-upto (λ x. Fits L (t .versions) (put (t .client) d c (ownerOf x)) x)
+      (λ k. Get d k (asks t d k)) (t .sizes .items) (has s)
+      (λ k l e. rw (put-same (t .client) d c)
+      (record {
+        mode = λ z. not-both e
+            (rw (sym (ap (λ (p : ReadPart). p .set) reads) ∙ z) (has-empty k));
+        byStamp = λ z. absurd (omega (arith, ap (λ (p : ReadPart). p .stage) reads));
+        asked = ap (λ (p : ReadPart). p .asked k) reads ∙ rw e refl;
+        good = choice-good L t (t .view d) (t .sizes .items) good k
+            (has-below s k (t .sizes .items) below e);
+      }))
+
 module _ (caps : Capacities) (L : Ledger) (t : Tables) (sound : SoundBy caps L t) (d s : ℕ) where
   pub sound-read : IsClient (t .sizes) d → Idle (t .client d) → s < 2 ^ t .sizes .items
       → Valid caps (startedRead t d s) → SoundBy caps L (startedRead t d s)
-  unfolding Fits
   sound-read is-client rests below ok =
       begin-sound caps L t sound L (λ r e. carries-self L (t .versions) r) d (reader t d s)
       (gets t d s) is-client rests
@@ -69,13 +87,4 @@ module _ (caps : Capacities) (L : Ledger) (t : Tables) (sound : SoundBy caps L t
       ∙ sym (none-due d e j)))
       (le-refl (t .client d .count)) refl ok (sound .noSet) (sound .noValue)
       (λ m. absurd (m refl)) (λ k. no-first (reader t d s .read) k refl)
-      (each-upto (λ x. Fits L (t .versions) (put (t .client) d (reader t d s) (ownerOf x)) x)
-      (λ k. Get d k (asks t d k)) (t .sizes .items) (has s)
-      (λ k l e. rw (put-same (t .client) d (reader t d s))
-      (record {
-        mode = λ z. not-both e (rw z (has-empty k));
-        byStamp = λ z. absurd (omega arith);
-        asked = rw e refl;
-        good = choice-good L t (t .view d) (t .sizes .items) (λ j l. sound .view d j is-client l) k
-            (has-below s k (t .sizes .items) below e);
-      })))
+      (gets-fit L t d s below (λ j l. sound .view d j is-client l) (reader t d s) refl)

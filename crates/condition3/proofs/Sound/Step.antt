@@ -5,6 +5,7 @@ use mathlib.Core.List.{List, [], _∷_}
 use mathlib.Core.Logic.{⊎-elim}
 use mathlib.Core.Path.{_≡_, refl, sym, subst}
 use Prim.Native.Nat.{ℕ, zero, suc, _<_}
+use native.Mathlib.Omega.{arith}
 use lib.Dec.{eqb}
 use lib.ListN.{length}
 use Rattle.basics.proofs.Cases.{not-both, or-cases, or-right, eqb-same}
@@ -23,11 +24,11 @@ use Rattle.protocol.specs.Calls.{unexpected, missing, Call, deliver, refusal, E
 use Rattle.protocol.specs.Calls.{effect, pick, step}
 use Rattle.protocol.proofs.Refusals.{Expected, tells-prepared, tells-got, tells-first-reply}
 use Rattle.protocol.proofs.Refusals.{accepted-deliver}
-use Rattle.protocol.proofs.Sorts.{Sort, reads, readsFast, writes, delivers, apart, sort}
+use Rattle.protocol.proofs.Sorts.{Sort, reads, readsFast, writes, mixes, delivers, apart, sort}
 use Rattle.protocol.proofs.Keeps.{keeps}
 use Rattle.protocol.proofs.Valid.{valid-fresh}
 use Rattle.protocol.proofs.Ranges.Values.{IsClient}
-use Rattle.protocol.proofs.Ranges.Tables.{Valid, valid-facts}
+use Rattle.protocol.proofs.Ranges.Tables.{Valid, Stamps, valid-facts}
 use Rattle.condition3.proofs.Sound.{Ledger, Good, GoodEntry, Fits, Sound, SoundBy, distinct}
 use Rattle.condition3.proofs.Sound.Apart.{sound-apart}
 use Rattle.condition3.proofs.Sound.Carry.{owner-client}
@@ -42,6 +43,7 @@ use Rattle.condition3.proofs.Sound.DeliverFirst.{sound-first-reply}
 use Rattle.condition3.proofs.Sound.StartRead.{sound-read}
 use Rattle.condition3.proofs.Sound.StartFast.{sound-fast-read}
 use Rattle.condition3.proofs.Sound.StartWrite.{entered, sound-write}
+use Rattle.condition3.proofs.Sound.StartMixed.{sound-mixed}
 use Rattle.condition3.proofs.Common.{isFor, by-side}
 
 -- ---- fresh tables
@@ -106,15 +108,22 @@ module _ (caps : Capacities) (L : Ledger) (t : Tables) (sound : SoundBy caps L t
   sort-sound (writes d s bytes a) ok =
       let start = a .start in
       sound-write caps L t sound d s bytes (start .client) (start .idle) (start .set) ok
+  sort-sound (mixes d r s bytes a) ok =
+      sound-mixed caps L t sound d r s bytes (a .read .client) (a .read .idle) (a .read .set)
+      (a .write .start .set) ok
   sort-sound (delivers i a) ok = delivery i (messageAt t i) (taken t i (a .place)) ok
   sort-sound (apart c v a) ok =
       subst (λ (x : Effects). SoundBy caps (ledgerAfter L (x .begins)) (x .tables)) (sym (a .does))
       (sound-apart caps L t sound c a)
 
+  -- a write part under way has its client's stamp
+  stamped : Stamps t
+  stamped d is r w z = absurd (omega (arith, sound .writes d is w .newest, is .0))
+
   pub sound-accepted : (c : Call) → refusal caps t c ≡ 0
       → SoundBy caps (ledgerAfter L (effects t c .begins)) (effect t c)
   unfolding effect
-  sound-accepted c e = sort-sound (sort caps t c e) (keeps caps t c e .valid)
+  sound-accepted c e = sort-sound (sort caps t c e) (keeps caps t c e .valid stamped)
 
   -- accepted or refused
   pub sound-step : (c : Call) → Sound caps (step caps t c .tables)

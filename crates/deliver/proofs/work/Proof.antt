@@ -37,7 +37,7 @@ enum-known-m-5 c = search needs
 
 got-requires : tie.Need-got-requires
 got-requires c κs = let p = c .before .before .before .before .before .pre in let x =
-    subst Bounded (c .before .before .m5 .given .1) (p .4) in (p .2, x .0, x .1, x .2)
+    subst Bounded (c .before .before .m5 .given .1) (p .4) in (p .0, p .2, x .0, x .1, x .2)
 
 enum-known-m-6 : tie.Need-enum-known-m-6
 enum-known-m-6 c = search needs

@@ -1,6 +1,7 @@
 -- `deliver_tests::outcome` meets its contract: arm by arm.
-use mathlib.Core.Path.{refl, subst}
-use Rattle.deliver_tests.specs.Tests.{Bounded, outcomeIn}
+use mathlib.Core.Path.{refl, ap, _∙_, subst}
+use denote.Ref.{now}
+use Rattle.deliver_tests.specs.Tests.{Bounded, over, outcomeIn}
 use borrow.Author.Needs.{needs}
 use Rattle.deliver_tests.proofs.outcome.Statement.{statement}
 use Rattle.deliver_tests.proofs.outcome.Tie as tie
@@ -9,9 +10,13 @@ over-requires : tie.Need-over-requires
 over-requires c κs = let x = subst Bounded (c .before .m .given .1)
     (c .before .before .before .before .pre) in (x .0, x .1)
 
-over-requires-2 : tie.Need-over-requires-2
-over-requires-2 c κs = let x = subst Bounded (c .before .m2 .given .1)
+got-outcome-requires : tie.Need-got-outcome-requires
+got-outcome-requires c κs = let x = subst Bounded (c .before .m2 .given .1)
     (c .before .before .before .before .pre) in (x .0, x .1)
+
+over-requires-2 : tie.Need-over-requires-2
+over-requires-2 c κs = let x = subst Bounded (c .before .before .m2 .given .1)
+    (c .before .before .before .before .before .pre) in (x .0, x .1)
 
 over-requires-3 : tie.Need-over-requires-3
 over-requires-3 c κs = let x = subst Bounded (c .before .m3 .given .1)
@@ -35,7 +40,11 @@ returns-4 c = rw (c .enum-told3 .given .1) refl
 
 returns-5 : tie.Need-returns-5
 unfolding outcomeIn
-returns-5 c = rw (c .before .before .m2 .given .1) (c .over2 .ensures)
+returns-5 c =
+    let a = c .before .before .before .before .before .before .args in
+    let m = c .before .before .before .m2 .given in
+    rw (m .1)
+    (c .over2 .ensures ∙ ap (over (now (a .b)) (m .0 .0)) (c .before .got-outcome .ensures))
 
 returns-6 : tie.Need-returns-6
 unfolding outcomeIn
@@ -55,6 +64,7 @@ outcome-spec =
     (λ c. search needs)
     (λ c. search needs)
     (λ c. search needs)
+    got-outcome-requires
     over-requires-2
     (λ c. search needs)
     (λ c. search needs)

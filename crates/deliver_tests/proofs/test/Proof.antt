@@ -5,26 +5,21 @@ use Prim.Native.Nat.{ℕ}
 use denote.Ref.{now}
 use lib.Dec.{eqb}
 use Rattle.protocol.specs.declared.Entry.{Entry}
-use Rattle.protocol.specs.Tables.{writerOf}
 use Rattle.deliver_tests.specs.Tests.{Bounded, told, none, replyTested, getTested, testedIn}
 use borrow.Author.Needs.{needs}
 use Rattle.deliver_tests.proofs.test.Statement.{statement}
 use Rattle.deliver_tests.proofs.test.Tie as tie
 
-is-written-requires : tie.Need-is-written-requires
-is-written-requires c κs = let x = subst Bounded (c .before .m2 .given .1)
+prepared-requires : tie.Need-prepared-requires
+prepared-requires c κs = let x = subst Bounded (c .before .m2 .given .1)
     (c .before .before .before .before .pre .1) in (x .0, x .1)
-
-reply-requires : tie.Need-reply-requires
-reply-requires c κs = let x = subst Bounded (c .before .before .m2 .given .1)
-    (c .before .before .before .before .before .pre .1) in (x .0, x .1)
 
 is-asked-requires : tie.Need-is-asked-requires
 is-asked-requires c κs = subst Bounded (c .before .m4 .given .1)
     (c .before .before .before .before .pre .1)
 
-reply-requires-2 : tie.Need-reply-requires-2
-reply-requires-2 c κs = let x = subst Bounded (c .before .before .m4 .given .1)
+reply-requires : tie.Need-reply-requires
+reply-requires c κs = let x = subst Bounded (c .before .before .m4 .given .1)
     (c .before .before .before .before .before .pre .1) in (x .0, x .1)
 
 latest-requires : tie.Need-latest-requires
@@ -35,8 +30,8 @@ mode-requires : tie.Need-mode-requires
 mode-requires c κs = let x = subst Bounded (c .before .m6 .given .1)
     (c .before .before .before .before .pre .1) in (x .0, x .1)
 
-reply-requires-3 : tie.Need-reply-requires-3
-reply-requires-3 c κs = let x = subst Bounded (c .before .before .m6 .given .1)
+reply-requires-2 : tie.Need-reply-requires-2
+reply-requires-2 c κs = let x = subst Bounded (c .before .before .m6 .given .1)
     (c .before .before .before .before .before .pre .1) in (x .0, x .1)
 
 returns : tie.Need-returns
@@ -47,12 +42,7 @@ returns c =
 
 returns-2 : tie.Need-returns-2
 unfolding testedIn
-returns-2 c =
-    let a = c .before .before .before .before .before .before .args in
-    let m = c .before .before .before .m2 .given in
-    rw (m .1) (c .reply .ensures
-    ∙ ap (replyTested (now (a .b)) (writerOf (m .0 .1 .0)) (m .0 .0))
-    (c .before .is-written .ensures))
+returns-2 c = rw (c .before .before .m2 .given .1) (c .prepared .ensures)
 
 returns-3 : tie.Need-returns-3
 unfolding testedIn
@@ -67,7 +57,7 @@ unfolding testedIn
 returns-5 c =
     let a = c .before .before .before .before .before .before .args in
     let m = c .before .before .before .m4 .given in
-    rw (m .1) (c .reply2 .ensures
+    rw (m .1) (c .reply .ensures
     ∙ ap (replyTested (now (a .b)) (m .0 .0) (m .0 .1 .0 .item)) (c .before .is-asked .ensures))
 
 returns-6 : tie.Need-returns-6
@@ -84,7 +74,7 @@ unfolding testedIn
 returns-7 c =
     let a = c .before .before .before .before .before .before .args in
     let m = c .before .before .before .m6 .given in
-    rw (m .1) (c .reply3 .ensures
+    rw (m .1) (c .reply2 .ensures
     ∙ ap (λ (x : ℕ). replyTested (now (a .b)) (m .0 .0) (m .0 .1 .0 .item) (eqb x 3))
     (c .before .mode .ensures))
 
@@ -96,20 +86,19 @@ test-spec =
     (λ c κs. search needs)
     (λ c κs. search needs)
     (λ c. search needs)
-    is-written-requires
-    reply-requires
+    prepared-requires
     (λ c. search needs)
     (λ c. search needs)
     (λ c κs. search needs)
     (λ c. search needs)
     is-asked-requires
-    reply-requires-2
+    reply-requires
     (λ c. search needs)
     latest-requires
     (λ c κs. search needs)
     (λ c. search needs)
     mode-requires
-    reply-requires-3
+    reply-requires-2
     returns
     returns-2
     returns-3

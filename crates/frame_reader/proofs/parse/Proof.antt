@@ -8,7 +8,7 @@ use lib.ListN.{length}
 use Rattle.store_frames.specs.declared.StoreFrame.the-variants.{Read, Write, Deliver, Show}
 use Rattle.store_frames.specs.declared.Parsed.the-variants.{Frame}
 use Rattle.store_frames.specs.StoreFrames.{parsed}
-use Rattle.store_frames.proofs.Parsing.{isStoreFrame-length, isWrite-length, same-fresh}
+use Rattle.store_frames.proofs.Parsing.{isStoreFrame-length, isValued-length, same-fresh}
 use Rattle.frame_reader.proofs.parse.Statement.{statement}
 use Rattle.frame_reader.proofs.parse.Tie as tie
 
@@ -75,23 +75,23 @@ returns-2 c = rw (
     (length (c .before .before .before .before .before .before .before .args .f .now)))
     (c .before .number-at4 .ensures) (c .number-at5 .ensures))
 
-is-write-requires : tie.Need-is-write-requires
-is-write-requires c κs = search needs
+is-valued-requires : tie.Need-is-valued-requires
+is-valued-requires c κs = search needs
 
 number-at-requires-6 : tie.Need-number-at-requires-6
 number-at-requires-6 c κs = omega (
   arith,
-  isWrite-length
+  isValued-length 0x03 10
       (c .before .before .before .before .before .before .before .args .f .now)
-      (sym (c .before .is-write .ensures) ∙ c .if3 .taken),
+      (sym (c .before .is-valued .ensures) ∙ c .if3 .taken),
 )
 
 number-at-requires-7 : tie.Need-number-at-requires-7
 number-at-requires-7 c κs = omega (
   arith,
-  isWrite-length
+  isValued-length 0x03 10
       (c .before .before .before .before .before .before .before .before .args .f .now)
-      (sym (c .before .before .is-write .ensures) ∙ c .before .if3 .taken),
+      (sym (c .before .before .is-valued .ensures) ∙ c .before .if3 .taken),
 )
 
 returns-3 : tie.Need-returns-3
@@ -103,7 +103,7 @@ returns-3 c = rw (
       (c .before .before .before .before .before .is-frame2 .ensures)
       ∙ c .before .before .before .before .if2 .left,
   sym
-      (c .before .before .before .is-write .ensures) ∙ c .before .before .if3 .taken,
+      (c .before .before .before .is-valued .ensures) ∙ c .before .before .if3 .taken,
 ) (ap₂ (λ (x y : ℕ). Frame (Write x y)
     (length (c .before .before .before .before .before .before .before .before .before .args .f .now)))
     (c .before .number-at6 .ensures) (c .number-at7 .ensures))
@@ -129,7 +129,7 @@ returns-4 c = rw (
       (c .before .before .before .before .before .before .is-frame2 .ensures)
       ∙ c .before .before .before .before .before .if2 .left,
   sym
-      (c .before .before .before .before .is-write .ensures)
+      (c .before .before .before .before .is-valued .ensures)
       ∙ c .before .before .before .if3 .left,
   sym
       (c .before .before .is-frame3 .ensures) ∙ c .before .if4 .taken,
@@ -159,7 +159,7 @@ returns-5 c =
           ∙ third .before .before .before .before .if1 .left,
       sym (c .before .before .before .before .before .before .before .before .is-frame2 .ensures)
           ∙ c .before .before .before .before .before .before .before .if2 .left,
-      sym (c .before .before .before .before .before .before .is-write .ensures)
+      sym (c .before .before .before .before .before .before .is-valued .ensures)
           ∙ c .before .before .before .before .before .if3 .left,
       sym (c .before .before .before .before .is-frame3 .ensures)
           ∙ c .before .before .before .if4 .left,
@@ -179,7 +179,7 @@ returns-6 c =
       sym (third .before .before .before .before .before .is-frame .ensures)
           ∙ third .before .before .before .before .if1 .left,
       sym (third .before .before .before .is-frame2 .ensures) ∙ third .before .before .if2 .left,
-      sym (third .before .is-write .ensures) ∙ third .if3 .left,
+      sym (third .before .is-valued .ensures) ∙ third .if3 .left,
       sym (c .before .before .before .before .is-frame3 .ensures)
           ∙ c .before .before .before .if4 .left,
       sym (c .before .before .is-frame4 .ensures) ∙ c .before .if5 .left,
@@ -198,7 +198,7 @@ parse-spec =
     number-at-requires-4
     number-at-requires-5
     returns-2
-    is-write-requires
+    is-valued-requires
     number-at-requires-6
     number-at-requires-7
     returns-3

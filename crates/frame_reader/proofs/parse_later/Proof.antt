@@ -1,14 +1,15 @@
 -- `frame_reader::parse_later` meets its contract: each frame that was ruled out by its kind or
 -- length, and the one that was not.
 use borrow.Author.Needs.{needs}
-use mathlib.Core.Path.{sym, ap₂, _∙_}
-use Prim.Native.Nat.{ℕ}
+use mathlib.Core.Bool.{true}
+use mathlib.Core.Path.{_≡_, sym, ap₂, _∙_}
+use Prim.Native.Nat.{ℕ, _≤_}
 use native.Mathlib.Omega.{arith}
 use lib.ListN.{length}
 use Rattle.store_frames.specs.declared.StoreFrame.the-variants.{FastRead, HandOver, Compare}
 use Rattle.store_frames.specs.declared.Parsed.the-variants.{Frame}
 use Rattle.store_frames.specs.StoreFrames.{parsedLater}
-use Rattle.store_frames.proofs.Parsing.{isStoreFrame-length}
+use Rattle.store_frames.proofs.Parsing.{isStoreFrame-length, isValued-length, same-mixed}
 use Rattle.frame_reader.proofs.parse_later.Statement.{statement}
 use Rattle.frame_reader.proofs.parse_later.Tie as tie
 
@@ -111,17 +112,54 @@ returns-4 c =
     (length (first .before .before .before .args .f .now)))
     (c .before .number-at5 .ensures) (c .number-at6 .ensures))
 
+-- a mixed start
+valued : (c : tie.After-is-valued) → c .is-valued .result ≡ true
+    → 18 ≤ length (c .before .before .before .before .before .before .before .before .before
+    .before .args .f .now)
+valued c e =
+    isValued-length 0x07 18 _ (sym (c .is-valued .ensures) ∙ e) .0
+
+number-at-requires-7 : tie.Need-number-at-requires-7
+number-at-requires-7 c κs = omega (arith, valued (c .before) (c .if5 .taken))
+
+number-at-requires-8 : tie.Need-number-at-requires-8
+number-at-requires-8 c κs = omega (arith, valued (c .before .before) (c .before .if5 .taken))
+
+number-at-requires-9 : tie.Need-number-at-requires-9
+number-at-requires-9 c κs =
+    omega (arith, valued (c .before .before .before) (c .before .before .if5 .taken))
+
 returns-5 : tie.Need-returns-5
 unfolding parsedLater
 returns-5 c =
-    let third = c .before .before in
+    let fifth = c .before .before .before in
+    let fourth = fifth .before .before in
+    let third = fourth .before .before in
     let second = third .before .before in
     let first = second .before .before in
     rw (
       sym (first .before .is-frame .ensures) ∙ first .if1 .left,
       sym (second .before .is-frame2 .ensures) ∙ second .if2 .left,
       sym (third .before .is-frame3 .ensures) ∙ third .if3 .left,
-      sym (c .before .is-frame4 .ensures) ∙ c .if4 .left,
+      sym (fourth .before .is-frame4 .ensures) ∙ fourth .if4 .left,
+      sym (fifth .before .is-valued .ensures) ∙ fifth .if5 .taken,
+    ) (same-mixed (length (first .before .before .before .args .f .now))
+    (c .before .before .number-at7 .ensures) (c .before .number-at8 .ensures)
+    (c .number-at9 .ensures))
+
+returns-6 : tie.Need-returns-6
+unfolding parsedLater
+returns-6 c =
+    let fourth = c .before .before in
+    let third = fourth .before .before in
+    let second = third .before .before in
+    let first = second .before .before in
+    rw (
+      sym (first .before .is-frame .ensures) ∙ first .if1 .left,
+      sym (second .before .is-frame2 .ensures) ∙ second .if2 .left,
+      sym (third .before .is-frame3 .ensures) ∙ third .if3 .left,
+      sym (fourth .before .is-frame4 .ensures) ∙ fourth .if4 .left,
+      sym (c .before .is-valued .ensures) ∙ c .if5 .left,
     )
 
 pub parse-later-spec : {M : Type 1} → statement M
@@ -142,4 +180,9 @@ parse-later-spec =
     number-at-requires-5
     number-at-requires-6
     returns-4
-    returns-5)
+    (λ c κs. search needs)
+    number-at-requires-7
+    number-at-requires-8
+    number-at-requires-9
+    returns-5
+    returns-6)

@@ -7,7 +7,7 @@ use native.Mathlib.Omega.{arith}
 use lib.ListN.{length}
 use Rattle.hex.proofs.Line.{lineEnd-ge}
 use Rattle.judge_scan.specs.Scan.{Scanning, TakenOf}
-use Rattle.judge_scan.proofs.Scanning.{scan-end, scan-malformed, scan-step}
+use Rattle.judge_scan.proofs.Scanning.{scan-end, scan-room, scan-malformed, scan-step}
 use Rattle.judge_scan.specs.declared.Taken.{Taken}
 use Rattle.judge_scan.specs.declared.Taken.the-variants.{Next}
 use borrow.Author.Needs.{needs}
@@ -46,7 +46,9 @@ loop-holds : tie.Need-loop-holds Inv-loop μ-loop
 loop-holds c = search needs
 
 take-line-requires : tie.Need-take-line-requires Inv-loop μ-loop
-take-line-requires c κs = search needs
+take-line-requires c κs =
+    let l = c .before .before .before .loop in
+    scan-room _ (l .at) (l .bytes) (l .starts) (l .i) (l .inv) (c .before .before .loop-test .taken)
 
 enum-known-taken : tie.Need-enum-known-taken Inv-loop μ-loop
 enum-known-taken c = search needs

@@ -3,7 +3,7 @@
 use borrow.Author.Needs.{needs}
 use mathlib.Core.Bool.{true}
 use mathlib.Core.List.{List}
-use mathlib.Core.Path.{_≡_, sym, ap, ap₂, _∙_, subst₃}
+use mathlib.Core.Path.{_≡_, sym, ap, ap₂, _∙_, subst, subst₃}
 use Prim.Native.Nat.{ℕ, _+_, _-_, _/_, _≤_, _<_}
 use native.Mathlib.Omega.{arith}
 use lib.ListN.{length, getD, take, drop, set}
@@ -18,7 +18,7 @@ use Rattle.judge_frames.specs.Cut.{part, framesIn}
 use Rattle.log.specs.Log.{frameOf, malformed}
 use Rattle.judge_form.specs.Parsed.{parsed, refused}
 use Rattle.judge_form.proofs.Parsing.{malformed-parsed}
-use Rattle.judge_scan.specs.Scan.{Room, Step, lineAt}
+use Rattle.judge_scan.specs.Scan.{Room, Step, Well, lineAt}
 use Rattle.judge_scan.proofs.Scanning.{textAt, frame-hex, frame-not, frame-unended}
 use Rattle.judge_scan.proofs.Scanning.{malformed-empty, kept, fits, new, step}
 use Rattle.judge_scan.proofs.take_line.Statement.{statement}
@@ -131,6 +131,14 @@ module _ (c : tie.After-parse) where
       ∙ malformed-parsed (framesIn (bytes of-line) (starts of-line) (i of-line)) (frame of-text)
       ∙ ap (refused (framesIn (bytes of-line) (starts of-line) (i of-line))) (sym is-frame)
 
+  -- storing it left the frames before as they were
+  same-frames : framesIn (of-line .store .last .1 .0) (starts of-line) (i of-line)
+      ≡ framesIn (bytes of-line) (starts of-line) (i of-line)
+  same-frames =
+      ap (λ (b : List ℕ). framesIn b (starts of-line) (i of-line)) (stored of-line)
+      ∙ kept (log of-line) (at of-line) (bytes of-line) (starts of-line) (i of-line) (room of-line)
+      (ended of-line) (hex of-text)
+
 module _ (c : tie.After-repeats) where
   abbrev of-parse : tie.After-parse
   of-parse = c .before .before .before .before .before .before
@@ -143,10 +151,7 @@ module _ (c : tie.After-repeats) where
   judged-line =
       parsed-line of-parse
       ∙ ap₂ refused
-      (sym
-      (ap (λ (b : List ℕ). framesIn b (starts of-read) (i of-read)) (stored of-read)
-      ∙ kept (log of-read) (at of-read) (bytes of-read) (starts of-read) (i of-read) (room of-read)
-      (ended of-read) (hex (of-text of-parse))))
+      (sym (same-frames of-parse))
       (c .before .before .before .before .frame .given .1)
       ∙ sym (c .repeats .ensures)
 
@@ -226,7 +231,10 @@ returns-2 : tie.Need-returns-2
 returns-2 c = parsed-line (c .before .before) ∙ ap (refused _) (c .enum-told2 .given .1)
 
 repeats-requires : tie.Need-repeats-requires
-repeats-requires c κs = search needs
+repeats-requires c κs =
+    let p = c .before .before .before .before .before in
+    let r = room (of-line p) in
+    (omega (arith, r .few), subst Well (sym (same-frames p)) (r .well))
 
 same-length-5 : tie.Need-same-length-5
 same-length-5 c = search needs

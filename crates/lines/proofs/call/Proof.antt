@@ -6,11 +6,11 @@ use mathlib.Core.List.{List}
 use Prim.Native.Nat.{ℕ}
 use native.Mathlib.Omega.{arith}
 use lib.ListN.{length}
-use Rattle.protocol.specs.Calls.{startWrite}
+use Rattle.protocol.specs.Calls.{startWrite, startMixed}
 use Rattle.block_calls.specs.Calls.{answerOn, blockAfter}
 use Rattle.store_frames.specs.declared.StoreFrame.{StoreFrame}
 use Rattle.store_frames.specs.declared.Parsed.the-variants.{Frame}
-use Rattle.store_frames.proofs.Parsing.{parsed-write}
+use Rattle.store_frames.proofs.Parsing.{parsed-write, parsed-mixed}
 use Rattle.lines.specs.Lines.{callAnswer, callBlock, callOutput}
 use Rattle.lines.proofs.Calls.{rest-whole}
 use Rattle.lines.proofs.call.Statement.{statement}
@@ -96,6 +96,39 @@ enum-known-frame-8 c = search needs
 
 compare-requires : tie.Need-compare-requires
 compare-requires c κs = search needs
+
+enum-known-frame-9 : tie.Need-enum-known-frame-9
+enum-known-frame-9 c = search needs
+
+sub-start-mixed : tie.Need-sub-start-mixed
+sub-start-mixed c = omega (
+  arith,
+  parsed-mixed
+      (c .before .before .before .before .before .before .before .args .f .now) _ _ _
+      (length (c .before .before .before .before .before .before .before .args .f .now))
+      (ap (λ (g : StoreFrame). Frame g
+      (length (c .before .before .before .before .before .before .before .args .f .now)))
+      (sym (c .before .before .frame9 .given .1))
+      ∙ c .before .before .before .before .before .before .before .pre),
+)
+
+part-start-mixed-start : tie.Need-part-start-mixed-start
+part-start-mixed-start c = omega (
+  arith,
+  parsed-mixed
+      (c .before .before .before .before .before .before .before .args .f .now) _ _ _
+      (length (c .before .before .before .before .before .before .before .args .f .now))
+      (ap (λ (g : StoreFrame). Frame g
+      (length (c .before .before .before .before .before .before .before .args .f .now)))
+      (sym (c .before .before .frame9 .given .1))
+      ∙ c .before .before .before .before .before .before .before .pre),
+)
+
+part-start-mixed-end : tie.Need-part-start-mixed-end
+part-start-mixed-end c = search needs
+
+start-mixed-requires : tie.Need-start-mixed-requires
+start-mixed-requires c κs = search needs
 
 same-length : tie.Need-same-length
 same-length c = search needs
@@ -277,6 +310,30 @@ returns-9 c =
       ),
     )
 
+same-length-11 : tie.Need-same-length-11
+same-length-11 c = search needs
+
+returns-10 : tie.Need-returns-10
+unfolding callAnswer callBlock callOutput
+returns-10 c =
+    let arm = c .before .before .before .before .before .before in
+    let a = arm .before .before .before .before .before .args in
+    let b = a .b .now in
+    let f = a .f .now in
+    let o = a .shown .now in
+    let held = arm .frame9 .given .0 in
+    let told = arm .frame9 .given .1 in
+    let values = rest-whole 18 f in
+    let call = startMixed (held .0) (held .1 .0) (held .1 .1 .0) in (
+      c .before .before .start-mixed .ensures .0
+          ∙ ap (λ (v : List ℕ). answerOn b (call v)) values ∙ sym (ap (callAnswer b f o) told),
+      (
+        c .before .before .start-mixed .ensures .1 .0
+            ∙ ap (λ (v : List ℕ). blockAfter b (call v)) values ∙ sym (ap (callBlock b f o) told),
+        sym (ap (callOutput b f o) told),
+      ),
+    )
+
 pub call-spec : {M : Type 1} → statement M
 call-spec =
     tie.close
@@ -302,6 +359,11 @@ call-spec =
     hand-over-requires
     enum-known-frame-8
     compare-requires
+    enum-known-frame-9
+    sub-start-mixed
+    part-start-mixed-start
+    part-start-mixed-end
+    start-mixed-requires
     same-length
     returns
     same-length-2
@@ -320,4 +382,6 @@ call-spec =
     same-length-9
     returns-8
     same-length-10
-    returns-9)
+    returns-9
+    same-length-11
+    returns-10)

@@ -64,6 +64,16 @@ writeOf set stamp values =
       write = record { set = set; awaited = 0; stamp = stamp; values = values };
     }
 
+-- an ended mixed transaction: the items read with their stamps, those written with their stamp, and
+-- the value of each item, read or written
+abbrev pub mixedOf : ℕ → (ℕ → ℕ) → ℕ → ℕ → (ℕ → ℕ) → Ended
+mixedOf reads stamps set stamp values =
+    record {
+      kind = 4;
+      read = readPart reads 0 stamps values;
+      write = record { set = set; awaited = 0; stamp = stamp; values = values };
+    }
+
 -- a client with count 5: of its one part the items, those awaited, the stamps asked for or the
 -- stamp written, and the value of each item
 abbrev pub reader : ℕ → ℕ → ℕ → ℕ → Client

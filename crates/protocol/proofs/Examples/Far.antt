@@ -1,10 +1,10 @@
--- Fast reads of lines from 32 on, over three cabinets (document 02, P7). Where it is computed, a
--- count takes as many turns as its set's number says. So these are the steps of accepted calls
--- alone, without the refusals, which count.
+-- Fast reads and mixed transactions of lines from 32 on, over three cabinets (document 02, P7 and
+-- P8). Where it is computed, a count takes as many turns as its set's number says. So these are the
+-- steps of accepted calls alone, without the refusals, which count.
 use mathlib.Core.Bool.{Bool, not, _&&_}
 use mathlib.Core.List.{List, [], _∷_, _++_}
 use Prim.Native.Nat.{ℕ, _+_, _^_}
-use Prim.Native.String.{String}
+use Prim.Native.String.{String, _++_ as append}
 use lib.Count.{onesIn}
 use lib.Text.{eqt}
 use Rattle.basics.specs.Lists.{every, all, counted, without, dropped}
@@ -12,7 +12,7 @@ use Rattle.hex.specs.Number.{bigEndian, numberAt}
 use Rattle.itemset.specs.Set.{has, upto, insert, remove, setOf}
 use Rattle.protocol.specs.declared.Entry.{Entry}
 use Rattle.protocol.specs.Tables.{Tables, Client, initial, isKind, fresh, put, stampOf}
-use Rattle.protocol.specs.Tables.{withClient, withVersions}
+use Rattle.protocol.specs.Tables.{withClient, withView, withVersions}
 use Rattle.protocol.specs.Range.{inRange, stampInRange, sizesInRange, entryInRange}
 use Rattle.protocol.specs.Range.{versionInRange, messageInRange, endedInRange, clientInRange}
 use Rattle.protocol.specs.Range.{hasFirst, readPartInRange, writePartInRange}
@@ -20,7 +20,8 @@ use Rattle.protocol.specs.Steps.{greatestIn, choice, stored, found, deli
 use Rattle.protocol.specs.Steps.{touches}
 use Rattle.protocol.specs.Clear.{mentions, unused}
 use Rattle.protocol.specs.LogFrame.{listed, readBytes, writeBytes, frame}
-use Rattle.protocol.specs.Calls.{Call, startFastRead, startWrite, deliver, clear, effect}
+use Rattle.protocol.specs.Calls.{Call, startFastRead, startWrite, startMixed, deliver, clear}
+use Rattle.protocol.specs.Calls.{effect}
 use Rattle.protocol.proofs.Examples.Table.{value, digits, messagesAre, versionsAre, entryIs}
 use Rattle.protocol.proofs.Examples.Begin.{sizes, entry, version, firstPart, secondPart}
 
@@ -108,5 +109,55 @@ farRange =
     && not (ranged (keeping (secondPart three (2 ^ 63) (λ j. 0) (wrong k) 7))))
     (32 ∷ 63 ∷ [])
 
+-- ---- A mixed transaction: lines 34 and 63 are read, 32 and 63 written, of cabinets 1, 2 and 0
+
+abbrev old : ℕ
+old = 2 ^ 34 + 2 ^ 63
+
+abbrev new : ℕ
+new = 2 ^ 32 + 2 ^ 63
+
+-- Desk 2 has seen desk 1's write of lines 34 and 63 at line 63 alone.
+abbrev mixedOver : Tables
+mixedOver =
+    done (withVersions (withView (fresh (sizes 2 3 64)) 2 (put (λ k. initial) 63 (entry 1 1 old)))
+    (version 34 5 1 1 old ∷ version 32 9 1 2 (2 ^ 32) ∷ version 63 6 1 1 old ∷ []))
+    (startMixed 2 old new (value 7 ++ value 8) ∷ [])
+
+-- Both gets are for that write.
+abbrev farMixed : Bool
+farMixed =
+    messagesAre (mixedOver .messages)
+    ((4 ∷ 2 ∷ 34 ∷ 1 ∷ 1 ∷ []) ∷ (4 ∷ 2 ∷ 63 ∷ 1 ∷ 1 ∷ []) ∷ (1 ∷ 32 ∷ 7 ∷ 2 ∷ 2 ∷ new ∷ [])
+    ∷ (1 ∷ 63 ∷ 8 ∷ 2 ∷ 2 ∷ new ∷ []) ∷ [])
+    && ranged mixedOver
+
+-- It ends with line 63's got, or with its prepared reply. The written lines have entered the view,
+-- the commits go to cabinets 0 and 2, and line 63 is shown as it was read and as it was written.
+abbrev endsFar : Tables → Bool
+endsFar t =
+    messagesAre (t .messages) ((3 ∷ 0 ∷ 2 ∷ 2 ∷ []) ∷ (3 ∷ 2 ∷ 2 ∷ 2 ∷ []) ∷ [])
+    && entryIs (t .view 2 34) 1 1 old && entryIs (t .view 2 32) 2 2 new
+    && entryIs (t .view 2 63) 2 2 new
+    && eqt (shows t 2) (append "24028000000400000000000000010100000005000000010100000006"
+    "8000000100000000000000020000000700000008")
+
+-- The got of line 63 alone is awaited, and a clearing spares the versions of this write.
+abbrev farMixedGot : Bool
+farMixedGot =
+    let t = done mixedOver (deliver 2 ∷ deliver 2 ∷ deliver 2 ∷ deliver 2 ∷ deliver 0 ∷ deliver 1
+    ∷ clear ∷ []) in
+    versionsAre (t .versions)
+    ((34 ∷ 5 ∷ 1 ∷ 1 ∷ old ∷ []) ∷ (63 ∷ 6 ∷ 1 ∷ 1 ∷ old ∷ []) ∷ (32 ∷ 7 ∷ 2 ∷ 2 ∷ new ∷ [])
+    ∷ (63 ∷ 8 ∷ 2 ∷ 2 ∷ new ∷ []) ∷ [])
+    && ranged t && endsFar (done t (deliver 0 ∷ deliver 0 ∷ []))
+
+abbrev farMixedPrepared : Bool
+farMixedPrepared =
+    endsFar (done mixedOver (deliver 0 ∷ deliver 0 ∷ deliver 0 ∷ deliver 0 ∷ deliver 0 ∷ deliver 0
+    ∷ deliver 0 ∷ deliver 0 ∷ []))
+
 abbrev pub far : List Bool
-far = farSibling ∷ farShown ∷ farLast ∷ farSpared ∷ farRange ∷ []
+far =
+    farSibling ∷ farShown ∷ farLast ∷ farSpared ∷ farRange ∷ farMixed ∷ farMixedGot
+    ∷ farMixedPrepared ∷ []

@@ -11,8 +11,8 @@ use Rattle.protocol.specs.Tables.{Sizes, Tables, Client, Ended, noRead, 
 use Rattle.protocol.specs.Tables.{fresh, initial, resting, stampOf, put, withClient, withView}
 use Rattle.protocol.specs.Tables.{withLatest, withVersions, withMessages}
 use Rattle.protocol.proofs.Examples.Begin.{sizes, entry, version, reader, writer, loaded}
-use Rattle.protocol.proofs.Examples.Begin.{readOf, fastOf, writeOf, holding, both, fastPart}
-use Rattle.protocol.proofs.Examples.Begin.{fastReader, firstPart, secondPart}
+use Rattle.protocol.proofs.Examples.Begin.{readOf, fastOf, writeOf, mixedOf, holding, both}
+use Rattle.protocol.proofs.Examples.Begin.{fastPart, fastReader, firstPart, secondPart}
 
 -- ---- Fresh tables of two clients, partitions and items, but for one field
 
@@ -93,22 +93,26 @@ faults =
     ∷ withLast (fastOf 2 (λ k. stampOf 1 3) (λ k. 0))
     ∷ withBusy (reader 2 2 (stampOf 1 3) 0) ∷ withBusy (writer 2 2 (stampOf 1 3) 0)
     ∷ withLast (readOf 2 (λ k. stampOf 1 3) (λ k. 0)) ∷ withLast (writeOf 2 (stampOf 1 3) (λ k. 0))
+    ∷ withLast (mixedOf 2 (λ k. stampOf 1 3) 1 (stampOf 1 2) (λ k. 0))
+    ∷ withLast (mixedOf 2 (λ k. 0) 1 (stampOf 1 3) (λ k. 0))
     -- versions and prepares of the initial stamp, or with a set that lacks their item
     ∷ withStored (version 1 0 0 0 2) ∷ withMessage (Prepare (version 1 0 0 0 2))
     ∷ withStored (version 1 0 1 1 1) ∷ withMessage (Prepare (version 1 0 1 1 1))
     -- a prepared reply or commit of the initial stamp
     ∷ withMessage (Prepared 1 0) ∷ withMessage (Commit 1 0)
-    -- awaited items outside the set; a write that awaits none; a write and a read at once
+    -- awaited items outside the set; a write that awaits none, alone or with a read beside it
     ∷ withBusy (reader 2 3 0 0) ∷ withBusy (writer 2 1 (stampOf 1 2) 0) ∷ withBusy (reader 0 2 0 0)
     ∷ withBusy (writer 0 2 (stampOf 1 2) 0) ∷ withBusy (writer 2 0 (stampOf 1 2) 0)
-    ∷ withBusy (both (reader 2 2 0 0) (writer 1 1 (stampOf 1 2) 0))
+    ∷ withBusy (both (reader 2 0 0 0) (writer 1 0 (stampOf 1 2) 0))
+    ∷ withBusy (both (reader 2 2 0 0) (writer 0 2 (stampOf 1 2) 0))
     -- a fast read that awaits none, in either part; a third part; a fast read and a write at once
     ∷ withBusy (firstPart 2 0 (λ k. initial) 0) ∷ withBusy (firstPart 0 0 (λ k. initial) 0)
     ∷ withBusy (secondPart 2 0 (λ k. 0) (λ k. initial) 0)
     ∷ withBusy (fastReader (fastPart 3 2 2 (λ k. 0) (λ k. initial) (λ k. 0)))
     ∷ withBusy (both (firstPart 2 2 (λ k. initial) 0) (writer 1 1 (stampOf 1 2) 0))
+    ∷ withBusy (both (secondPart 2 2 (λ k. 0) (λ k. initial) 0) (writer 1 1 (stampOf 1 2) 0))
     -- a last transaction of no kind
-    ∷ withLast (record { kind = 4; read = noRead; write = noWrite })
+    ∷ withLast (record { kind = 5; read = noRead; write = noWrite })
     -- load 129; 513 versions; 512 and a prepare
     ∷ loaded 101
     ∷ withMessages (withBusy (firstPart 3 2 (λ k. initial) 0))

@@ -13,7 +13,7 @@ use Rattle.protocol.specs.Calls.{startRead, startWrite, deliver, show, c
 use Rattle.protocol.specs.Calls.{compare}
 use Rattle.protocol.proofs.Examples.Table.{Row, freshly, on, onEach, _⇒_, value}
 use Rattle.protocol.proofs.Examples.Table.{room, versionsAre}
-use Rattle.protocol.proofs.Examples.Begin.{sizes, entry, reader, writer}
+use Rattle.protocol.proofs.Examples.Begin.{sizes, entry, reader, writer, both}
 
 -- a view with these entries on its first lines, and whether one has them
 abbrev viewOf : List Entry → ℕ → Entry
@@ -62,15 +62,22 @@ taken =
 
 -- ---- Refusals: 1, 3 for either, 18, 4 for either
 
--- while desk 2 reads, or writes
+-- while desk 2 reads, or writes, or does both and awaits a reply of one kind alone
 abbrev busy : Client → Tables
 busy c = withClient shift 2 c
+
+abbrev reading : ℕ → Client
+reading awaited = reader 1 awaited 0 0
+
+abbrev writing : ℕ → Client
+writing awaited = writer 1 awaited (entry 1 2 1 .stamp) 7
 
 -- 18 comes before 4, and 3 before both; nothing changes. A comparison lets desks be busy and equal.
 abbrev notTaken : Row
 notTaken =
     record {
-      start = onEach (busy (reader 1 1 0 0) ∷ busy (writer 1 1 (entry 1 2 1 .stamp) 7) ∷ []);
+      start = onEach (busy (reading 1) ∷ busy (writing 1) ∷ busy (both (reading 1) (writing 0))
+          ∷ busy (both (reading 0) (writing 1)) ∷ []);
       lines =
           handOver 1 2 ⇒ "04"
           ∷ handOver 2 1 ⇒ "04"

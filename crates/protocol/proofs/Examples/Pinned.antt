@@ -12,8 +12,8 @@ use Rattle.protocol.specs.Calls.{startRead, startFastRead, startWrite, d
 use Rattle.protocol.proofs.Examples.Table.{Row, freshly, on, onEach, _⇒_, _keeping_}
 use Rattle.protocol.proofs.Examples.Table.{room, anything, messagesAre, entryIs}
 use Rattle.protocol.proofs.Examples.Begin.{sizes, entry, version, reader, writer, loaded}
-use Rattle.protocol.proofs.Examples.Begin.{readOf, fastOf, writeOf, seeing, spent, fastPart}
-use Rattle.protocol.proofs.Examples.Begin.{fastReader, firstPart, secondPart}
+use Rattle.protocol.proofs.Examples.Begin.{readOf, fastOf, writeOf, mixedOf, seeing, spent}
+use Rattle.protocol.proofs.Examples.Begin.{fastPart, fastReader, firstPart, secondPart}
 
 -- fresh tables of two clients, partitions and items, with client 2 like this
 abbrev withSecond : Client → Tables
@@ -206,13 +206,17 @@ wide = 1 + 2 ^ 63
 abbrev wideFrames : Row
 wideFrames =
     record {
-      start = on (withClient (withClient (withClient (fresh (sizes 8 8 64)) 1
+      start = on (withClient (withClient (withClient (withClient (fresh (sizes 8 8 64)) 1
           (resting 0 (fastOf wide (λ k. stampOf 0x01020304 8) (λ k. 0x05060708 + k)))) 2
           (resting 0 (writeOf wide (stampOf 0x01020304 2) (λ k. 0x05060708 + k)))) 8
-          (resting 0 (readOf wide (λ k. stampOf 0x01020304 8) (λ k. 0x05060708 + k))));
+          (resting 0 (readOf wide (λ k. stampOf 0x01020304 8) (λ k. 0x05060708 + k)))) 3
+          (resting 0 (mixedOf 2 (λ k. stampOf 0x01020304 8) wide (stampOf 0x0a0b0c0d 3)
+          (λ k. 0x05060708 + k))));
       lines =
           show 1 (room 28) ⇒ "0023018000000000000001010203040805060708010203040805060747"
           ∷ show 2 (room 22) ⇒ "0020028000000000000001010203040506070805060747"
+          ∷ show 3 (room 39) ⇒
+          "002403000000000000000201020304080506070980000000000000010a0b0c0d0506070805060747"
           ∷ show 8 (room 28) ⇒ "0021088000000000000001010203040805060708010203040805060747"
           ∷ [];
       after = anything;

@@ -27,7 +27,7 @@ use Rattle.protocol.proofs.Ranges.Values.{IsClient, EntryInRange, Entri
 use Rattle.protocol.proofs.Ranges.Values.{StampInRange, Stamped, VersionInRange}
 use Rattle.protocol.proofs.Ranges.Values.{MessageInRange, ReplyInRange, tells-reply}
 use Rattle.protocol.proofs.Ranges.Values.{range-reply, range-commit, range-get}
-use Rattle.protocol.proofs.Ranges.Tables.{InRange}
+use Rattle.protocol.proofs.Ranges.Tables.{InRange, Stamps}
 use Rattle.protocol.proofs.Refusals.{Expected, AcceptedDeliver, accepted-message}
 use Rattle.protocol.proofs.Refusals.{tells-prepared, tells-got, tells-first-reply}
 use Rattle.protocol.proofs.Commits.{no-commits}
@@ -37,7 +37,7 @@ use Rattle.protocol.proofs.Kept.Changes.{range-both, range-latest, rang
 use Rattle.protocol.proofs.Kept.Changes.{range-messages}
 use Rattle.protocol.proofs.Kept.Values.{range-offered, range-seen, range-found}
 use Rattle.protocol.proofs.Kept.Values.{range-committed, range-prepared, range-got}
-use Rattle.protocol.proofs.Kept.Values.{awaits-some, reads-alone}
+use Rattle.protocol.proofs.Kept.Values.{awaits-some, fast-alone}
 use Rattle.protocol.proofs.Kept.Firsts.{range-replied, range-first-reply}
 
 -- the view with what a reply offers to it
@@ -107,7 +107,7 @@ range-delivered t (FirstReply d v latest) r h x =
     let awaited = tells-first-reply t d v latest .0 x in
     range-both t r d (gotFirst (z .items) c v) _
     (range-first-reply z c one v (awaited .byItem) (reply .value) (reply .entry)
-    (reads-alone z c (v .item) one (awaited .awaited)))
+    (fast-alone z c one (awaited .byItem)))
     (range-grown t r d v latest reply)
 
 -- what joins
@@ -133,23 +133,24 @@ range-commits t s stamp r h =
     (λ p. touches t s p (t .sizes .items))
     (λ p l e. range-commit (t .sizes) (r .sizes) p stamp l h)
 
-pub range-joined : (t : Tables) (m : Message) → InRange t → MessageInRange (t .sizes) m
+-- commits that a got sends have their client's stamp, which must be one
+pub range-joined : (t : Tables) (m : Message) → InRange t → Stamps t → MessageInRange (t .sizes) m
     → Expected t m → Each (MessageInRange (t .sizes)) (joined t m)
 unfolding joined
-range-joined t (Prepare v) r h x =
+range-joined t (Prepare v) r stamps h x =
     each-one (MessageInRange (t .sizes)) (Prepared (v .item) (v .stamp))
     (range-reply (t .sizes) (r .sizes) (v .item) (v .stamp) (h .item) (h .written (omega arith)))
-range-joined t (Prepared k stamp) r h x =
+range-joined t (Prepared k stamp) r stamps h x =
     by-cond (Each (MessageInRange (t .sizes))) (isLast ofWrite (t .client (writerOf stamp)) k) _ _
     (λ l. range-commits t (t .client (writerOf stamp) .write .set) stamp r
     (h .written (omega arith)))
     (λ l. each-none (MessageInRange (t .sizes)))
-range-joined t (Commit p stamp) r h x = each-none (MessageInRange (t .sizes))
-range-joined t (Get d k stamp) r h x =
+range-joined t (Commit p stamp) r stamps h x = each-none (MessageInRange (t .sizes))
+range-joined t (Get d k stamp) r stamps h x =
     each-one (MessageInRange (t .sizes)) (Got d (answerOf t k stamp) (t .latest k))
     (tells-reply (t .sizes) d (answerOf t k stamp) (t .latest k) 5 (omega arith) .1
     (range-answer t r d k stamp (h .client (omega arith)) (h .item) (h .stamp)))
-range-joined t (Got d v latest) r h x =
+range-joined t (Got d v latest) r stamps h x =
     let c = t .client d in
     let k = v .item in
     let s = c .write .set in
@@ -162,14 +163,16 @@ range-joined t (Got d v latest) r h x =
     (λ e. subst (Each (MessageInRange (t .sizes)))
     (sym (ap (λ (y : ℕ). commits t y (c .write .stamp)) (eqb-true s 0 e)
     ∙ no-commits t (c .write .stamp))) (each-none (MessageInRange (t .sizes))))
-    (λ e. absurd (eqb-false (c .read .set) 0 reads (one .alone (eqb-false s 0 e) .0))))
+    (λ e. range-commits t s (c .write .stamp) r
+    (one .write .stamp (stamps d (h .client (omega arith)) (eqb-false (c .read .set) 0 reads)
+    (eqb-false s 0 e)))))
     (λ l. each-none (MessageInRange (t .sizes)))
-range-joined t (FirstGet d k) r h x =
+range-joined t (FirstGet d k) r stamps h x =
     let stamp = t .latest k .stamp in
     each-one (MessageInRange (t .sizes)) (FirstReply d (answerOf t k stamp) (t .latest k))
     (tells-reply (t .sizes) d (answerOf t k stamp) (t .latest k) 7 (omega arith) .1
     (range-answer t r d k stamp (h .client (omega arith)) (h .item) (r .latest k (h .item) .stamp)))
-range-joined t (FirstReply d v latest) r h x =
+range-joined t (FirstReply d v latest) r stamps h x =
     let z = t .sizes in
     let reply = tells-reply z d v latest 7 (omega arith) .0 h in
     let c = t .client d in
@@ -182,10 +185,10 @@ range-joined t (FirstReply d v latest) r h x =
     (part .asked k (part .within k a))))
     (λ e. each-none (MessageInRange z))
 
-pub range-deliver : (caps : Capacities) (t : Tables) (i : ℕ) → AcceptedDeliver caps t i
+pub range-deliver : (caps : Capacities) (t : Tables) (i : ℕ) → AcceptedDeliver caps t i → Stamps t
     → InRange (effect t (deliver i))
 unfolding effect
-range-deliver caps t i a =
+range-deliver caps t i a stamps =
     let r = a .valid .inRange in
     let m = messageAt t i in
     let known = accepted-message caps t i a in
@@ -193,7 +196,7 @@ range-deliver caps t i a =
     let rest = without i (t .messages) in
     let each : Each P (rest ++ joined t m) =
     each-append P rest (joined t m) (each-without P i (t .messages) (r .messages))
-    (range-joined t m r known (a .expected)) in
+    (range-joined t m r stamps known (a .expected)) in
     range-messages (delivered t m) (range-delivered t m r known (a .expected)) (rest ++ joined t m)
     (subst (λ (z : Sizes). Each (MessageInRange z) (rest ++ joined t m))
     (sym (delivered-work t m .sizes)) each)

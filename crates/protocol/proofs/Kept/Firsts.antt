@@ -79,4 +79,4 @@ module _ (z : Sizes) where
         (λ e. range-rested z c (ended (withRead c p)) r
         (range-ended z (withRead c p) range-replied (r .write)))
         (λ e. range-parts z c p (c .write) r range-replied (r .write) (λ n. absurd (n alone))
-        (λ s. eqb-false (p .awaited) 0 e))
+        (λ s. (alone, eqb-false (p .awaited) 0 e)))

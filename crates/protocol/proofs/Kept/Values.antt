@@ -118,7 +118,7 @@ range-resting z n e h r =
       count = h;
       read = range-no-read z;
       write = range-no-write z;
-      alone = λ n. absurd (n refl);
+      busy = λ n. absurd (n refl);
       fast = λ n. absurd (n refl);
       last = r;
     }
@@ -136,7 +136,7 @@ range-ended z c r w =
     record {
       kind = by-test (eqb (c .write .set) 0)
           (λ e. by-test (eqb (c .read .stage) 0) (λ f. rw (e, f) refl) (λ f. rw (e, f) refl))
-          (λ e. rw e refl);
+          (λ e. by-test (eqb (c .read .set) 0) (λ f. rw (e, f) refl) (λ f. rw (e, f) refl));
       read = λ s. record {
         set = r .set;
         awaited = pow-pos (z .items);
@@ -162,7 +162,7 @@ range-last z c e r h = record {
   count = r .count;
   read = r .read;
   write = r .write;
-  alone = r .alone;
+  busy = r .busy;
   fast = r .fast;
   last = h;
 }
@@ -173,20 +173,21 @@ range-count z c n r h = record {
   count = h;
   read = r .read;
   write = r .write;
-  alone = r .alone;
+  busy = r .busy;
   fast = r .fast;
   last = r .last;
 }
 
 pub range-parts : (z : Sizes) (c : Client) (p : ReadPart) (w : WritePart) → ClientInRange z c
     → ReadPartInRange z p → WritePartInRange z w
-    → (w .set ≢ 0 → (p .set ≡ 0) × (w .awaited ≢ 0)) → (p .stage ≢ 0 → p .awaited ≢ 0)
+    → (w .set ≢ 0 → (eqb (p .awaited) 0 && eqb (w .awaited) 0) ≡ false)
+    → (p .stage ≢ 0 → (w .set ≡ 0) × (p .awaited ≢ 0))
     → ClientInRange z (withWrite (withRead c p) w)
-range-parts z c p w r asks keeps alone fast = record {
+range-parts z c p w r asks keeps busy fast = record {
   count = r .count;
   read = asks;
   write = keeps;
-  alone = alone;
+  busy = busy;
   fast = fast;
   last = r .last;
 }
@@ -218,9 +219,6 @@ none-within : (a s : ℕ) → ((j : ℕ) → has a j ≡ true → has s j ≡ tr
 none-within a s h e =
     set-empty a (λ k. by-test (has a k) (λ m. not-both (h k m) (rw e (has-empty k))) (λ m. m))
 
-none-awaited : (z : Sizes) (p : ReadPart) → ReadPartInRange z p → p .set ≡ 0 → p .awaited ≡ 0
-none-awaited z p r e = none-within (p .awaited) (p .set) (r .within) e
-
 pub no-write-awaited : (z : Sizes) (p : WritePart) → WritePartInRange z p → p .set ≡ 0
     → p .awaited ≡ 0
 no-write-awaited z p r e = none-within (p .awaited) (p .set) (r .within) e
@@ -229,8 +227,6 @@ pub range-prepared : (z : Sizes) (c : Client) (k : ℕ) → ClientInRange z c
     → has (c .write .awaited) k ≡ true → ClientInRange z (prepared c k)
 range-prepared z c k r m =
     let w = r .write in
-    let last-of : c .write .set ≢ 0 → remove (c .write .awaited) k ≡ 0 → isLast ofWrite c k ≡ true =
-    λ n e. rw (none-awaited z (c .read) (r .read) (r .alone n .0), e) refl in
     by-cond (ClientInRange z) (isLast ofWrite c k) _ _
     (λ l. range-rested z c (ended c) r (range-ended z c (r .read) w))
     (λ l. range-parts z c (c .read) (struck c k .write) r (r .read) (record {
@@ -239,24 +235,20 @@ range-prepared z c k r m =
       within = within-left (c .write .awaited) (c .write .set) k (w .within);
       stamp = w .stamp;
       values = w .values;
-    }) (λ n. (r .alone n .0, λ e. not-both (last-of n e) l)) (r .fast))
+    }) (λ n. l) (r .fast))
 
--- a client that awaits an item of its read part awaits none of a write part
-pub reads-alone : (z : Sizes) (c : Client) (k : ℕ) → ClientInRange z c
-    → has (c .read .awaited) k ≡ true → c .write .set ≡ 0
-reads-alone z c k r m =
-    by-test (eqb (c .write .set) 0) (λ e. eqb-true (c .write .set) 0 e)
-    (λ e. absurd (eqb-false (c .read .set) 0
-    (awaits-some (c .read .awaited) (c .read .set) k (r .read .within) m)
-    (r .alone (eqb-false (c .write .set) 0 e) .0)))
+-- the first part of a fast read has no write part beside it
+pub fast-alone : (z : Sizes) (c : Client) → ClientInRange z c → c .read .stage ≡ 1
+    → c .write .set ≡ 0
+fast-alone z c r first = r .fast (λ e. absurd (omega arith)) .0
 
 pub range-got : (z : Sizes) (c : Client) (k value : ℕ) → ClientInRange z c
     → has (c .read .awaited) k ≡ true → c .read .stage ≢ 1 → value < 2 ^ 32
     → ClientInRange z (got c k value)
 range-got z c k value r m n h =
     let p = r .read in
-    let last-of : remove (c .read .awaited) k ≡ 0 → isLast ofRead c k ≡ true =
-    λ e. rw (e, no-write-awaited z (c .write) (r .write) (reads-alone z c k r m)) refl in
+    let last-of : c .read .stage ≢ 0 → remove (c .read .awaited) k ≡ 0 → isLast ofRead c k ≡ true =
+    λ s e. rw (e, no-write-awaited z (c .write) (r .write) (r .fast s .0)) refl in
     let values = put (c .read .values) k value in
     let fit : (j : ℕ) → has (c .read .set) j ≡ true → values j < 2 ^ 32 =
     λ j e. put-all (λ v. v < 2 ^ 32) (c .read .values) k value j h (p .values j e) in
@@ -273,5 +265,5 @@ range-got z c k value r m n h =
     by-cond (ClientInRange z) (isLast ofRead c k) _ _
     (λ l. range-rested z c (ended (answered c k value)) r
     (range-ended z (answered c k value) part (r .write)))
-    (λ l. range-parts z c (answered c k value .read) (c .write) r part (r .write) (r .alone)
-    (λ s e. not-both (last-of e) l))
+    (λ l. range-parts z c (answered c k value .read) (c .write) r part (r .write) (λ s. l)
+    (λ s. (r .fast s .0, λ e. not-both (last-of s e) l)))

@@ -9,8 +9,8 @@ use Rattle.itemset.specs.Set.{has}
 use Rattle.itemset.proofs.Laws.{has-below}
 use Rattle.protocol.specs.Tables.{Sizes, Client, ReadPart, WritePart, Ended, isKind}
 use Rattle.protocol.specs.Tables.{showsRead, showsWrite}
-use Rattle.protocol.specs.Range.{hasFirst, readPartInRange, writePartInRange, clientInRange}
-use Rattle.protocol.specs.Range.{endedInRange}
+use Rattle.protocol.specs.Range.{hasFirst, isIdle, readPartInRange, writePartInRange}
+use Rattle.protocol.specs.Range.{clientInRange, endedInRange}
 use Rattle.protocol.proofs.Tells.{tells-and}
 use Rattle.protocol.proofs.FastRead.{first-in-set}
 use Rattle.protocol.proofs.Ranges.Values.{StampInRange, EntryInRange, parts}
@@ -107,8 +107,8 @@ pub record ClientInRange (z : Sizes) (c : Client) : Type 0 where
   pub count : c .count < 2 ^ 32
   pub read : ReadPartInRange z (c .read)
   pub write : WritePartInRange z (c .write)
-  pub alone : c .write .set ≢ 0 → (c .read .set ≡ 0) × (c .write .awaited ≢ 0)
-  pub fast : c .read .stage ≢ 0 → c .read .awaited ≢ 0
+  pub busy : c .write .set ≢ 0 → isIdle c ≡ false
+  pub fast : c .read .stage ≢ 0 → (c .write .set ≡ 0) × (c .read .awaited ≢ 0)
   pub last : EndedInRange z (c .last)
 
 pub tells-client : (z : Sizes) (c : Client) → (clientInRange z c ≡ true) ↔ ClientInRange z c
@@ -120,10 +120,10 @@ tells-client z c = (
         count = f .0 .0 .0 .0 .0;
         read = f .0 .0 .0 .0 .1;
         write = f .0 .0 .0 .1;
-        alone = f .0 .0 .1;
+        busy = f .0 .0 .1;
         fast = f .0 .1;
         last = f .1;
       },
   λ r. simp (parts, tells-read-part, tells-write-part, tells-ended)
-      (((((r .count, r .read), r .write), r .alone), r .fast), r .last),
+      (((((r .count, r .read), r .write), r .busy), r .fast), r .last),
 )

@@ -1,7 +1,7 @@
 -- What the tests of the whole tables tell, as records of plain facts, both ways: what is in range,
 -- and what is valid.
 use mathlib.Core.Bool.{true}
-use mathlib.Core.Logic.{_↔_}
+use mathlib.Core.Logic.{_↔_, _≢_}
 use mathlib.Core.Path.{_≡_}
 use Prim.Native.Nat.{ℕ, zero, suc, _≤_, _<_}
 use native.Mathlib.Omega.{arith}
@@ -60,6 +60,17 @@ pub record Valid (caps : Capacities) (t : Tables) : Type 0 where
   pub load : load t ≤ caps .load
   pub occupied : occupied t ≤ caps .versions
 
+-- of which this is left after every accepted call, also where a transaction that reads and writes
+-- has the initial stamp
+pub record Within (caps : Capacities) (t : Tables) : Type 0 where
+  pub client : (d : ℕ) → IsClient (t .sizes) d → ClientInRange (t .sizes) (t .client d)
+  pub load : load t ≤ caps .load
+  pub occupied : occupied t ≤ caps .versions
+
+pub valid-within : (caps : Capacities) (t : Tables) → Valid caps t → Within caps t
+valid-within caps t v =
+    record { client = v .inRange .client; load = v .load; occupied = v .occupied }
+
 pub tells-valid : (caps : Capacities) (t : Tables) → (valid caps t ≡ true) ↔ Valid caps t
 unfolding valid
 tells-valid caps t = (
@@ -73,3 +84,11 @@ valid-facts caps t = tells-valid caps t .0
 
 pub facts-valid : (caps : Capacities) (t : Tables) → Valid caps t → valid caps t ≡ true
 facts-valid caps t = tells-valid caps t .1
+
+-- ---- Transactions that read and write have a stamp
+
+-- Range doesn't ask for it (document 01's list has no such rule), so tables that no call of ours
+-- made may lack it; then a got may end such a transaction, whose commits are out of range.
+abbrev pub Stamps : Tables → Type 0
+Stamps t = (d : ℕ) → IsClient (t .sizes) d → t .client d .read .set ≢ 0
+    → t .client d .write .set ≢ 0 → t .client d .write .stamp ≢ 0

@@ -19,8 +19,8 @@ messages-in-range-requires c κs = search needs
 load-of-requires : tie.Need-load-of-requires
 load-of-requires c κs = search needs
 
-occupied-of-requires : tie.Need-occupied-of-requires
-occupied-of-requires c κs = search needs
+occupied-fits-requires : tie.Need-occupied-fits-requires
+occupied-fits-requires c κs = search needs
 
 returns : tie.Need-returns
 returns c =
@@ -30,7 +30,7 @@ returns c =
     (c .before .before .before .versions-in-range .ensures)
     (c .before .before .messages-in-range .ensures)
     (c .before .load-of .ensures)
-    (c .occupied-of .ensures)
+    (c .occupied-fits .ensures)
 
 pub tables-in-range-spec : {M : Type 1} → statement M
 tables-in-range-spec =
@@ -41,5 +41,5 @@ tables-in-range-spec =
     versions-in-range-requires
     messages-in-range-requires
     load-of-requires
-    occupied-of-requires
+    occupied-fits-requires
     returns)

@@ -1,12 +1,8 @@
 -- `range_client::asked_in_range` meets its contract, part by part.
 use borrow.Author.Needs.{needs}
-use native.Mathlib.Omega.{arith}
-use Rattle.range_client.proofs.ClientTests.{asked-tests, asked-none}
+use Rattle.range_client.proofs.ClientTests.{asked-tests}
 use Rattle.range_client.proofs.asked_in_range.Statement.{statement}
 use Rattle.range_client.proofs.asked_in_range.Tie as tie
-
-returns : tie.Need-returns
-returns c = asked-none _ _ _ _ (omega arith)
 
 stamps-in-range-requires : tie.Need-stamps-in-range-requires
 stamps-in-range-requires c κs = search needs
@@ -17,18 +13,17 @@ values-in-range-requires c κs = search needs
 firsts-in-range-requires : tie.Need-firsts-in-range-requires
 firsts-in-range-requires c κs = search needs
 
-returns-2 : tie.Need-returns-2
-returns-2 c =
+returns : tie.Need-returns
+returns c =
     asked-tests _ _ _ _ (c .before .before .stamps-in-range .ensures)
     (c .before .values-in-range .ensures) (c .firsts-in-range .ensures)
-    (c .before .before .before .before .before .pre .6)
+    (c .before .before .before .before .pre .6)
 
 pub asked-in-range-spec : {M : Type 1} → statement M
 asked-in-range-spec =
     tie.close
     (tie.spec
-    returns
     stamps-in-range-requires
     values-in-range-requires
     firsts-in-range-requires
-    returns-2)
+    returns)

@@ -11,19 +11,17 @@ mode-requires c κs = search needs
 set-of-requires : tie.Need-set-of-requires
 set-of-requires c κs = search needs
 
-state-in-range-requires : tie.Need-state-in-range-requires
-state-in-range-requires c κs = search needs
-
-running-in-range-requires : tie.Need-running-in-range-requires
-running-in-range-requires c κs = search needs
+under-way-in-range-requires : tie.Need-under-way-in-range-requires
+under-way-in-range-requires c κs = search needs
 
 last-in-range-requires : tie.Need-last-in-range-requires
 last-in-range-requires c κs = search needs
 
 returns : tie.Need-returns
 returns c =
-    client-tests _ _ _ _ (c .before .before .state-in-range .ensures)
-    (c .before .running-in-range .ensures) (c .last-in-range .ensures)
+    let given = c .before .before .before .before .before .args in
+    client-tests (given .b .now) (given .d) (given .clients) (given .items)
+    (c .before .under-way-in-range .ensures) (c .last-in-range .ensures)
 
 pub client-in-range-spec : {M : Type 1} → statement M
 client-in-range-spec =
@@ -31,7 +29,6 @@ client-in-range-spec =
     (tie.spec
     mode-requires
     set-of-requires
-    state-in-range-requires
-    running-in-range-requires
+    under-way-in-range-requires
     last-in-range-requires
     returns)

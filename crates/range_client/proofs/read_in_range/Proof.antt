@@ -12,11 +12,12 @@ returns c =
     let shown = set .before in
     let given = shown .before .before .before .args in
     rw (sym (shown .before .shows-read .ensures) ∙ shown .if1 .taken)
-    (read-tests (given .b .now) (given .d) _ _
+    (read-tests (given .b .now) (given .d) _ _ (given .kind)
     (c .before .before .all-below .ensures)
     (c .before .stamps-in-range .ensures)
-    (c .values-in-range .ensures)
-    (set .last-set .ensures))
+    (c .last-values-in-range .ensures)
+    (set .last-set .ensures)
+    (search needs))
 
 pub read-in-range-spec : {M : Type 1} → statement M
 read-in-range-spec =

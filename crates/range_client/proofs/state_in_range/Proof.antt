@@ -16,12 +16,16 @@ all-below-requires c κs = search needs
 all-below-requires-2 : tie.Need-all-below-requires-2
 all-below-requires-2 c κs = search needs
 
+rest-in-range-requires : tie.Need-rest-in-range-requires
+rest-in-range-requires c κs = search needs
+
 returns : tie.Need-returns
 returns c =
-    let s = c .before .before .before .before .before in
+    let below = c .before .before in
+    let s = below .before .before .before .before in
     state-tests (s .args .b .now) (s .args .d) 0 (s .args .items) (s .pre .2)
-    (c .before .before .before .count .ensures) (s .pre .3) (c .before .before .awaited .ensures)
-    (c .before .all-below .ensures) (c .all-below2 .ensures)
+    (below .before .before .count .ensures) (s .pre .3) (below .before .awaited .ensures)
+    (below .all-below .ensures) (c .before .all-below2 .ensures) (c .rest-in-range .ensures)
 
 pub state-in-range-spec : {M : Type 1} → statement M
 state-in-range-spec =
@@ -31,4 +35,5 @@ state-in-range-spec =
     awaited-requires
     all-below-requires
     all-below-requires-2
+    rest-in-range-requires
     returns)

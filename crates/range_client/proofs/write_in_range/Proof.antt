@@ -12,12 +12,13 @@ returns c =
     let shown = set .before in
     let given = shown .before .before .before .args in
     rw (sym (shown .before .shows-write .ensures) ∙ shown .if1 .taken)
-    (write-tests (given .b .now) (given .d) _ _
+    (write-tests (given .b .now) (given .d) _ _ (given .kind)
     (c .before .before .before .all-below .ensures)
     (c .before .stamp-in-range .ensures)
-    (c .values-in-range .ensures)
-    (set .last-set .ensures)
-    (c .before .before .last-stamp .ensures))
+    (c .last-values-in-range .ensures)
+    (set .last-written-set .ensures)
+    (c .before .before .last-stamp .ensures)
+    (search needs))
 
 pub write-in-range-spec : {M : Type 1} → statement M
 write-in-range-spec =

@@ -21,12 +21,12 @@ read-le c =
 
 write-le : (c : tie.After-write-length) → c .write-length .result ≤ 268
 write-le c =
-    let set = c .before .before .before .before in
+    let written = c .before .before .before .before .before in
     omega (
       arith,
       c .write-length .ensures,
-      writeLength-le (c .before .before .before .last-kind .result) (set .last-set .result)
-          (set .last-set .ok),
+      writeLength-le (c .before .before .before .last-kind .result) (written .last-written-set .result)
+          (written .last-written-set .ok),
     )
 
 returns : tie.Need-returns
@@ -42,12 +42,14 @@ returns-2 c =
     let look = read .before .before in
     ap₂ (λ (m n : ℕ). 2 + m + n) (read .read-length .ensures) (c .write-length .ensures)
     ∙ sym (length-frameIn _ _ (look .last-kind .ensures) (look .before .last-set .ensures)
-    (look .before .last-set .ok) (read .before .if1 .left))
+    (look .before .before .last-written-set .ensures) (look .before .last-set .ok)
+    (look .before .before .last-written-set .ok) (read .before .if1 .left))
 
 pub frame-length-spec : {M : Type 1} → statement M
 frame-length-spec =
     tie.close
     (tie.spec
+    (λ c κs. search needs)
     (λ c κs. search needs)
     (λ c κs. search needs)
     (λ c κs. search needs)

@@ -43,7 +43,7 @@ returns c =
     let value = first .before .before in
     joined _ _ _ _ _ _ _ _ _ (first .put-bytes .ensures) (second .put-bytes2 .ensures)
     (third .put-bytes3 .ensures) (value .before .last-read-stamp .ensures)
-    (value .last-value .ensures)
+    (value .last-answer .ensures)
 
 pub put-entry-spec : {M : Type 1} → statement M
 put-entry-spec =

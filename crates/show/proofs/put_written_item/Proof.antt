@@ -25,7 +25,7 @@ returns c =
     rw (
       sym (found .before .has .ensures) ∙ found .if1 .taken,
       ← ranked .rank .ensures,
-      ← value .last-value .ensures,
+      ← value .last-value-written .ensures,
     )
     (wrote .put-bytes .ensures)
 

@@ -38,16 +38,19 @@ whole out headed read after frame byte n d behind r w p e q s place f h =
 long : (c : tie.After-read-length)
     → let kind = c .before .before .last-kind .result in
     let set = c .before .before .before .last-set .result in
-    2 + readLength kind set + writeLength kind set
-    ≤ length (c .before .before .before .before .before .before .args .out .now)
+    let written = c .before .before .before .before .last-written-set .result in
+    2 + readLength kind set + writeLength kind written
+    ≤ length (c .before .before .before .before .before .before .before .args .out .now)
 long c =
     let look = c .before .before in
     let set = look .before in
-    let start = set .before .before .before in
+    let written = set .before in
+    let start = written .before .before .before in
     omega (
       arith,
       length-frameIn (start .args .b .now) (start .args .d) (look .last-kind .ensures)
-          (set .last-set .ensures) (set .last-set .ok) (c .before .if1 .left),
+          (set .last-set .ensures) (written .last-written-set .ensures) (set .last-set .ok)
+          (written .last-written-set .ok) (c .before .if1 .left),
       start .pre .2,
     )
 
@@ -76,20 +79,22 @@ returns-2 c =
     let behind = byte .before .before in
     let look = behind .before .before in
     let set = look .before in
-    let start = set .before .before .before in
+    let written = set .before in
+    let start = written .before .before .before in
     whole (start .args .out .now) _ _ _ _ _ _ (start .args .d) _ _ _ (headed .put-head .ensures)
     (byte .frame-byte .ensures) (read .put-shown-read .ensures) (wrote .put-shown-write .ensures)
     (ap (λ (n : ℕ). 2 + n) (behind .read-length .ensures)
     ∙ sym (length-before (start .args .b .now) (start .args .d) (look .last-kind .ensures)
     (set .last-set .ensures) (set .last-set .ok)))
     (frameIn-shown (start .args .b .now) (start .args .d) (look .last-kind .ensures)
-    (set .last-set .ensures) (behind .before .if1 .left))
+    (set .last-set .ensures) (written .last-written-set .ensures) (behind .before .if1 .left))
     (start .pre .2)
 
 pub write-frame-spec : {M : Type 1} → statement M
 write-frame-spec =
     tie.close
     (tie.spec
+    (λ c κs. search needs)
     (λ c κs. search needs)
     (λ c κs. search needs)
     returns

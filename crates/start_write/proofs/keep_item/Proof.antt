@@ -19,13 +19,15 @@ place c =
 returns : tie.Need-returns
 returns c =
     let kept = c .before .before in
-    let value = kept .before in
-    let ranked = value .before .before in
+    let word = kept .before in
+    let value = word .before .before in
+    let ranked = value .before in
     let found = ranked .before in
     rw (
       sym (found .before .has .ensures) ∙ found .if1 .taken,
       ← ranked .rank .ensures,
       ← value .number-at .ensures,
+      ← word .written-word .ensures,
     )
     (kept .put-value .ensures)
 
@@ -36,7 +38,8 @@ keep-item-spec =
     (λ c κs. search needs)
     (λ c κs. search needs)
     (λ c. omega (arith, place c))
-    (λ c κs. omega (arith, place (c .before)))
+    (λ c κs. omega (arith, place c))
+    (λ c κs. search needs)
     (λ c κs. search needs)
     (λ c. search needs)
     returns

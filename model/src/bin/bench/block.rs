@@ -1,11 +1,12 @@
 //! A lent block that is as it was before each timed step.
 
+use koolvent_model::frames::log::MOST_BYTES;
 use std::hint::black_box;
 
 /// A block, room for what is shown, and the words that a step changes, as they were before it.
 pub struct Lent {
     pub block: Vec<u64>,
-    pub output: [u8; 600],
+    pub output: [u8; MOST_BYTES],
     before: Vec<(usize, u64)>,
 }
 
@@ -15,7 +16,7 @@ impl Lent {
         let changed = (0..block.len()).filter(|place| block[*place] != after[*place]);
         Lent {
             block: block.to_vec(),
-            output: [0; 600],
+            output: [0; MOST_BYTES],
             before: changed.map(|place| (place, block[place])).collect(),
         }
     }

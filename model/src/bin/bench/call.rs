@@ -7,6 +7,7 @@ use crate::clock::{quickest_way, steps, steps_prepared, steps_undone, Contender,
 use crate::floor;
 use koolvent_model::block::{Calls, Modelled};
 use koolvent_model::call::Call;
+use koolvent_model::frames::log::MOST_BYTES;
 use koolvent_model::layout::{decode, NEEDED};
 use koolvent_model::proved::store::Proved;
 use koolvent_model::store::Store;
@@ -105,7 +106,7 @@ fn on_tables(case: &Case) -> Contender<'_> {
         store.tables.versions.reserve(NEEDED);
     };
     let step = |store: &mut Store| {
-        black_box(black_box(store).call(&case.call, &mut [0; 600]));
+        black_box(black_box(store).call(&case.call, &mut [0; MOST_BYTES]));
     };
     steps_prepared(Store::new(), prepare, step)
 }

@@ -52,6 +52,15 @@ fn fast_read(name: &'static str, session: &Session, client: u64, set: u64) -> Ca
     case(name, session, Call::FastRead { client, set })
 }
 
+pub const MIXED_OF_4: &str = "start a mixed transaction that reads and writes 4 items";
+const LAST_GOT_OF_MIXED: &str = "deliver the last got, and a mixed transaction ends";
+const LAST_PREPARED_OF_MIXED: &str = "deliver the last prepared, and a mixed transaction ends";
+
+/// The start of a mixed transaction.
+fn mixed(name: &'static str, session: &Session, client: u64, read: u64, write: u64) -> Case {
+    case(name, session, Call::Mixed { client, read, write, values: some_values(write) })
+}
+
 /// The check of all fields, and next to nothing else: a read of a client that doesn't exist.
 pub const CHECK: &str = "the check alone (refusal 3)";
 pub const CHECK_OF_A_FRESH_SHEET: &str = "the check alone, on a fresh sheet";
@@ -129,6 +138,19 @@ pub fn small() -> Vec<Case> {
     cases.push(deliver("deliver a first reply", &fast, FIRST_REPLY, 2));
     fast.deliver(FIRST_REPLY, 2, 3);
     cases.push(deliver("deliver the last first reply", &fast, FIRST_REPLY, 2));
+    cases.push(mixed(MIXED_OF_4, &session, 2, SHEET, SHEET));
+    let mut under_way = session.clone();
+    under_way.start_mixed(2, SHEET, SHEET);
+    under_way.deliver(GET, 2, 4);
+    under_way.deliver(PREPARE, 2, 4);
+    cases.push(deliver("deliver a got to a mixed transaction", &under_way, GOT, 2));
+    cases.push(deliver("deliver a prepared to a mixed transaction", &under_way, PREPARED, 2));
+    let [got, prepared] = last_replies(under_way, 2, 4, 4);
+    cases.push(deliver(LAST_GOT_OF_MIXED, &got, GOT, 2));
+    cases.push(deliver(LAST_PREPARED_OF_MIXED, &prepared, PREPARED, 2));
+    let mut ended = got;
+    ended.deliver(GOT, 2, 1);
+    cases.push(show("show a mixed transaction of 4 items", &ended, 2));
     cases.push(hand_over(&session, 1, 2));
     cases.push(compare(COMPARE, &session, 1, 2));
     cases.push(check(CHECK, &session));
@@ -152,6 +174,7 @@ pub fn busy() -> Vec<Case> {
         deliver("deliver a commit", &session, COMMIT, 2),
         read(READ_OF_4, &session, 2, SHEET),
         fast_read(FAST_READ_OF_4, &session, 2, SHEET),
+        mixed(MIXED_OF_4, &session, 2, SHEET, SHEET),
         deliver("deliver a get", &session, GET, 7),
         deliver("deliver a got", &session, GOT, 7),
         deliver("deliver the last got", &session, GOT, 8),
@@ -229,6 +252,44 @@ fn fetching_again() -> Session {
     let session = first_replied(1, 64);
     assert_eq!(session.tables().client(7).awaited, 0b1111_1110);
     session
+}
+
+/// The same block with client 7's mixed transaction under way, which reads 60 items and writes 8:
+/// as much as the messages and the versions leave room for.
+pub fn busy_and_mixed() -> Vec<Case> {
+    let mut session = session_with_room();
+    let (read, write) = (first_items(60), first_items(8));
+    let start = mixed("start it", &session, 7, read, write);
+    session.start_mixed(7, read, write);
+    let get = deliver("deliver a get", &session, GET, 7);
+    session.deliver(GET, 7, 60);
+    let prepare = deliver("deliver a prepare", &session, PREPARE, 7);
+    session.deliver(PREPARE, 7, 8);
+    let got = deliver("deliver a got", &session, GOT, 7);
+    let prepared = deliver("deliver a prepared", &session, PREPARED, 7);
+    let [last_got, last_prepared] = last_replies(session, 7, 60, 8);
+    vec![
+        start,
+        get,
+        prepare,
+        got,
+        prepared,
+        deliver(LAST_GOT_OF_MIXED, &last_got, GOT, 7),
+        deliver(LAST_PREPARED_OF_MIXED, &last_prepared, PREPARED, 7),
+        check(CHECK, &last_got),
+    ]
+}
+
+/// A session in which the client's mixed transaction awaits so many gots and prepared replies, all
+/// in flight: with one got left, and with one prepared reply left.
+fn last_replies(session: Session, client: u64, gots: u32, prepared: u32) -> [Session; 2] {
+    let mut one_got = session.clone();
+    one_got.deliver(PREPARED, client, prepared);
+    one_got.deliver(GOT, client, gots - 1);
+    let mut one_prepared = session;
+    one_prepared.deliver(GOT, client, gots);
+    one_prepared.deliver(PREPARED, client, prepared - 1);
+    [one_got, one_prepared]
 }
 
 /// With client 7's read under way too: 32 gets and 32 gots more.

@@ -12,11 +12,12 @@ const MOST_LINES: usize = 256;
 const ROUNDS: usize = 15;
 
 /// What a log is made of: so many writes of `width` items each, hand-overs above or below them, and
-/// reads of `shown`.
+/// reads of `shown`. Writes that are mixed transactions read as many.
 #[derive(Clone, Copy, Default)]
 pub struct Shape {
     pub writes: usize,
     pub width: usize,
+    pub are_mixed: bool,
     pub hand_overs: HandOvers,
     pub shown: usize,
 }
@@ -52,18 +53,32 @@ pub struct Row {
     pub models: Figure,
 }
 
-/// The slowest logs that are found, without hand-overs among their lines and with some; both are
-/// judged in the same rounds.
+/// The slowest logs that are found: of writes and reads alone, with hand-overs among their lines,
+/// and with mixed transactions for their writes. All are judged in the same rounds.
 pub struct Slowest {
     pub plain: Row,
     pub handed_over: Row,
+    pub mixed: Row,
     /// The second's time as a multiple of the first's.
     pub times: Figure,
+}
+
+impl Slowest {
+    pub fn all(&self) -> [&Row; 3] {
+        [&self.plain, &self.handed_over, &self.mixed]
+    }
 }
 
 /// The set of `width` items from `from` on, around the 64.
 fn items_from(from: usize, width: usize) -> u64 {
     (0..width).fold(0, |set, i| set | 1 << ((from + i) % 64))
+}
+
+/// The first `shown` items, each from its last write, whose number is its value too.
+fn shown_of(shown: usize, last: &[u32; 64]) -> Vec<Shown> {
+    let entry =
+        |number: &u32| Shown { number: *number, client: u8::from(*number > 0), value: *number };
+    last[..shown].iter().map(entry).collect()
 }
 
 /// A clean log that a judge has to search to its end: hand-overs, writes in turn over all 64 items
@@ -76,8 +91,10 @@ fn log_of(shape: Shape, most_bytes: usize) -> Vec<u8> {
     if shape.hand_overs.above {
         log.extend(hand_overs.bytes());
     }
+    let read_set = items_from(0, shape.shown);
     let mut last = [0; 64];
     for number in 1..=shape.writes {
+        let shown = shown_of(shape.shown, &last);
         let set = items_from(number * shape.width, shape.width);
         for (item, number_of_item) in last.iter_mut().enumerate() {
             if set >> item & 1 == 1 {
@@ -85,19 +102,17 @@ fn log_of(shape: Shape, most_bytes: usize) -> Vec<u8> {
             }
         }
         let values = vec![number as u32; shape.width];
-        log.extend(LogFrame::of_write(1, set, number as u32, values).line().bytes());
+        let frame = match shape.are_mixed {
+            true => LogFrame::of_mixed(1, (read_set, shown), (set, number as u32, values)),
+            false => LogFrame::of_write(1, set, number as u32, values),
+        };
+        log.extend(frame.line().bytes());
     }
     let reader = if shape.hand_overs.above { 1 } else { heir };
     if !shape.hand_overs.above {
         log.extend(hand_overs.bytes());
     }
-    let entry = |item: usize| Shown {
-        number: last[item],
-        client: u8::from(last[item] > 0),
-        value: last[item],
-    };
-    let shown = (0..shape.shown).map(entry).collect();
-    let read = LogFrame::of_read(reader, items_from(0, shape.shown), shown).line();
+    let read = LogFrame::of_read(reader, read_set, shown_of(shape.shown, &last)).line();
     let mut lines = shape.writes + shape.hand_overs.count;
     while lines < MOST_LINES && log.len() + read.len() <= most_bytes {
         log.extend(read.bytes());
@@ -154,21 +169,23 @@ pub fn slowest() -> Slowest {
     let below = [1, 8, 32, 96].map(|count| HandOvers { count, above: false });
     let above = [8, 32, 96].map(|count| HandOvers { count, above: true });
     let some: Vec<HandOvers> = below.into_iter().chain(above).collect();
-    let (rounds, rows) = rows(&[slowest_log(&[HandOvers::default()]), slowest_log(&some)]);
-    let [plain, handed_over] = rows.try_into().unwrap_or_else(|_| panic!("two rows"));
+    let none = [HandOvers::default()];
+    let logs = [slowest_log(&none, false), slowest_log(&some, false), slowest_log(&none, true)];
+    let (rounds, rows) = rows(&logs);
+    let [plain, handed_over, mixed] = rows.try_into().unwrap_or_else(|_| panic!("three rows"));
     // A row has two contenders, the judge and the model's.
-    Slowest { plain, handed_over, times: rounds.ratio(2, 0) }
+    Slowest { plain, handed_over, mixed, times: rounds.ratio(2, 0) }
 }
 
 /// The log on which the proved judge is slowest, of those tried that are clean and within the
-/// limits, with hand-overs as one of these. A few verdicts on each tell which may be, in passes
+/// limits, with hand-overs as one of these and with writes that are mixed or not. A few verdicts on each tell which may be, in passes
 /// over all of them, since a machine that is disturbed is so for a while; those then take turns.
-fn slowest_log(hand_overs: &[HandOvers]) -> Log {
+fn slowest_log(hand_overs: &[HandOvers], are_mixed: bool) -> Log {
     let mut logs = Vec::new();
     for width in [1, 2, 4, 8, 16, 64] {
         for shown in [1, 4, 9, 12, 16, 20, 24, 32, 64] {
             for writes in (16..=240).step_by(16) {
-                let shape = |&hand_overs| Shape { writes, width, hand_overs, shown };
+                let shape = |&hand_overs| Shape { writes, width, are_mixed, hand_overs, shown };
                 logs.extend(hand_overs.iter().map(shape).filter_map(clean_log));
             }
         }

@@ -4,7 +4,7 @@ use crate::call::Row;
 use crate::cases::{
     BEFORE_FETCHING, BEFORE_THE_LAST, CHECK, CHECK_OF_A_FRESH_SHEET, COMMIT_BESIDE_FETCHING,
     COMMIT_BESIDE_THE_LAST, COMPARE, COMPARE_ALIKE, FAST_READ_OF_4, FAST_READ_OF_64,
-    FETCHING_AGAIN, HAND_OVER, LAST_FIRST_REPLY, READ_OF_4, READ_OF_64,
+    FETCHING_AGAIN, HAND_OVER, LAST_FIRST_REPLY, MIXED_OF_4, READ_OF_4, READ_OF_64,
 };
 use crate::clock::Figure;
 use crate::page::{time, Measured};
@@ -33,6 +33,9 @@ const WIDE_READS: f64 = 1.5;
 const FAST_STARTS: f64 = 1.0;
 const LAST_REPLIES: f64 = 1.5;
 const COMMITS: f64 = 1.25;
+/// On the small sheet a mixed transaction takes at most so many times a read and then a write of
+/// the same items. Document 02's P8 has no limits: this one and the start's floors are our own.
+const IN_ONE: f64 = 1.0;
 /// Floors of the check of a fresh small sheet before stamps were gathered (on an AMD EPYC, quickest
 /// round, as its library was linked then), and how many times as many it may take. The two
 /// libraries, aligned alike and in one program: docs/changes/ready.md.
@@ -126,6 +129,7 @@ pub fn limits(measured: &Measured) -> Vec<Limit> {
         &measured.sheets.fresh_fast,
         FASTER,
     ));
+    limits.extend(of_mixed_transactions(measured));
     limits.push(as_fast(
         "small sheet, its life with a clearing whenever 9 refuses a write: not slower than SQLite"
             .to_owned(),
@@ -178,8 +182,39 @@ fn of_fast_reads(measured: &Measured) -> [Limit; 7] {
     [few, many, ends, goes_on, ends_beside, goes_on_beside, all]
 }
 
+fn of_mixed_transactions(measured: &Measured) -> [Limit; 4] {
+    let sheet::Rows { read_then_write, mixed, .. } = &measured.sheets;
+    [
+        at_most(
+            format!("busy block, {MIXED_OF_4}: at most {FLOORS} floors"),
+            named(&measured.busy, MIXED_OF_4).floors,
+            FLOORS,
+        ),
+        worst(
+            format!("busy block with a mixed one under way: a call at most {FLOORS} floors"),
+            &measured.busy_and_mixed,
+            |row| row.floors,
+            FLOORS,
+        ),
+        at_most(
+            format!(
+                "small sheet: a mixed transaction that reads and writes 4 items at most \
+                 {IN_ONE:.1} times a read and then a write"
+            ),
+            times(mixed.store, read_then_write.store),
+            IN_ONE,
+        ),
+        as_fast(
+            "small sheet: a mixed transaction that reads and writes 4 items not slower than SQLite"
+                .to_owned(),
+            mixed,
+            NOT_SLOWER,
+        ),
+    ]
+}
+
 fn of_the_judge(slowest: &judges::Slowest) -> [Limit; 3] {
-    let rows = [&slowest.plain, &slowest.handed_over];
+    let rows = slowest.all();
     let [times, models] = [rows.map(|row| row.judge), rows.map(|row| row.models)].map(greatest);
     [
         Limit {
@@ -204,9 +239,10 @@ fn of_the_judge(slowest: &judges::Slowest) -> [Limit; 3] {
     ]
 }
 
-fn greatest(figures: [Figure; 2]) -> Figure {
-    let [one, other] = figures;
-    Figure { quickest: one.quickest.max(other.quickest), median: one.median.max(other.median) }
+fn greatest(figures: [Figure; 3]) -> Figure {
+    let quickest = figures.map(|figure| figure.quickest).into_iter().fold(0.0, f64::max);
+    let median = figures.map(|figure| figure.median).into_iter().fold(0.0, f64::max);
+    Figure { quickest, median }
 }
 
 fn named<'a>(rows: &'a [Row], name: &str) -> &'a Row {

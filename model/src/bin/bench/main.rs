@@ -25,6 +25,7 @@ fn main() {
         busy: call::rows(&cases::busy()),
         busy_with_room: call::rows(&cases::busy_with_room()),
         busy_and_fast: call::rows(&cases::busy_and_fast()),
+        busy_and_mixed: call::rows(&cases::busy_and_mixed()),
         clearings: clearing::clearings(),
         sheets: sheet::rows(),
         slowest: judges::slowest(),

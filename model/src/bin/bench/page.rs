@@ -23,6 +23,8 @@ pub struct Measured {
     pub busy_with_room: Vec<call::Row>,
     /// On that block with a fast read of all items under way.
     pub busy_and_fast: Vec<call::Row>,
+    /// On that block with a mixed transaction under way.
+    pub busy_and_mixed: Vec<call::Row>,
     pub clearings: Clearings,
     /// On a fresh sheet, and over the life of one.
     pub sheets: sheet::Rows,
@@ -67,6 +69,10 @@ pub fn page(measured: &Measured) -> String {
         calls_table(
             "The same block with client 7's fast read of all 64 items under way",
             &measured.busy_and_fast,
+        ),
+        calls_table(
+            "The same block with client 7's mixed transaction of 60 items read and 8 written",
+            &measured.busy_and_mixed,
         ),
         calls_table("A clearing", measured.clearings.rows()),
         sheets_table(&measured.sheets),
@@ -177,16 +183,21 @@ fn judges_table(slowest: &judges::Slowest) -> String {
     let head = ["Log", "Judge", "Model's judge", "Judge / model"];
     let mut text = "## The judge, on the slowest logs found\n\n".to_owned()
         + &heading(&head, "|---|--:|--:|--:|");
-    for row in [&slowest.plain, &slowest.handed_over] {
-        let judges::Shape { writes, width, hand_overs, shown } = row.shape;
+    for row in slowest.all() {
+        let judges::Shape { writes, width, are_mixed, hand_overs, shown } = row.shape;
         let some = match hand_overs.count {
             0 => String::new(),
             count => format!("{count} hand-overs, "),
         };
         let [above, below] = if hand_overs.above { [&*some, ""] } else { ["", &*some] };
+        let mixed = match are_mixed {
+            true => format!(", each in a mixed transaction that reads {shown}"),
+            false => String::new(),
+        };
         let bytes = row.bytes;
         let log = format!(
-            "{above}{writes} writes of {width} items, {below}then reads of {shown}: {bytes} bytes"
+            "{above}{writes} writes of {width} items{mixed}, {below}then reads of {shown}: {bytes} \
+             bytes"
         );
         let [judge, model] = [row.judge, row.model].map(times);
         line(&mut text, &[&log, &judge, &model, &ratios(row.models)]);

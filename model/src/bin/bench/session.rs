@@ -42,6 +42,11 @@ impl Session {
         accepted(self.store.start_write(client, set, &values));
     }
 
+    pub fn start_mixed(&mut self, client: u64, read: u64, write: u64) {
+        let values = some_values(write);
+        accepted(self.store.start_mixed(client, read, write, &values));
+    }
+
     /// A read from its start to its end.
     pub fn read(&mut self, client: u64, set: u64) {
         self.start_read(client, set);

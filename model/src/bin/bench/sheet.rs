@@ -1,5 +1,6 @@
 //! A transaction each way on the small sheet: client 1 writes its four items, client 2 reads them,
-//! all messages are delivered in turn, both are shown.
+//! all messages are delivered in turn, both are shown. And a correction of the four: client 1 reads
+//! and then writes them, in two transactions or in one.
 
 mod calls;
 
@@ -10,9 +11,8 @@ use crate::session::Session;
 #[cfg(feature = "sqlite")]
 use crate::sqlite::Sheet;
 pub use calls::CALLS;
-use calls::{check_often, write_and_read, Life, Looked, CHECKS, SHEET};
+use calls::{check_often, Life, Looked, Play, CHECKS, SHEET};
 use koolvent_model::block::{Calls, Modelled};
-use koolvent_model::frames::log::Manner;
 use koolvent_model::proved::store::Proved;
 use std::cell::RefCell;
 
@@ -51,10 +51,13 @@ pub struct InSqlite {
     pub as_fast: Figure,
 }
 
-/// On a fresh sheet, with an ordinary and with a fast read, and the mean over the life of one.
+/// On a fresh sheet, with an ordinary and with a fast read, of a correction in two transactions and
+/// in one, and the mean over the life of one.
 pub struct Rows {
     pub fresh: Row,
     pub fresh_fast: Row,
+    pub read_then_write: Row,
+    pub mixed: Row,
     /// From a fresh sheet to a full one.
     pub life: Row,
     /// With a clearing whenever 9 refuses a write.
@@ -64,16 +67,24 @@ pub struct Rows {
 }
 
 impl Rows {
-    pub fn all(&self) -> [&Row; 5] {
-        [&self.fresh, &self.fresh_fast, &self.life, &self.cleared, &self.cleared_sooner]
+    pub fn all(&self) -> [&Row; 7] {
+        let fresh = [&self.fresh, &self.fresh_fast, &self.read_then_write, &self.mixed];
+        let [one, fast, two, mixed] = fresh;
+        [one, fast, two, mixed, &self.life, &self.cleared, &self.cleared_sooner]
     }
 }
 
 pub fn rows() -> Rows {
     let long = format!("the mean of {WRITES_OF_A_LONG_LIFE} from a fresh sheet on");
+    let plays = [Play::WriteAndRead, Play::WriteAndFastRead, Play::ReadThenWrite, Play::Mixed];
+    let fresh = on_sheets(&plays.map(|play| (0, play)));
+    let [fresh, fresh_fast, read_then_write, mixed] =
+        fresh.try_into().unwrap_or_else(|_| panic!("a row for each play"));
     Rows {
-        fresh: on_sheets(&[0], Manner::Ordinary).remove(0),
-        fresh_fast: on_sheets(&[0], Manner::Fast).remove(0),
+        fresh,
+        fresh_fast,
+        read_then_write,
+        mixed,
         life: mean(
             format!("the mean of {WRITES_OF_A_LIFE}, from a fresh sheet to a full one"),
             Life { writes: WRITES_OF_A_LIFE, cleared_after: None },
@@ -91,47 +102,45 @@ pub fn rows() -> Rows {
 
 /// The mean of a life's writes and reads.
 fn mean(name: String, life: Life) -> Row {
-    let contenders = beside_sqlite([
+    let contenders = [
         a_life(Proved, life),
         one_of(CHECKS, difference(a_life(Looked(check_often), life), a_life(Proved, life))),
         a_life(Modelled::default(), life),
         passes_of_a_life(life),
-    ]);
-    let rounds = Rounds::run(ROUNDS_OF_LIVES, contenders);
+    ];
+    let rounds = Rounds::run(ROUNDS_OF_LIVES, beside_sqlite(contenders, Play::WriteAndRead));
     row(name, 0, &rounds, 0)
 }
 
 /// Against the number of stored versions.
 pub fn growth() -> Vec<Row> {
-    on_sheets(&[0, 64, 128, 192, 256, 320, 384, 448, 508], Manner::Ordinary)
+    let versions = [0, 64, 128, 192, 256, 320, 384, 448, 508];
+    on_sheets(&versions.map(|versions| (versions, Play::WriteAndRead)))
 }
 
-/// On sheets with so many stored versions, all in the same rounds.
-fn on_sheets(versions: &[u64], manner: Manner) -> Vec<Row> {
-    let of_one = |versions: &u64| {
-        let block = sheet_with(*versions);
-        assert_alike(&block, manner);
-        let [store, again] = [(); 2].map(|()| once(Proved, &block, manner));
-        let checked = once(Looked(check_often), &block, manner);
-        beside_sqlite([
+/// On sheets with so many stored versions, each with its play, all in the same rounds.
+fn on_sheets(sheets: &[(u64, Play)]) -> Vec<Row> {
+    let of_one = |&(versions, play): &(u64, Play)| {
+        let block = sheet_with(versions);
+        assert_alike(&block, play);
+        let [store, again] = [(); 2].map(|()| once(Proved, &block, play));
+        let checked = once(Looked(check_often), &block, play);
+        let contenders = [
             store,
             one_of(CHECKS, difference(checked, again)),
-            once(Modelled::default(), &block, manner),
-            passes(&block, manner),
-        ])
+            once(Modelled::default(), &block, play),
+            passes(&block, play),
+        ];
+        beside_sqlite(contenders, play)
     };
-    let of_each: Vec<Vec<Contender>> = versions.iter().map(of_one).collect();
+    let of_each: Vec<Vec<Contender>> = sheets.iter().map(of_one).collect();
     let each = of_each.first().map_or(0, Vec::len);
     let rounds = Rounds::run(ROUNDS, of_each.into_iter().flatten().collect());
-    let how = match manner {
-        Manner::Ordinary => "",
-        Manner::Fast => ", the read fast",
+    let row_of_one = |(place, &(versions, play)): (usize, &(u64, Play))| {
+        let name = format!("on a sheet with {versions} stored versions{}", play.how());
+        row(name, versions, &rounds, each * place)
     };
-    let row_of_one = |(place, versions): (usize, &u64)| {
-        let name = format!("on a sheet with {versions} stored versions{how}");
-        row(name, *versions, &rounds, each * place)
-    };
-    versions.iter().enumerate().map(row_of_one).collect()
+    sheets.iter().enumerate().map(row_of_one).collect()
 }
 
 fn sheet_with(versions: u64) -> Vec<u64> {
@@ -144,8 +153,8 @@ fn sheet_with(versions: u64) -> Vec<u64> {
 }
 
 /// The store, its checks, the model, the floor, and SQLite where it is there.
-fn beside_sqlite<'a>(contenders: [Contender<'a>; 4]) -> Vec<Contender<'a>> {
-    contenders.into_iter().chain(in_sqlite()).collect()
+fn beside_sqlite<'a>(contenders: [Contender<'a>; 4], play: Play) -> Vec<Contender<'a>> {
+    contenders.into_iter().chain(in_sqlite(play)).collect()
 }
 
 /// The row of such contenders, of which the first is at the place.
@@ -167,18 +176,18 @@ fn row(name: String, versions: u64, rounds: &Rounds, place: usize) -> Row {
 }
 
 /// The store and the model leave the same words and show the same.
-fn assert_alike(block: &[u64], manner: Manner) {
+fn assert_alike(block: &[u64], play: Play) {
     let [mut store, mut model] = [(); 2].map(|()| Lent::new(block, block));
-    write_and_read(&Proved, &mut store, 1, manner);
-    write_and_read(&Modelled::default(), &mut model, 1, manner);
+    play.make(&Proved, &mut store, 1);
+    play.make(&Modelled::default(), &mut model, 1);
     assert!(store.block == model.block && store.output == model.output);
 }
 
-fn once<'a>(served: impl Calls + 'a, block: &[u64], manner: Manner) -> Contender<'a> {
+fn once<'a>(served: impl Calls + 'a, block: &[u64], play: Play) -> Contender<'a> {
     let mut after = Lent::new(block, block);
-    write_and_read(&served, &mut after, 1, manner);
+    play.make(&served, &mut after, 1);
     let lent = Lent::new(block, &after.block);
-    let step = move |lent: &mut Lent| write_and_read(&served, lent, 1, manner);
+    let step = move |lent: &mut Lent| play.make(&served, lent, 1);
     steps_undone(lent, step, Lent::undo)
 }
 
@@ -192,13 +201,13 @@ fn fresh_sheet() -> Lent {
     Lent::new(&block, &block)
 }
 
-/// The floor of a write and a read.
-fn passes<'a>(block: &[u64], manner: Manner) -> Contender<'a> {
+/// The floor of what is played.
+fn passes<'a>(block: &[u64], play: Play) -> Contender<'a> {
     let mut lent = Lent::new(block, block);
     let before_each = RefCell::new(Vec::new());
-    write_and_read(&watched(&before_each), &mut lent, 1, manner);
+    play.make(&watched(&before_each), &mut lent, 1);
     let before_each = before_each.into_inner();
-    assert_eq!(before_each.len(), CALLS);
+    assert_eq!(before_each.len(), play.calls());
     floor::passes(block, before_each)
 }
 
@@ -217,18 +226,28 @@ fn watched(before_each: &RefCell<Vec<Stretches>>) -> impl Calls + '_ {
 }
 
 #[cfg(feature = "sqlite")]
-fn in_sqlite<'a>() -> Option<Contender<'a>> {
+fn in_sqlite<'a>(play: Play) -> Option<Contender<'a>> {
     let mut sheet = Sheet::new();
-    let mut value = 0;
+    let (mut before, mut value) = ([0; 4], 0);
     Some(steps(move || {
         value = (value + 1) % 1_000;
         let values = [0, 1, 2, 3].map(|item| value + item);
-        sheet.write(1, values);
-        assert_eq!(sheet.read(), values);
+        match play {
+            Play::WriteAndRead | Play::WriteAndFastRead => {
+                sheet.write(1, values);
+                assert_eq!(sheet.read(), values);
+            }
+            Play::ReadThenWrite => {
+                assert_eq!(sheet.read(), before);
+                sheet.write(1, values);
+            }
+            Play::Mixed => assert_eq!(sheet.correct(1, values), before),
+        }
+        before = values;
     }))
 }
 
 #[cfg(not(feature = "sqlite"))]
-fn in_sqlite<'a>() -> Option<Contender<'a>> {
+fn in_sqlite<'a>(_: Play) -> Option<Contender<'a>> {
     None
 }

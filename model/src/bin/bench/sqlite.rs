@@ -127,24 +127,43 @@ impl Sheet {
 
     /// A transaction that writes all four.
     pub fn write(&mut self, client: i64, values: [i64; 4]) {
-        self.writes += 1;
         self.begin.run(|_| ());
-        for (item, value) in (0..).zip(values) {
-            self.update.bind(&[self.writes, client, value, item]);
-            self.update.run(|_| ());
-        }
+        self.update_all(client, values);
         self.commit.run(|_| ());
     }
 
     /// A transaction that reads all four, each with its number and client.
     pub fn read(&self) -> [i64; 4] {
-        let mut values = [0; 4];
         self.begin.run(|_| ());
+        let values = self.select_all();
+        self.commit.run(|_| ());
+        values
+    }
+
+    /// A transaction that reads all four and then writes them.
+    pub fn correct(&mut self, client: i64, values: [i64; 4]) -> [i64; 4] {
+        self.begin.run(|_| ());
+        let before = self.select_all();
+        self.update_all(client, values);
+        self.commit.run(|_| ());
+        before
+    }
+
+    fn update_all(&mut self, client: i64, values: [i64; 4]) {
+        self.writes += 1;
+        for (item, value) in (0..).zip(values) {
+            self.update.bind(&[self.writes, client, value, item]);
+            self.update.run(|_| ());
+        }
+    }
+
+    fn select_all(&self) -> [i64; 4] {
+        let mut values = [0; 4];
+        let client = self.writes.min(1);
         self.select.run(|row| {
-            assert_eq!((row.column(1), row.column(2)), (self.writes, 1));
+            assert_eq!((row.column(1), row.column(2)), (self.writes, client));
             values[row.column(0) as usize] = row.column(3);
         });
-        self.commit.run(|_| ());
         values
     }
 }

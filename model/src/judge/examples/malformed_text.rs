@@ -48,7 +48,7 @@ fn characters() -> Vec<Example> {
 fn kinds_and_lengths() -> Vec<Example> {
     let one = |name, line: &str| example(name, FIRST_LINE, &[line, "\n"]);
     vec![
-        one("kind 24", "2401000000000000000100000001000000a9"),
+        one("mixed transaction of a write's length", "2401000000000000000100000001000000a9"),
         one("kind 25", "25010000000000000001000000000000000000"),
         one("fast read of a write's length", "2301000000000000000100000001000000a9"),
         one("fast read without entries", "23020000000000000001"),

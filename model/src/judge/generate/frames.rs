@@ -34,7 +34,7 @@ pub(super) fn frames_of(lines: u64, doubtful: u64, random: &mut Random) -> Vec<L
 }
 
 /// Writes with numbers that rise for each client, hand-overs, and reads that don't show anything
-/// yet. Whoever took over last goes on more often than others.
+/// yet, alone or beside a write. Whoever took over last goes on more often than others.
 fn writes_and_empty_reads(lines: u64, random: &mut Random) -> Vec<LogFrame> {
     let clients = random.pick(&[2, 2, 3, 8]);
     let items = match random.below(50) {
@@ -44,6 +44,7 @@ fn writes_and_empty_reads(lines: u64, random: &mut Random) -> Vec<LogFrame> {
     let first_number = random.pick(&[1, 1, 1, 1_000, u32::MAX - 3 * lines as u32]);
     let mut next_number = [first_number; 9];
     let hand_overs = random.pick(&[0, 15, 40]);
+    let mixed = random.pick(&[0, 20, 60]);
     let mut took_over = None;
     (0..lines)
         .map(|_| {
@@ -55,7 +56,8 @@ fn writes_and_empty_reads(lines: u64, random: &mut Random) -> Vec<LogFrame> {
                 return LogFrame::of_hand_over(client as u8, receiver as u8);
             }
             let set = subset(items, random);
-            if random.once_in(2) {
+            let is_mixed = random.percent(mixed);
+            if !is_mixed && random.once_in(2) {
                 let of = match random.once_in(4) {
                     true => LogFrame::of_fast_read,
                     false => LogFrame::of_read,
@@ -65,7 +67,14 @@ fn writes_and_empty_reads(lines: u64, random: &mut Random) -> Vec<LogFrame> {
             let number = next_number[client] + random.pick(&[0, 0, 0, 1, 2]);
             next_number[client] = number + 1;
             let values = (0..set.count_ones()).map(|_| value(random)).collect();
-            LogFrame::of_write(client as u8, set, number, values)
+            let client = client as u8;
+            match is_mixed {
+                true => {
+                    let read = (subset(items, random), Vec::new());
+                    LogFrame::of_mixed(client, read, (set, number, values))
+                }
+                false => LogFrame::of_write(client, set, number, values),
+            }
         })
         .collect()
 }

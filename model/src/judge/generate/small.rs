@@ -2,6 +2,7 @@
 //! a write, two hand-overs and a read.
 
 use crate::frames::log::{LogFrame, Shown};
+use std::str::from_utf8;
 
 /// The read stands above, between or below the writes, by a writing client or a third one, and
 /// shows each item as initial or under any of the four stamps. A value is fixed by its stamp
@@ -66,6 +67,21 @@ fn every_entry(item: u32) -> Vec<Shown> {
 
 fn value(number: u32, client: u8, item: u32) -> u32 {
     100 * number + 10 * u32::from(client) + item
+}
+
+/// The log with a mixed transaction for each read, which also writes item 0 with the next number.
+pub fn read_and_write(log: &[u8]) -> Vec<u8> {
+    let lines = log.split_inclusive(|byte| *byte == b'\n');
+    let mixed = lines.map(|line| match line.strip_prefix(b"21") {
+        Some(rest) => {
+            let client = from_utf8(&rest[..2]).expect("digits");
+            let write = LogFrame::of_write(0, 1, 3, vec![7]).line();
+            let read = from_utf8(&rest[2..rest.len() - 1]).expect("digits");
+            format!("24{client}{read}{}", &write[4..]).into_bytes()
+        }
+        None => line.to_vec(),
+    });
+    mixed.collect::<Vec<_>>().concat()
 }
 
 /// Every log of a write, two hand-overs and a read of one item, over three clients, in every order.

@@ -1,10 +1,11 @@
 //! Calls on a damaged block, mostly ones that meet the damage.
 
 use crate::call::Call;
+use crate::frames::log::MOST_BYTES;
 use crate::layout::places;
 use crate::random::Random;
 use crate::set::size;
-use crate::store::tables::{Tables, IDLE, WRITE};
+use crate::store::tables::{Tables, IDLE, MIXED, WRITE};
 
 pub(super) struct Chooser<'a> {
     pub(super) random: &'a mut Random,
@@ -45,6 +46,16 @@ impl Chooser<'_> {
         Call::Write { client, set, values: self.random.bytes(length as usize) }
     }
 
+    pub(super) fn mixed(&mut self) -> Call {
+        let client = self.client();
+        let (read, write) = (self.set(), self.set());
+        let length = match self.random.below(10) {
+            0 => self.random.below(260),
+            _ => 4 * size(write),
+        };
+        Call::Mixed { client, read, write, values: self.random.bytes(length as usize) }
+    }
+
     /// The damaged message, or one of the damaged client's, or any.
     pub(super) fn deliver(&mut self) -> Call {
         let messages = &self.tables.messages;
@@ -69,12 +80,14 @@ impl Chooser<'_> {
                 let last = &self.tables.client(client).last;
                 match last.kind {
                     WRITE => 14 + 4 * size(last.set),
+                    MIXED => 22 + 9 * size(last.set) + 4 * size(last.write_set),
                     _ => 10 + 9 * size(last.set),
                 }
             }
             false => 14,
         };
-        let room = self.random.pick(&[0, frame - 1, frame, frame, frame + 3, 600]);
+        let most = MOST_BYTES as u64;
+        let room = self.random.pick(&[0, frame - 1, frame, frame, frame + 3, most]);
         Call::Show { client, output: self.random.bytes(room as usize) }
     }
 

@@ -73,9 +73,10 @@ fn a_write_no_later_than_its_client_s_last_one_is_found() {
     }
 }
 
-/// Client 1 is shown a write of client 2 before its end, and by the steps has learnt of none.
+/// Client 1 is shown a write of client 2 before its end, and by the steps has learnt of none: its
+/// own next write would be no later.
 #[test]
-fn a_write_after_a_read_of_what_was_not_learnt_is_found_at_its_start() {
+fn a_read_of_what_was_not_learnt_is_found_before_the_next_write() {
     let calls = [
         fresh(2, 1, 2),
         write(2, &[(0, 5)]),
@@ -88,7 +89,7 @@ fn a_write_after_a_read_of_what_was_not_learnt_is_found_at_its_start() {
     ];
     assert!(check(&made(&calls)).is_ok());
     let found = check(&made_wrong(Fault::NewestVersion, &calls));
-    let (event, clause) = (7, Clause::OlderThanShown);
+    let (event, clause) = (6, Clause::NotChosen { item: 0 });
     assert_eq!(found, Err(Violation { event, clause }));
 }
 

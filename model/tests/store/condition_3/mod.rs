@@ -3,6 +3,7 @@
 
 mod answers;
 mod bounds;
+mod chosen;
 mod clearings;
 mod corrections;
 mod falls;
@@ -10,6 +11,7 @@ mod fast_reads;
 mod freshest;
 mod hand_overs;
 mod last_replies;
+mod mixed;
 mod showings;
 mod unshown;
 

@@ -2,7 +2,7 @@
 
 use super::{breaks, event, SHOW_READ, SHOW_WRITE};
 use crate::support::{deliver, fresh, make_all, read, show, write};
-use koolvent_model::promise::{check, Clause, Summary, Violation};
+use koolvent_model::promise::{check, Clause};
 use koolvent_model::store::Store;
 
 /// Places of bytes in the frame of the read.
@@ -95,8 +95,8 @@ fn an_own_write_missed_is_found() {
 }
 
 /// Client 1 writes 7 and 8 to items 0 and 1; client 2's read of item 0 is answered when this many
-/// prepares are delivered, and then shows an entry of that write.
-fn entry_shown_after(prepares: usize) -> Result<Summary, Violation> {
+/// prepares are delivered, and then shows an entry of that write, of which it hasn't learnt.
+fn broken_by_an_entry_shown_after(prepares: usize) -> Clause {
     let mut calls = vec![fresh(2, 2, 2), write(1, &[(0, 7), (1, 8)])];
     calls.extend(vec![deliver(0); prepares]);
     calls.extend([read(2, &[0]), deliver(2)]);
@@ -106,14 +106,14 @@ fn entry_shown_after(prepares: usize) -> Result<Summary, Violation> {
     let mut events = make_all(&mut Store::new(), &calls);
     let shown = events.last_mut().unwrap();
     shown.output[10..19].copy_from_slice(&[0, 0, 0, 1, 1, 0, 0, 0, 7]);
-    check(&events)
+    check(&events).unwrap_err().clause
 }
 
 #[test]
 fn an_entry_answered_before_its_write_was_stored_everywhere_is_found() {
     for prepares in [0, 1] {
-        let clause = entry_shown_after(prepares).unwrap_err().clause;
+        let clause = broken_by_an_entry_shown_after(prepares);
         assert_eq!(clause, Clause::AnsweredBeforeStored { item: 0 });
     }
-    assert_eq!(entry_shown_after(2).unwrap().written_entries_shown, 1);
+    assert_eq!(broken_by_an_entry_shown_after(2), Clause::NotChosen { item: 0 });
 }

@@ -6,6 +6,7 @@ mod clearings;
 mod deliveries;
 mod fast_reads;
 mod hand_overs;
+mod mixed;
 mod order;
 mod starts;
 mod width;

@@ -3,6 +3,7 @@
 mod clearings;
 mod fast_reads;
 mod hand_overs;
+mod mixed;
 mod offers;
 mod reads;
 mod showings;
@@ -21,6 +22,18 @@ fn get(client: u64, item: u64, stamp: Stamp) -> Message {
 
 fn got(client: u64, version: Version, latest: Entry) -> Message {
     Message::Got { client, version, latest }
+}
+
+fn prepare(version: Version) -> Message {
+    Message::Prepare(version)
+}
+
+fn prepared(item: u64, stamp: Stamp) -> Message {
+    Message::Prepared { item, stamp }
+}
+
+fn commit(partition: u64, stamp: Stamp) -> Message {
+    Message::Commit { partition, stamp }
 }
 
 /// Delivers the only message of the tables and gives the tables after it.

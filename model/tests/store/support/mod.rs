@@ -2,6 +2,7 @@
 
 use koolvent_model::answer::Answer;
 use koolvent_model::call::{Call, Event};
+use koolvent_model::frames::log::MOST_BYTES;
 use koolvent_model::stamp::{Entry, Stamp};
 use koolvent_model::store::tables::{Sizes, Tables, Version};
 use koolvent_model::store::Store;
@@ -73,13 +74,20 @@ pub fn write(client: u64, items: &[(u64, u32)]) -> Call {
     Call::Write { client, set: set_of(&items), values: value_bytes(&values) }
 }
 
+/// A mixed transaction that reads these items and writes those, each with its value, both
+/// ascending.
+pub fn mixed(client: u64, read: &[u64], written: &[(u64, u32)]) -> Call {
+    let (items, values): (Vec<u64>, Vec<u32>) = written.iter().copied().unzip();
+    start_mixed(client, set_of(read), set_of(&items), &value_bytes(&values))
+}
+
 pub fn deliver(place: u64) -> Call {
     Call::Deliver { place }
 }
 
 /// A showing with room enough for any frame.
 pub fn show(client: u64) -> Call {
-    show_in(client, &[0xee; 600])
+    show_in(client, &[0xee; MOST_BYTES])
 }
 
 pub fn show_in(client: u64, output: &[u8]) -> Call {
@@ -106,6 +114,11 @@ pub fn start_fast_read(client: u64, set: u64) -> Call {
 pub fn start_write(client: u64, set: u64, values: &[u8]) -> Call {
     let values = values.to_vec();
     Call::Write { client, set, values }
+}
+
+pub fn start_mixed(client: u64, read: u64, write: u64, values: &[u8]) -> Call {
+    let values = values.to_vec();
+    Call::Mixed { client, read, write, values }
 }
 
 pub fn set_of(items: &[u64]) -> u64 {

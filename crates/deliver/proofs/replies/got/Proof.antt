@@ -1,56 +1,29 @@
--- `deliver::replies::got` meets its contract: by the test.
+-- `deliver::replies::got` meets its contract: by the mode.
 use borrow.Author.Needs.{needs}
-use Rattle.deliver.proofs.Rows.{got-last, got-more}
+use Rattle.deliver.proofs.Rows.{got-mixed, got-other}
 use Rattle.deliver.proofs.replies.got.Statement.{statement}
 use Rattle.deliver.proofs.replies.got.Tie as tie
 
-awaited-requires : tie.Need-awaited-requires
-awaited-requires c κs = search needs
-
-remove-requires : tie.Need-remove-requires
-remove-requires c κs = search needs
-
-answer-requires : tie.Need-answer-requires
-answer-requires c κs = search needs
-
-read-end-requires : tie.Need-read-end-requires
-read-end-requires c κs = search needs
-
-put-awaited-requires : tie.Need-put-awaited-requires
-put-awaited-requires c κs = search needs
-
-same-length : tie.Need-same-length
-same-length c = search needs
-
 returns : tie.Need-returns
 returns c =
-    got-last _ _ _ _ _ _ _ _ _
-    (c .before .before .before .before .before .before .before .before .before .before .awaited .ensures)
-    (c .before .before .before .before .before .before .before .before .before .remove .ensures)
-    (c .before .before .before .before .before .before .before .answer .ensures)
-    (c .before .before .before .before .if1 .taken) (c .before .before .read-end .ensures)
-
-same-length-2 : tie.Need-same-length-2
-same-length-2 c = search needs
+    let taken = c .before .before .before .before in
+    got-mixed _ _ _ _ _ _ _ _ (taken .before .mode .ensures) (taken .if1 .taken)
+    (c .before .before .mixed-got .ensures)
 
 returns-2 : tie.Need-returns-2
 returns-2 c =
-    got-more _ _ _ _ _ _ _ _ _
-    (c .before .before .before .before .before .before .before .before .before .before .awaited .ensures)
-    (c .before .before .before .before .before .before .before .before .before .remove .ensures)
-    (c .before .before .before .before .before .before .before .answer .ensures)
-    (c .before .before .before .before .if1 .left) (c .before .before .put-awaited .ensures)
+    let left = c .before .before .before .before in
+    got-other _ _ _ _ _ _ _ _ (left .before .mode .ensures) (left .if1 .left)
+    (c .before .before .read-got .ensures)
 
 pub got-spec : {M : Type 1} → statement M
 got-spec =
     tie.close
     (tie.spec
-    awaited-requires
-    remove-requires
-    answer-requires
-    read-end-requires
-    put-awaited-requires
-    same-length
+    (λ c κs. search needs)
+    (λ c κs. search needs)
+    (λ c κs. search needs)
+    (λ c. search needs)
     returns
-    same-length-2
+    (λ c. search needs)
     returns-2)

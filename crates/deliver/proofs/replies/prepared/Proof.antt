@@ -1,50 +1,29 @@
--- `deliver::replies::prepared` meets its contract: by the test.
+-- `deliver::replies::prepared` meets its contract: by the mode.
 use borrow.Author.Needs.{needs}
-use Rattle.deliver.proofs.Rows.{prepared-last, prepared-more}
+use Rattle.deliver.proofs.Rows.{prepared-mixed, prepared-other}
 use Rattle.deliver.proofs.replies.prepared.Statement.{statement}
 use Rattle.deliver.proofs.replies.prepared.Tie as tie
 
-awaited-requires : tie.Need-awaited-requires
-awaited-requires c κs = search needs
-
-remove-requires : tie.Need-remove-requires
-remove-requires c κs = search needs
-
-write-end-requires : tie.Need-write-end-requires
-write-end-requires c κs = search needs
-
-put-awaited-requires : tie.Need-put-awaited-requires
-put-awaited-requires c κs = search needs
-
-same-length : tie.Need-same-length
-same-length c = search needs
-
 returns : tie.Need-returns
 returns c =
-    prepared-last _ _ _ _ _ _ _ _
-    (c .before .before .before .before .before .before .awaited .ensures)
-    (c .before .before .before .before .before .remove .ensures)
-    (c .before .before .before .before .if1 .taken) (c .before .before .write-end .ensures)
-
-same-length-2 : tie.Need-same-length-2
-same-length-2 c = search needs
+    let taken = c .before .before .before .before in
+    prepared-mixed _ _ _ _ _ _ _ (taken .before .mode .ensures) (taken .if1 .taken)
+    (c .before .before .mixed-prepared .ensures)
 
 returns-2 : tie.Need-returns-2
 returns-2 c =
-    prepared-more _ _ _ _ _ _ _ _
-    (c .before .before .before .before .before .before .awaited .ensures)
-    (c .before .before .before .before .before .remove .ensures)
-    (c .before .before .before .before .if1 .left) (c .before .before .put-awaited .ensures)
+    let left = c .before .before .before .before in
+    prepared-other _ _ _ _ _ _ _ (left .before .mode .ensures) (left .if1 .left)
+    (c .before .before .written .ensures)
 
 pub prepared-spec : {M : Type 1} → statement M
 prepared-spec =
     tie.close
     (tie.spec
-    awaited-requires
-    remove-requires
-    write-end-requires
-    put-awaited-requires
-    same-length
+    (λ c κs. search needs)
+    (λ c κs. search needs)
+    (λ c κs. search needs)
+    (λ c. search needs)
     returns
-    same-length-2
+    (λ c. search needs)
     returns-2)

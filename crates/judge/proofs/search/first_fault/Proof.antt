@@ -2,7 +2,7 @@
 -- the whole does, and nothing is found yet; the owners are those at the line. The measures are what
 -- is left of the lines, the items and the writes.
 use borrow.Author.Needs.{needs}
-use mathlib.Core.Bool.{true, false}
+use mathlib.Core.Bool.{Bool, true, false}
 use mathlib.Core.List.{List}
 use mathlib.Core.Path.{_≡_, refl, sym, _∙_, subst}
 use Prim.Native.Nat.{ℕ, _-_, _≤_, _+_, _<_}
@@ -11,8 +11,8 @@ use native.Mathlib.Omega.{arith}
 use lib.ListN.{length}
 use Rattle.judge_frames.specs.Cut.{framesIn}
 use Rattle.findings.specs.Findings.{faultAt}
-use Rattle.judge_findings.specs.Marks.{SmallClients}
-use Rattle.judge_findings.specs.Owned.{Owned}
+use Rattle.judge_findings.specs.Owned.{Owned, SmallClients}
+use Rattle.judge_findings.specs.Writes.{lineOf, Gathered}
 use Rattle.judge_findings.proofs.Owning.{owned-next}
 use Rattle.judge.proofs.Searching.{itemFault, writeFault}
 use Rattle.judge.proofs.Searching.{fault-search, item-not, item-unwritten, item-writes}
@@ -24,29 +24,30 @@ use Rattle.judge.proofs.search.first_fault.Statement.{statement}
 use Rattle.judge.proofs.search.first_fault.Tie as tie
 
 abbrev Inv-writes : tie.InvT-writes
-Inv-writes bytes starts marks owners n found₀ i line r items of k item stamp value j₀ found j =
-    (someFrom (n - j) j (writeFault bytes starts n line item) ≡ someFrom n 0
-    (writeFault bytes starts n line item)) × (found ≡ n)
+Inv-writes bytes starts writes m owners n found₀ i line r items of k item stamp value j₀ found j =
+    (someFrom (m - j) j (λ w. writeFault bytes starts n line item (lineOf writes w))
+    ≡ someFrom m 0 (λ w. writeFault bytes starts n line item (lineOf writes w))) × (found ≡ n)
 
 abbrev μ-writes : tie.MeasureT-writes
-μ-writes bytes starts marks owners n found₀ i line r items of k item stamp value j₀ found j = n - j
+μ-writes bytes starts writes m owners n found₀ i line r items of k item stamp value j₀ found j =
+    m - j
 
 abbrev Inv-shown : tie.InvT-shown
-Inv-shown bytes starts marks owners n found₀ i line r items of k₀ found k =
+Inv-shown bytes starts writes m owners n found₀ i line r items of k₀ found k =
     (someFrom (64 - k) k (itemFault bytes starts n line) ≡ someFrom 64 0
     (itemFault bytes starts n line)) × (found ≡ n)
 
 abbrev μ-shown : tie.MeasureT-shown
-μ-shown bytes starts marks owners n found₀ i line r items of k₀ found k = 64 - k
+μ-shown bytes starts writes m owners n found₀ i line r items of k₀ found k = 64 - k
 
 abbrev Inv-lines : tie.InvT-lines
-Inv-lines bytes starts marks owners₀ n found₀ i₀ owners found i =
+Inv-lines bytes starts writes m owners₀ n found₀ i₀ owners found i =
     (firstFrom (n - i) i (faultAt (framesIn bytes starts n)) ≡ firstFrom n 0
     (faultAt (framesIn bytes starts n))) × (found ≡ n) × (i ≤ n)
     × Owned bytes starts n i owners × (length owners ≡ length owners₀)
 
 abbrev μ-lines : tie.MeasureT-lines
-μ-lines bytes starts marks owners₀ n found₀ i₀ owners found i = n - i
+μ-lines bytes starts writes m owners₀ n found₀ i₀ owners found i = n - i
 
 abbrev At : (tie.InvT-writes → tie.MeasureT-writes → tie.InvT-shown → tie.MeasureT-shown
     → tie.InvT-lines → tie.MeasureT-lines → Type 0) → Type 0
@@ -66,6 +67,15 @@ module _ (c : At tie.After-client) where
 
   abbrev n : ℕ
   n = start .args .n
+
+  abbrev table : List ℕ
+  table = start .args .writes .now
+
+  abbrev m : ℕ
+  m = start .args .m
+
+  gathered : Gathered bytes starts n table m
+  gathered = start .pre .0 .gathered
 
   abbrev line : ℕ
   line = c .before .before .before .before .lines .i
@@ -125,7 +135,7 @@ not-shown : (c : At tie.Else1) → itemFault (bytes (of-line (c .before .before)
     (line (of-line (c .before .before))) (item (c .before .before)) ≡ false
 not-shown c =
     let l = of-line (c .before .before) in
-    item-not (bytes l) (starts l) (n l) (line l) (item (c .before .before)) _
+    item-not (bytes l) (starts l) (n l) _ _ (gathered l) (line l) (item (c .before .before)) _
     (l .before .before .frame .ensures) _ (l .before .shown2 .ensures)
     _ (c .before .has .ensures) (c .if1 .left)
 
@@ -137,7 +147,7 @@ unwritten : (c : At tie.Then2) → itemFault
     (item (c .before .before .before .before .before .before)) ≡ true
 unwritten c =
     let l = of-line (c .before .before .before .before .before .before) in
-    item-unwritten (bytes l) (starts l) (n l) (line l)
+    item-unwritten (bytes l) (starts l) (n l) _ _ (gathered l) (line l)
     (item (c .before .before .before .before .before .before)) _
     (l .before .before .frame .ensures) _ _ _ (l .before .shown2 .ensures)
     _ (c .before .before .before .before .before .has .ensures)
@@ -153,12 +163,12 @@ module _ (c : At tie.Else2) where
 
   -- what is left are the writes
   writes : itemFault (bytes (of-line of-item)) (starts (of-line of-item)) (n (of-line of-item))
-      (line (of-line of-item)) (item of-item) ≡ someFrom (n (of-line of-item)) 0
-      (writeFault (bytes (of-line of-item)) (starts (of-line of-item)) (n (of-line of-item))
-      (line (of-line of-item)) (item of-item))
+      (line (of-line of-item)) (item of-item) ≡ someFrom (m (of-line of-item)) 0
+      (λ w. writeFault (bytes (of-line of-item)) (starts (of-line of-item)) (n (of-line of-item))
+      (line (of-line of-item)) (item of-item) (lineOf (table (of-line of-item)) w))
   writes =
       let l = of-line of-item in
-      item-writes (bytes l) (starts l) (n l) (line l) (item of-item) _
+      item-writes (bytes l) (starts l) (n l) _ _ (gathered l) (line l) (item of-item) _
       (l .before .before .frame .ensures) _ _ _ (l .before .shown2 .ensures)
       _ (c .before .before .before .before .before .has .ensures)
       (c .before .before .before .before .if1 .taken)
@@ -183,26 +193,25 @@ module _ (c : At tie.After-faults-at) where
   abbrev write : ℕ
   write = c .before .before .before .writes .j
 
-  inside : write < n of-read
+  inside : write < m of-read
   inside = c .before .before .writes-test .taken
 
   -- the test of one write
-  tested : writeFault (bytes of-read) (starts of-read) (n of-read) (line of-read)
-      (item (of-item of-write)) write ≡ c .faults-at .result
+  abbrev fault : ℕ → Bool
+  fault w = writeFault (bytes of-read) (starts of-read) (n of-read) (line of-read)
+      (item (of-item of-write)) (lineOf (table of-read) w)
+
+  tested : fault write ≡ c .faults-at .result
   tested =
-      write-fault (bytes of-read) (starts of-read) (n of-read) (line of-read)
-      (item (of-item of-write)) _ (of-read .before .before .frame .ensures) _ _ _ write _
-      (owned of-read .held write inside)
-      (of-read .client .ensures .0) (of-write .before .before .before .shown-stamp .ensures) refl
+      let e = gathered of-read .entries .entry write inside in
+      write-fault (bytes of-read) (starts of-read) (n of-read) _ _ (gathered of-read) (line of-read)
+      (item (of-item of-write)) _ (of-read .before .before .frame .ensures) _ _ _ _ _ _
+      (owned of-read .held _ (gathered of-read .within write inside)) (e .items) (e .stamp)
+      (of-read .client .ensures .0) (of-write .before .before .before .shown-stamp .ensures)
       ∙ sym (c .faults-at .ensures)
 
   next-write : c .faults-at .result ≡ false
-      → someFrom (n of-read - (write + 1)) (write + 1)
-      (writeFault (bytes of-read) (starts of-read) (n of-read) (line of-read)
-      (item (of-item of-write)))
-      ≡ someFrom (n of-read) 0
-      (writeFault (bytes of-read) (starts of-read) (n of-read) (line of-read)
-      (item (of-item of-write)))
+      → someFrom (m of-read - (write + 1)) (write + 1) fault ≡ someFrom (m of-read) 0 fault
   next-write e = sym (someFrom-next _ write _ inside (tested ∙ e))
       ∙ c .before .before .before .writes .inv .0
 
@@ -269,10 +278,12 @@ faults-at-requires c κs =
     let l = of-line (of-item (c .before .before .before)) in
     let t = start l .pre .0 in
     let inside = c .before .writes-test .taken in (
-      omega (arith, t .few, inside),
-      omega (arith, t .long, inside),
-      omega (arith, owned l .long, inside),
-      t .marked (c .before .before .writes .j) inside,
+      omega (arith, t .gathered .entries .long, inside),
+      omega (
+        arith,
+        t .gathered .within (c .before .before .writes .j) inside,
+        owned l .long,
+      ),
     )
 
 writes-less : At tie.Need-writes-less

@@ -15,12 +15,12 @@ use Rattle.judge.proofs.search.holds_at.Statement.{statement}
 use Rattle.judge.proofs.search.holds_at.Tie as tie
 
 abbrev Inv-loop : tie.InvT-loop
-Inv-loop finding bytes starts marks owners n line items k₀ k =
+Inv-loop finding bytes starts writes m owners n line items k₀ k =
     someFrom (64 - k) k (λ j. has items j && findingOf finding (framesIn bytes starts n) line j)
     ≡ someFrom 64 0 (λ j. has items j && findingOf finding (framesIn bytes starts n) line j)
 
 abbrev μ-loop : tie.MeasureT-loop
-μ-loop finding bytes starts marks owners n line items k₀ k = 64 - k
+μ-loop finding bytes starts writes m owners n line items k₀ k = 64 - k
 
 frame-requires : tie.Need-frame-requires Inv-loop μ-loop
 frame-requires c κs = search needs

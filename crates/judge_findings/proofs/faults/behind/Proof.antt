@@ -1,11 +1,8 @@
 -- `judge_findings::faults::behind` meets its contract. The invariant: what is left from item k on
 -- decides as the whole does. The measure is what is left.
-use mathlib.Core.Path.{_≡_, refl, sym, _∙_}
-use Prim.Native.Nat.{_-_}
-use Rattle.findings.specs.Findings.{behind}
+use mathlib.Core.Path.{_≡_, refl, sym, ap, _∙_}
+use Prim.Native.Nat.{ℕ, _-_}
 use Rattle.judge_findings.specs.Tests.{behindAt}
-use Rattle.judge_findings.proofs.Tests.{behind-search}
-use Rattle.log.specs.Log.{shown, written}
 use Rattle.log.specs.Some.{someFrom}
 use Rattle.log.proofs.Some.{someFrom-here, someFrom-next, someFrom-end}
 use borrow.Author.Needs.{needs}
@@ -13,21 +10,15 @@ use Rattle.judge_findings.proofs.faults.behind.Statement.{statement}
 use Rattle.judge_findings.proofs.faults.behind.Tie as tie
 
 abbrev Inv-loop : tie.InvT-loop
-Inv-loop r w items wrote stamp k₀ k =
-    someFrom (64 - k) k (behindAt r items wrote stamp) ≡ someFrom 64 0
-    (behindAt r items wrote stamp)
+Inv-loop r written stamp items k₀ k =
+    someFrom (64 - k) k (behindAt r items written stamp) ≡ someFrom 64 0
+    (behindAt r items written stamp)
 
 abbrev μ-loop : tie.MeasureT-loop
-μ-loop r w items wrote stamp k₀ k = 64 - k
+μ-loop r written stamp items k₀ k = 64 - k
 
 shown-requires : tie.Need-shown-requires Inv-loop μ-loop
 shown-requires c κs = search needs
-
-written-requires : tie.Need-written-requires Inv-loop μ-loop
-written-requires c κs = search needs
-
-written-stamp-requires : tie.Need-written-stamp-requires Inv-loop μ-loop
-written-stamp-requires c κs = search needs
 
 loop-holds : tie.Need-loop-holds Inv-loop μ-loop
 loop-holds c = refl
@@ -37,12 +28,12 @@ behind-at-requires c κs = search needs
 
 returns : tie.Need-returns Inv-loop μ-loop
 returns c =
+    let a = c .before .before .before .before .before .before .args in
     sym (someFrom-here 64 _ _ (c .before .before .loop-test .taken)
     (sym (c .before .behind-at .ensures) ∙ c .if1 .taken))
     ∙ c .before .before .before .loop .inv
-    ∙ behind-search _ _ _ _ _ (c .before .before .before .before .before .before .shown .ensures)
-    (c .before .before .before .before .before .written .ensures)
-    (c .before .before .before .before .written-stamp .ensures)
+    ∙ ap (λ (s : ℕ). someFrom 64 0 (behindAt (a .r .now) s (a .written) (a .stamp)))
+    (c .before .before .before .before .shown .ensures)
 
 add-k : tie.Need-add-k Inv-loop μ-loop
 add-k c = search needs
@@ -57,9 +48,11 @@ loop-again c =
     ∙ c .before .before .before .loop .inv
 
 returns-2 : tie.Need-returns-2 Inv-loop μ-loop
-returns-2 c = sym (someFrom-end 64 _ _ (c .loop-test .left)) ∙ c .before .loop .inv
-    ∙ behind-search _ _ _ _ _ (c .before .before .before .before .shown .ensures)
-    (c .before .before .before .written .ensures) (c .before .before .written-stamp .ensures)
+returns-2 c =
+    let a = c .before .before .before .before .args in
+    sym (someFrom-end 64 _ _ (c .loop-test .left)) ∙ c .before .loop .inv
+    ∙ ap (λ (s : ℕ). someFrom 64 0 (behindAt (a .r .now) s (a .written) (a .stamp)))
+    (c .before .before .shown .ensures)
 
 pub behind-spec : {M : Type 1} → statement M
 behind-spec =
@@ -68,8 +61,6 @@ behind-spec =
     Inv-loop
     μ-loop
     shown-requires
-    written-requires
-    written-stamp-requires
     loop-holds
     behind-at-requires
     returns

@@ -1,66 +1,49 @@
--- `judge_findings::faults::faults_at` meets its contract: the mark tells which of the two tests is
--- left.
-use mathlib.Core.Path.{sym, ap, _∙_}
-use lib.ListN.{getD}
-use Rattle.judge_frames.specs.Cut.{frameIn}
-use Rattle.findings.specs.Findings.{fractures}
-use Rattle.judge_findings.proofs.Marking.{faults-equal, faults-later, faults-none}
+-- `judge_findings::faults::faults_at` meets its contract: a write of other items rules itself out.
+use mathlib.Core.Bool.{_&&_, _||_}
+use mathlib.Core.Path.{sym, ap, ap₂, _∙_}
+use Prim.Native.Nat.{ℕ}
+use Rattle.itemset.specs.Set.{has}
+use Rattle.judge_findings.specs.Tests.{faultsBy}
+use Rattle.judge_findings.proofs.Tests.{faults-not}
 use borrow.Author.Needs.{needs}
 use Rattle.judge_findings.proofs.faults.faults_at.Statement.{statement}
 use Rattle.judge_findings.proofs.faults.faults_at.Tie as tie
 
-mul-mark : tie.Need-mul-mark
-mul-mark c = search needs
+items-of-requires : tie.Need-items-of-requires
+items-of-requires c κs = search needs
 
-shared-slice-read-mark : tie.Need-shared-slice-read-mark
-shared-slice-read-mark c = search needs
+has-requires : tie.Need-has-requires
+has-requires c κs = search needs
 
-frame-requires : tie.Need-frame-requires
-frame-requires c κs = search needs
-
-fractures-requires : tie.Need-fractures-requires
-fractures-requires c κs = search needs
-
-returns : tie.Need-returns
-returns c =
-    let s = c .before .before .before .before .before .before .before .before .before in
-    let a = s .args in
-    c .fractures .ensures
-    ∙ ap (fractures (a .r .now) (a .item) (a .stamp)) (c .before .frame .ensures)
-    ∙ faults-equal _ (a .item) (a .stamp) (getD (a .owners .now) (a .write) 0) (a .of) (a .r .now)
-    (sym (s .pre .3) ∙ c .before .before .if1 .taken)
+fractures-at-requires : tie.Need-fractures-at-requires
+fractures-at-requires c κs = search needs
 
 reads-own-requires : tie.Need-reads-own-requires
 reads-own-requires c κs = search needs
 
-wrote-own-requires : tie.Need-wrote-own-requires
-wrote-own-requires c κs = search needs
+misses-at-requires : tie.Need-misses-at-requires
+misses-at-requires c κs = search needs
+
+returns : tie.Need-returns
+unfolding faultsBy
+returns c = ap₂ _||_ (c .before .before .fractures-at .ensures)
+    (ap₂ _&&_ (c .before .reads-own .ensures) (c .misses-at .ensures))
 
 returns-2 : tie.Need-returns-2
 returns-2 c =
-    let s = c .before .before .before .before .before .before .before .before .before .before in
-    let a = s .args in
-    faults-later (frameIn (a .bytes .now) (a .starts .now) (a .write)) (a .item) (a .stamp)
-    (getD (a .owners .now) (a .write) 0) (a .of) (a .r .now) _ _ (c .before .reads-own .ensures)
-    (c .wrote-own .ensures) (rw (← s .pre .3) (c .before .before .if2 .taken))
-
-returns-3 : tie.Need-returns-3
-returns-3 c =
-    let s = c .before .before .before .before .before .before .before .before in
-    let a = s .args in
-    faults-none _ (a .item) (a .stamp) (getD (a .owners .now) (a .write) 0) (a .of) (a .r .now) _
-    (s .pre .3) (c .before .if1 .left) (c .if2 .left)
+    let a = c .before .before .before .before .before .before .args in
+    faults-not (a .r .now) _ _ (a .item) (a .seen) _ (a .of)
+    (ap (λ (n : ℕ). has n (a .item)) (sym (c .before .before .items-of .ensures))
+    ∙ sym (c .before .has .ensures) ∙ c .if1 .left)
 
 pub faults-at-spec : {M : Type 1} → statement M
 faults-at-spec =
     tie.close
     (tie.spec
-    mul-mark
-    shared-slice-read-mark
-    frame-requires
-    fractures-requires
-    returns
+    items-of-requires
+    has-requires
+    fractures-at-requires
     reads-own-requires
-    wrote-own-requires
-    returns-2
-    returns-3)
+    misses-at-requires
+    returns
+    returns-2)

@@ -1,63 +1,50 @@
--- `judge_findings::faults::is_fractured` meets its contract. The invariant: what is left from frame
--- j on decides as the whole does. The measure is what is left.
-use mathlib.Core.Path.{_≡_, refl, sym, ap, _∙_}
+-- `judge_findings::faults::is_fractured` meets its contract. The invariant: what is left from write
+-- w on decides as the whole does. The measure is what is left.
+use mathlib.Core.Path.{_≡_, sym, _∙_}
 use Prim.Native.Nat.{_-_}
-use lib.ListN.{drop}
-use Rattle.judge_frames.specs.Cut.{frameIn, framesIn}
-use Rattle.judge_frames.proofs.Cuts.{cut-here, cut-next, cut-end}
-use Rattle.findings.specs.Findings.{fractures}
-use Rattle.log.specs.Some.{some}
+use native.Mathlib.Nat.{sub-zero}
+use Rattle.judge_findings.specs.Tests.{fracturesBy}
+use Rattle.judge_findings.specs.Writes.{stampOf, itemsOf}
+use Rattle.log.specs.Some.{someFrom}
+use Rattle.log.proofs.Some.{someFrom-here, someFrom-next, someFrom-end}
 use borrow.Author.Needs.{needs}
 use Rattle.judge_findings.proofs.faults.is_fractured.Statement.{statement}
 use Rattle.judge_findings.proofs.faults.is_fractured.Tie as tie
 
 abbrev Inv-loop : tie.InvT-loop
-Inv-loop bytes starts n r item stamp j₀ j =
-    some (fractures r item stamp) (drop j (framesIn bytes starts n)) ≡ some (fractures r item stamp)
-    (framesIn bytes starts n)
+Inv-loop writes m r item seen w₀ w =
+    someFrom (m - w) w (λ k. fracturesBy r (itemsOf writes k) (stampOf writes k) item seen)
+    ≡ someFrom m 0 (λ k. fracturesBy r (itemsOf writes k) (stampOf writes k) item seen)
 
 abbrev μ-loop : tie.MeasureT-loop
-μ-loop bytes starts n r item stamp j₀ j = n - j
-
-module _ (c : tie.After-fractures Inv-loop μ-loop) where
-  abbrev start : tie.Start Inv-loop μ-loop
-  start = c .before .before .before .before .before .before .before
-
-  test : fractures (start .args .r .now) (start .args .item) (start .args .stamp)
-      (frameIn (start .args .bytes .now) (start .args .starts .now)
-      (c .before .before .before .loop .j)) ≡ c .fractures .result
-  test = ap (fractures (start .args .r .now) (start .args .item) (start .args .stamp))
-      (sym (c .before .frame .ensures)) ∙ sym (c .fractures .ensures)
+μ-loop writes m r item seen w₀ w = m - w
 
 loop-holds : tie.Need-loop-holds Inv-loop μ-loop
-loop-holds c = refl
+loop-holds c = rw sub-zero
 
-frame-requires : tie.Need-frame-requires Inv-loop μ-loop
-frame-requires c κs = search needs
-
-fractures-requires : tie.Need-fractures-requires Inv-loop μ-loop
-fractures-requires c κs = search needs
+fractures-at-requires : tie.Need-fractures-at-requires Inv-loop μ-loop
+fractures-at-requires c κs = search needs
 
 returns : tie.Need-returns Inv-loop μ-loop
 returns c =
-    sym (cut-here _ _ _ _ _ (c .before .before .before .loop-test .taken)
-    (test (c .before) ∙ c .if1 .taken))
-    ∙ c .before .before .before .before .loop .inv
+    sym (someFrom-here _ _ _ (c .before .before .loop-test .taken)
+    (sym (c .before .fractures-at .ensures) ∙ c .if1 .taken))
+    ∙ c .before .before .before .loop .inv
 
-add-j : tie.Need-add-j Inv-loop μ-loop
-add-j c = search needs
+add-w : tie.Need-add-w Inv-loop μ-loop
+add-w c = search needs
 
 loop-less : tie.Need-loop-less Inv-loop μ-loop
 loop-less c = search needs
 
 loop-again : tie.Need-loop-again Inv-loop μ-loop
 loop-again c =
-    sym (cut-next _ _ _ _ _ (c .before .before .before .loop-test .taken)
-    (test (c .before) ∙ c .if1 .left))
-    ∙ c .before .before .before .before .loop .inv
+    sym (someFrom-next _ _ _ (c .before .before .loop-test .taken)
+    (sym (c .before .fractures-at .ensures) ∙ c .if1 .left))
+    ∙ c .before .before .before .loop .inv
 
 returns-2 : tie.Need-returns-2 Inv-loop μ-loop
-returns-2 c = sym (cut-end _ _ _ _ _ (c .loop-test .left)) ∙ c .before .loop .inv
+returns-2 c = sym (someFrom-end _ _ _ (c .loop-test .left)) ∙ c .before .loop .inv
 
 pub is-fractured-spec : {M : Type 1} → statement M
 is-fractured-spec =
@@ -66,10 +53,9 @@ is-fractured-spec =
     Inv-loop
     μ-loop
     loop-holds
-    frame-requires
-    fractures-requires
+    fractures-at-requires
     returns
-    add-j
+    add-w
     loop-less
     loop-again
     returns-2)

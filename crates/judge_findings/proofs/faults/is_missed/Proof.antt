@@ -1,30 +1,36 @@
--- `judge_findings::faults::is_missed` meets its contract. The invariant: what is left from line j
--- on decides as the whole does. The measure is what is left.
+-- `judge_findings::faults::is_missed` meets its contract. The invariant: what is left from write
+-- w on decides as the whole does. The measure is what is left.
 use mathlib.Core.Path.{_≡_, sym, _∙_}
 use Prim.Native.Nat.{_-_}
 use native.Mathlib.Nat.{sub-zero}
+use native.Mathlib.Omega.{arith}
 use lib.ListN.{getD}
-use Rattle.judge_frames.specs.Cut.{frameIn}
+use Rattle.judge_findings.specs.Tests.{missesBy}
+use Rattle.judge_findings.specs.Writes.{lineOf, stampOf, itemsOf}
 use Rattle.log.specs.Some.{someFrom}
 use Rattle.log.proofs.Some.{someFrom-here, someFrom-next, someFrom-end}
-use Rattle.findings.specs.Findings.{missesAt}
 use borrow.Author.Needs.{needs}
 use Rattle.judge_findings.proofs.faults.is_missed.Statement.{statement}
 use Rattle.judge_findings.proofs.faults.is_missed.Tie as tie
 
 abbrev Inv-loop : tie.InvT-loop
-Inv-loop bytes starts owners n of item stamp j₀ j =
-    someFrom (n - j) j (λ k. missesAt (getD owners k 0) of item stamp (frameIn bytes starts k))
-    ≡ someFrom n 0 (λ k. missesAt (getD owners k 0) of item stamp (frameIn bytes starts k))
+Inv-loop writes owners m of item seen w₀ w =
+    someFrom (m - w) w (λ k. missesBy (getD owners (lineOf writes k) 0) (itemsOf writes k)
+    (stampOf writes k) of item seen)
+    ≡ someFrom m 0 (λ k. missesBy (getD owners (lineOf writes k) 0) (itemsOf writes k)
+    (stampOf writes k) of item seen)
 
 abbrev μ-loop : tie.MeasureT-loop
-μ-loop bytes starts owners n of item stamp j₀ j = n - j
+μ-loop writes owners m of item seen w₀ w = m - w
 
 loop-holds : tie.Need-loop-holds Inv-loop μ-loop
 loop-holds c = rw sub-zero
 
 misses-at-requires : tie.Need-misses-at-requires Inv-loop μ-loop
-misses-at-requires c κs = search needs
+misses-at-requires c κs =
+    let p = c .before .before .before .before .pre in
+    let l = c .loop-test .taken in
+    (omega (arith, p .0, l), p .1 (c .before .loop .w) l)
 
 returns : tie.Need-returns Inv-loop μ-loop
 returns c =
@@ -32,8 +38,8 @@ returns c =
     (sym (c .before .misses-at .ensures) ∙ c .if1 .taken))
     ∙ c .before .before .before .loop .inv
 
-add-j : tie.Need-add-j Inv-loop μ-loop
-add-j c = search needs
+add-w : tie.Need-add-w Inv-loop μ-loop
+add-w c = search needs
 
 loop-less : tie.Need-loop-less Inv-loop μ-loop
 loop-less c = search needs
@@ -56,7 +62,7 @@ is-missed-spec =
     loop-holds
     misses-at-requires
     returns
-    add-j
+    add-w
     loop-less
     loop-again
     returns-2)

@@ -3,7 +3,6 @@
 
 use crate::block::Lent;
 use koolvent_model::block::Calls;
-use koolvent_model::frames::log::Manner;
 use koolvent_model::proved::store::Proved;
 use std::hint::black_box;
 
@@ -13,30 +12,81 @@ pub const CALLS: usize = 22;
 /// The refusal of a write that would be over 512 versions.
 const FULL: u64 = 9;
 
-/// Client 1 writes the four items, client 2 reads them in that manner, and both are shown. A write
-/// that the sheet has no room for is made after a clearing.
-pub fn write_and_read(served: &impl Calls, lent: &mut Lent, value: u32, manner: Manner) {
-    let block = black_box(&mut lent.block[..]);
-    let mut values = [0; 16];
-    for (item, bytes) in values.chunks_mut(4).enumerate() {
-        bytes.copy_from_slice(&(value + item as u32).to_be_bytes());
-    }
-    let mut started = served.start_write(block, 1, SHEET, &values);
-    if started == FULL {
-        accepted(served.clear(block));
-        started = served.start_write(block, 1, SHEET, &values);
-    }
-    deliver_all(served, block, accepted(started) >> 8);
-    let started = match manner {
-        Manner::Ordinary => served.start_read(block, 2, SHEET),
-        Manner::Fast => served.start_fast_read(block, 2, SHEET),
-    };
-    deliver_all(served, block, accepted(started) >> 8);
-    accepted(served.show(block, 1, &mut lent.output));
-    accepted(served.show(block, 2, &mut lent.output));
+/// What is played on a sheet: a write and a read of its four items.
+#[derive(Clone, Copy)]
+pub enum Play {
+    /// Client 1 writes, client 2 reads.
+    WriteAndRead,
+    WriteAndFastRead,
+    /// Client 1 reads and then writes, in two transactions or in one.
+    ReadThenWrite,
+    Mixed,
 }
 
-fn deliver_all(served: &impl Calls, block: &mut [u64], mut messages: u64) {
+impl Play {
+    /// So many calls it has.
+    pub fn calls(self) -> usize {
+        match self {
+            Play::Mixed => CALLS - 2,
+            _ => CALLS,
+        }
+    }
+
+    /// What the name of its row says of it.
+    pub fn how(self) -> &'static str {
+        match self {
+            Play::WriteAndRead => "",
+            Play::WriteAndFastRead => ", the read fast",
+            Play::ReadThenWrite => ", by one client, first the read",
+            Play::Mixed => ", both in one mixed transaction: 20 calls",
+        }
+    }
+
+    /// All messages are delivered, and what has ended is shown. A write that the sheet has no room
+    /// for is made after a clearing.
+    pub fn make(self, served: &impl Calls, lent: &mut Lent, value: u32) {
+        let block = black_box(&mut lent.block[..]);
+        let output = &mut lent.output[..];
+        let mut values = [0; 16];
+        for (item, bytes) in values.chunks_mut(4).enumerate() {
+            bytes.copy_from_slice(&(value + item as u32).to_be_bytes());
+        }
+        match self {
+            Play::WriteAndRead | Play::WriteAndFastRead => {
+                let mut started = served.start_write(block, 1, SHEET, &values);
+                if started == FULL {
+                    accepted(served.clear(block));
+                    started = served.start_write(block, 1, SHEET, &values);
+                }
+                deliver_all(served, block, started);
+                let started = match self {
+                    Play::WriteAndFastRead => served.start_fast_read(block, 2, SHEET),
+                    _ => served.start_read(block, 2, SHEET),
+                };
+                deliver_all(served, block, started);
+                accepted(served.show(block, 1, output));
+                accepted(served.show(block, 2, output));
+            }
+            Play::ReadThenWrite => {
+                let started = served.start_read(block, 1, SHEET);
+                deliver_all(served, block, started);
+                accepted(served.show(block, 1, output));
+                let started = served.start_write(block, 1, SHEET, &values);
+                deliver_all(served, block, started);
+                accepted(served.show(block, 1, output));
+            }
+            Play::Mixed => {
+                let started = served.start_mixed(block, 1, SHEET, SHEET, &values);
+                deliver_all(served, block, started);
+                accepted(served.show(block, 1, output));
+            }
+        }
+    }
+}
+
+/// All that is in flight after an accepted start.
+fn deliver_all(served: &impl Calls, block: &mut [u64], started: u64) {
+    let mut messages = accepted(started) >> 8;
     while messages > 0 {
         messages = accepted(served.deliver(block, 0)) >> 16 & 0xffff;
     }
@@ -60,7 +110,7 @@ impl Life {
     pub fn live(self, served: &impl Calls, lent: &mut Lent) {
         accepted(served.fresh(&mut lent.block, 2, 2, 4));
         for write in 1..=self.writes {
-            write_and_read(served, lent, write as u32, Manner::Ordinary);
+            Play::WriteAndRead.make(served, lent, write as u32);
             if self.cleared_after.is_some_and(|writes| write % writes == 0) {
                 accepted(served.clear(black_box(&mut lent.block)));
             }
@@ -114,6 +164,18 @@ impl<Look: Fn(&[u64])> Calls for Looked<Look> {
     fn start_fast_read(&self, block: &mut [u64], client: u64, set: u64) -> u64 {
         self.0(block);
         Proved.start_fast_read(block, client, set)
+    }
+
+    fn start_mixed(
+        &self,
+        block: &mut [u64],
+        client: u64,
+        read: u64,
+        write: u64,
+        values: &[u8],
+    ) -> u64 {
+        self.0(block);
+        Proved.start_mixed(block, client, read, write, values)
     }
 }
 
