@@ -3,22 +3,28 @@
  * races a read. Messages arrive in another order for each seed.
  *
  *     example SEED LOG       prints each step and what each client sees, and writes the log to the file LOG
- *     example --seeds N      plays the seeds 0 to N - 1 in silence and judges each log
+ *     example --seeds N LOG  plays the seeds 0 to N - 1 in silence, judges each log, and writes the last to LOG
+ *
+ * The block is saved to the file LOG.block.
  *
  * The morning client fills in the sheet. The afternoon client reads it for the first time, and fast: it knows of no
- * write, but what is committed is shown at once. Then the morning client corrects tape speed and equaliser curve, which
- * must never be seen apart, while the afternoon client reads on, the second time fast. When all has arrived both read
- * again, and have the same sheet. At the change of shift the morning client notes the minutes done and hands over: the
- * afternoon client, which was behind, reads them at once, whatever of them is still in flight, and the log has a line
- * on it for the judge. Then the afternoon client, which has written nothing so far, corrects the curve in one
- * transaction that also reads the old sheet: its one write is later than all of the morning client's, and is what it
- * reads from then on, and the morning client once it has learnt of it. By then nobody knows of the first correction any
- * more: it is cleared away, and both read the sheet as it was.
+ * write, but what is committed is shown at once. Then the morning client corrects tape speed and equaliser curve,
+ * which must never be seen apart, while the afternoon client reads on, the second time fast. When all has arrived both
+ * read again, and have the same sheet. At the change of shift the morning client notes the minutes done and hands
+ * over: the afternoon client, which was behind, reads them at once, whatever of them is still in flight, and the log
+ * has a line on it for the judge. Then the afternoon client, which has written nothing so far, corrects the curve in
+ * one transaction that also reads the old sheet: its one write is later than all of the morning client's, and is what
+ * it reads from then on, and the morning client once it has learnt of it. By then nobody knows of the first correction
+ * any more: it is cleared away, and both read the sheet as it was. Over the weekend the block is kept in a file, with
+ * a read of the morning client under way: what is loaded on Monday is checked first, and then the read goes on.
  */
+#define _POSIX_C_SOURCE 200112L
+
 #include <inttypes.h>
 #include <stdio.h>
 #include <stdlib.h>
 #include <string.h>
+#include <unistd.h>
 
 #include "koolvent.h"
 
@@ -51,9 +57,15 @@ struct client {
     struct koolvent_entry sheet[ITEMS], latest[ITEMS];
 };
 
+/* The names of the log, of the saved block, and of the file beside it to which a block is saved first. */
+struct files {
+    const char *log, *saved, *beside;
+};
+
 /* One play of the shift. */
 struct shift {
-    uint64_t block[KOOLVENT_WORDS];
+    /* The block of the week, and the one that is loaded after the weekend; the calls are made on one of them. */
+    uint64_t of_the_week[KOOLVENT_WORDS], loaded[KOOLVENT_WORDS], *block;
     unsigned messages;
     struct client clients[CLIENTS + 1];
     uint64_t random;
@@ -281,6 +293,44 @@ static void hand_over(struct shift *shift, unsigned giver, unsigned receiver)
         printf("%s hands over to %s\n", client_names[giver], client_names[receiver]);
 }
 
+/* Saves the block, between two calls. It is written beside the copy that is there, and takes that one's name when all
+ * of it is on the disk: whenever the power fails, a whole copy is there. */
+static void save(const uint64_t *block, const struct files *files)
+{
+    FILE *file = fopen(files->beside, "wb");
+
+    if (file == NULL || fwrite(block, sizeof *block, KOOLVENT_WORDS, file) != KOOLVENT_WORDS)
+        fail("the block is not written");
+    if (fflush(file) != 0 || fsync(fileno(file)) != 0 || fclose(file) != 0)
+        fail("the block is not on the disk");
+    if (rename(files->beside, files->saved) != 0)
+        fail("the saved block does not take its name");
+}
+
+static void load(uint64_t *block, const struct files *files)
+{
+    FILE *file = fopen(files->saved, "rb");
+
+    if (file == NULL || fread(block, sizeof *block, KOOLVENT_WORDS, file) != KOOLVENT_WORDS)
+        fail("the saved block is not there, or too short");
+    fclose(file);
+}
+
+/* The block is saved, loaded to another place and checked there, and that one goes on; without files it is copied. */
+static void keep_over_the_weekend(struct shift *shift, const struct files *files)
+{
+    if (files != NULL) {
+        save(shift->block, files);
+        load(shift->loaded, files);
+    } else {
+        memcpy(shift->loaded, shift->block, sizeof shift->loaded);
+    }
+    accepted(koolvent_check(shift->loaded, KOOLVENT_WORDS), "a check");
+    shift->block = shift->loaded;
+    if (shift->aloud)
+        printf("the block is loaded and accepted, with %u in flight\n", shift->messages);
+}
+
 static unsigned can_start(const struct client *client)
 {
     return !client->busy && client->plans_left > 0;
@@ -342,7 +392,7 @@ static void compare_sheets(const struct shift *shift, unsigned writer)
         fail("the last correction is not what is read");
 }
 
-static void play(struct shift *shift, uint64_t seed, int aloud)
+static void play(struct shift *shift, const struct files *files, uint64_t seed, int aloud)
 {
     static const struct plan fill_in = {WHOLE_SHEET, {190, 70, 320, 12}, ITEMS, PLAIN};
     static const struct plan correct = {SET(SPEED) | SET(CURVE), {381, 35}, 2, PLAIN};
@@ -354,6 +404,7 @@ static void play(struct shift *shift, uint64_t seed, int aloud)
         {WHOLE_SHEET, {0}, 0, PLAIN}, {WHOLE_SHEET, {0}, 0, FAST}, {WHOLE_SHEET, {0}, 0, PLAIN}};
 
     memset(shift, 0, sizeof *shift);
+    shift->block = shift->of_the_week;
     shift->random = seed;
     shift->leaning = draw(shift, 3) == 0 ? ANY : draw(shift, 2) == 0 ? OLD : NEW;
     shift->aloud = aloud;
@@ -404,32 +455,36 @@ static void play(struct shift *shift, uint64_t seed, int aloud)
     plan(shift, AFTERNOON, reads, 1);
     run(shift);
     compare_sheets(shift, AFTERNOON);
+    part(shift, "the morning client has begun to read when the block is put away over the weekend: its read goes on");
+    plan(shift, MORNING, reads, 1);
+    start(shift, MORNING);
+    keep_over_the_weekend(shift, files);
+    run(shift);
+    compare_sheets(shift, AFTERNOON);
 }
 
 /* ---- The command line ---- */
 
-static void play_aloud(struct shift *shift, uint64_t seed, const char *log_name)
-{
-    FILE *log = fopen(log_name, "wb");
+/* Of so many plays in silence one saves its block to the file: a disk is slow. */
+enum { SEEDS_A_FILE = 100 };
 
-    if (log == NULL) {
-        perror(log_name);
-        exit(1);
-    }
-    play(shift, seed, 1);
-    if (fwrite(shift->log, 1, shift->log_length, log) != shift->log_length || fclose(log) != 0) {
-        perror(log_name);
+static void write_log(const struct shift *shift, const char *name)
+{
+    FILE *file = fopen(name, "wb");
+
+    if (file == NULL || fwrite(shift->log, 1, shift->log_length, file) != shift->log_length || fclose(file) != 0) {
+        perror(name);
         exit(1);
     }
 }
 
-static void play_silently(struct shift *shift, uint64_t seeds)
+static void play_silently(struct shift *shift, const struct files *files, uint64_t seeds)
 {
     uint64_t reads = 0, shown = 0;
 
     for (uint64_t seed = 0; seed < seeds; seed++) {
         uint64_t verdict;
-        play(shift, seed, 0);
+        play(shift, seed % SEEDS_A_FILE == 0 ? files : NULL, seed, 0);
         verdict = koolvent_judge((const uint8_t *)shift->log, shift->log_length);
         if (koolvent_verdict_finding(accepted(verdict, "a judging")) != KOOLVENT_CLEAN) {
             fprintf(stderr, "%.*s", (int)shift->log_length, shift->log);
@@ -458,17 +513,36 @@ static uint64_t number(const char *text)
     return value;
 }
 
+/* A name with an ending. */
+static char *named(const char *name, const char *ending)
+{
+    char *all = malloc(strlen(name) + strlen(ending) + 1);
+
+    if (all == NULL)
+        fail("no memory for a name");
+    return strcat(strcpy(all, name), ending);
+}
+
 int main(int argc, char **argv)
 {
     static struct shift shift;
+    int is_silent = argc == 4 && strcmp(argv[1], "--seeds") == 0;
+    struct files files;
+    char *saved, *beside;
 
-    if (argc == 3 && strcmp(argv[1], "--seeds") == 0) {
-        play_silently(&shift, number(argv[2]));
-    } else if (argc == 3) {
-        play_aloud(&shift, number(argv[1]), argv[2]);
-    } else {
-        fprintf(stderr, "usage: example SEED LOG, or example --seeds N\n");
+    if (!is_silent && argc != 3) {
+        fprintf(stderr, "usage: example SEED LOG, or example --seeds N LOG\n");
         return 2;
     }
+    files.log = argv[argc - 1];
+    files.saved = saved = named(files.log, ".block");
+    files.beside = beside = named(files.log, ".block.new");
+    if (is_silent)
+        play_silently(&shift, &files, number(argv[2]));
+    else
+        play(&shift, &files, number(argv[1]), 1);
+    write_log(&shift, files.log);
+    free(saved);
+    free(beside);
     return 0;
 }

@@ -36,25 +36,42 @@
  * A start puts messages in flight, one for each item, by ascending item. Those of a mixed transaction are first for
  * the items read and then for the items written. A delivery takes one out, does what it says, and may put others in
  * flight. They are numbered 0, 1, .. by their place: the one delivered is taken out, those after it move up by one,
- * and new ones join at the end. On a block that only the calls have written since a fresh start, a delivery at any
- * place below the number in flight is accepted. example.c plays a whole session.
+ * and new ones join at the end. On a block that only the calls have written since a fresh start, or since
+ * koolvent_check accepted it, a delivery at any place below the number in flight is accepted. example.c plays a whole
+ * session.
  *
  * What is proved. Each call's answer, and every word and byte that was lent as the call leaves it, are fixed by what
  * it was given, for all numbers, lengths and contents of the block, damaged ones included; a refused call changes
  * nothing. Reads and writes are as said above on every block that koolvent_fresh made and only the calls have written
  * since. A block that something else wrote is refused where a number in it is out of range, and only there: garbage
- * that happens to be in range is taken for a store.
+ * that happens to be in range is taken for a store. koolvent_check tells more: on a block that it accepts, wherever it
+ * comes from, all reads and writes that are started from then on are as said above.
+ *
+ * Saving a block. Calls are not atomic against a crash of the host. If the power fails inside a call, some of the
+ * call's words are written and others are not. The next call may accept such a block, since every number may be in
+ * range. Then a client may stay busy for ever, and nothing is promised of any read or write. koolvent_check refuses
+ * such a block by 1 or 19, or else its promise holds. If it accepts, the call that was cut short is made, not made, or
+ * made in part: of a hand-over, some items may be taken over and others not. koolvent_check does not notice a value
+ * that no write made. So a host does three things:
+ *   - It saves a block between two calls, never while a call runs.
+ *   - It never writes over its only copy. It saves to two copies in turn, or it writes a file beside the last one and
+ *     renames it when all of it is on the disk.
+ *   - It calls koolvent_check on what it has loaded, before any other call. If that is refused, it loads the older
+ *     copy.
+ * example.c does so.
  *
  * What no proof covers, and the host must see to:
  *   - a block is aligned to 8 bytes, as an array of uint64_t is;
  *   - a length is no more than what is there: words for a block, bytes for the others;
  *   - no pointer is null, even where the length is 0;
  *   - block, values and output do not overlap;
- *   - there is stack enough: some 44,000 bytes for koolvent_clear, 28,000 for koolvent_judge, 1,400 for any other call;
+ *   - there is stack enough: some 89,000 bytes for koolvent_check, 44,000 for koolvent_clear, 28,000 for
+ *     koolvent_judge, 1,400 for any other call;
  *   - one caller at a time: while a call runs, nobody else reads or writes what was lent to it. Two threads may work on
  *     two blocks, and on the judge beside them: nothing is shared;
  *   - between calls the host leaves the block's words as they are. It may copy them: a copy of all KOOLVENT_WORDS
- *     words, wherever it lies, is a store like the first and goes on from there by itself.
+ *     words, wherever it lies, is a store like the first and goes on from there by itself. Where something else may
+ *     have changed the copy, koolvent_check is the first call on it.
  *
  * Link with libstore.a (the calls on a block) and libjudge.a (the judge); installed, with -lkoolvent_store and
  * -lkoolvent_judge, or by pkg-config: koolvent. For Linux on x86-64.
@@ -161,10 +178,10 @@ enum koolvent_refusal {
     /* koolvent_deliver: no message lies at that place. */
     KOOLVENT_REFUSED_PLACE = 10,
     /* koolvent_deliver: a version that is already stored, or a reply that nobody awaits. Never on a block that only the
-     * calls have written. */
+     * calls have written since a fresh start, or since koolvent_check accepted it. */
     KOOLVENT_REFUSED_UNEXPECTED = 11,
-    /* koolvent_deliver: a request for a version that is not stored. Never on a block that only the calls have
-     * written. */
+    /* koolvent_deliver: a request for a version that is not stored. Never on a block that only the calls have written
+     * since a fresh start, or since koolvent_check accepted it. */
     KOOLVENT_REFUSED_MISSING = 12,
     /* koolvent_show: no transaction of the client has ended yet. */
     KOOLVENT_REFUSED_NOTHING_ENDED = 13,
@@ -177,7 +194,12 @@ enum koolvent_refusal {
     /* koolvent_start_write, koolvent_start_mixed: more than KOOLVENT_MOST_WRITE_ITEMS items would be written. */
     KOOLVENT_REFUSED_WRITE_TOO_WIDE = 17,
     /* koolvent_hand_over: giver and receiver are one client. */
-    KOOLVENT_REFUSED_SAME_CLIENT = 18
+    KOOLVENT_REFUSED_SAME_CLIENT = 18,
+    /* koolvent_check: every number is in its range, but the calls make no such block. A version is missing that a
+     * client knows of, or a message that a client awaits, or the like. The other calls take the block for a store all
+     * the same, and promise nothing of reads and writes on it. Load an older copy, or make a fresh start. Never on a
+     * block that only the calls have written since a fresh start, or since a check accepted it. */
+    KOOLVENT_REFUSED_UNSOUND = 19
 };
 
 /* The refusal of any answer, or KOOLVENT_ACCEPTED. A call on a block that is refused answers exactly that number, with
@@ -250,6 +272,20 @@ uint64_t koolvent_hand_over(uint64_t *block, size_t words, uint64_t giver, uint6
  * item, its number and client alone; koolvent_compared_standing reads the answer. Clients may be busy, and may be the
  * same. Refused by 1 and 3. */
 uint64_t koolvent_compare(const uint64_t *block, size_t words, uint64_t first, uint64_t second);
+
+/* Tells whether a block that the calls may not have made is as good as one that they have made. Then every write that a
+ * client knows of is stored with all its items. So is every write that is the latest of an item, or that a commit, a
+ * get or a reply in flight names. Each of these, but for a commit's, is named for an item that it wrote. No item of a
+ * write is stored twice, and a reply in flight has its version's value. Whatever is said of one write agrees, and no
+ * number is above its client's count. A write under way is stored as far as its replies have come. Each item that a
+ * transaction awaits has exactly one message in flight, which fits the transaction; every other message is a commit.
+ *
+ * If koolvent_check accepts, all that is promised from a fresh start holds of the reads and writes started from then
+ * on. What looks back at a client's earlier reads and writes looks back to these alone. A read may also show a write
+ * that the block held then, complete or under way. Every block that the calls have made from a fresh start, or from an
+ * accepted block, is accepted, whatever is in flight and whoever is busy. It changes nothing, and an accepted check
+ * answers 0. Refused by 1 and 19. It takes some 89,000 bytes of stack. */
+uint64_t koolvent_check(const uint64_t *block, size_t words);
 
 /* ---- What an accepted call answers ---- */
 
@@ -348,9 +384,9 @@ enum koolvent_finding {
 };
 
 /* Judges a log, whoever wrote it: the first read at fault, and there the lowest of the findings above. Refused by 15
- * and 16, the latter tested first. It takes some 28,000 bytes of stack; the calls on a block, but for koolvent_clear,
- * take less than 1,400, of which 512 are a stamp for each item when a read or a mixed transaction starts or a fast
- * read's first part ends. */
+ * and 16, the latter tested first. It takes some 28,000 bytes of stack; the calls on a block, but for koolvent_clear
+ * and koolvent_check, take less than 1,400, of which 512 are a stamp for each item when a read or a mixed transaction
+ * starts or a fast read's first part ends. */
 uint64_t koolvent_judge(const uint8_t *log, size_t length);
 
 /* After an accepted judging: an enum koolvent_finding. */

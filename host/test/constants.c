@@ -378,6 +378,28 @@ static void damaged_blocks(void)
     SAME(deliver(0), KOOLVENT_REFUSED_MISSING);
 }
 
+/* A block is checked while a read is under way, and then without the message that this awaits. */
+static void checks(void)
+{
+    /* The word with how many messages are in flight (docs/LAYOUT.md). */
+    enum { MESSAGES = 4 };
+
+    fresh(2, 2, 2);
+    SAME(koolvent_check(block, WORDS), KOOLVENT_ACCEPTED);
+    write_items(1, 3, 8);
+    deliver_all();
+    read_items(2, 1);
+    SAME(koolvent_check(block, KOOLVENT_WORDS), KOOLVENT_ACCEPTED);
+    SAME(koolvent_check(block, KOOLVENT_WORDS - 1), KOOLVENT_REFUSED_BLOCK);
+    block[MESSAGES]--;
+    SAME(koolvent_check(block, WORDS), KOOLVENT_REFUSED_UNSOUND);
+    SAME(koolvent_check(block, KOOLVENT_WORDS - 1), KOOLVENT_REFUSED_BLOCK);
+    block[MESSAGES]++;
+    SAME(koolvent_check(block, WORDS), KOOLVENT_ACCEPTED);
+    block[0] = 9;
+    SAME(koolvent_check(block, WORDS), KOOLVENT_REFUSED_BLOCK);
+}
+
 /* Frames of items with other bytes everywhere, and the longest. */
 static void frames(void)
 {
@@ -521,6 +543,7 @@ int main(void)
     starts();
     hand_overs();
     damaged_blocks();
+    checks();
     frames();
     copies();
     verdicts();

@@ -48,6 +48,8 @@ pub enum Answer {
     Compared {
         standing: u64,
     },
+    /// The block is accepted.
+    Checked,
 }
 
 impl Answer {
@@ -56,7 +58,7 @@ impl Answer {
     pub fn number(self) -> u64 {
         match self {
             Answer::Refused(refusal) => refusal,
-            Answer::Fresh | Answer::HandedOver { .. } => 0,
+            Answer::Fresh | Answer::HandedOver { .. } | Answer::Checked => 0,
             Answer::Started { messages } => messages << 8,
             Answer::Delivered { kind, messages, outcome } => {
                 kind << 8 | messages << 16 | outcome << 32
@@ -86,12 +88,14 @@ impl Answer {
                 Answer::HandedOver { giver: *giver, receiver: *receiver }
             }
             Call::Compare { .. } => Answer::Compared { standing: number >> 8 & 0xff },
+            Call::Check => Answer::Checked,
         };
         let is_given = match (call, answer.refusal()) {
             (Call::Clear, refusal) => refusal <= 1,
             (Call::HandOver { .. }, refusal) => [0, 1, 3, 4, 18].contains(&refusal),
             (Call::Compare { .. }, 0) => number >> 8 <= NEITHER,
             (Call::Compare { .. }, refusal) => [1, 3].contains(&refusal),
+            (Call::Check, refusal) => [0, 1, 19].contains(&refusal),
             (call, 17) => matches!(call, Call::Write { .. } | Call::Mixed { .. }),
             (_, refusal) => refusal <= 14,
         };
@@ -103,7 +107,7 @@ impl Answer {
         let two_bytes = |number: u64| [(number >> 8) as u8, number as u8];
         match self {
             Answer::Refused(refusal) => vec![refusal as u8],
-            Answer::Fresh => vec![0],
+            Answer::Fresh | Answer::Checked => vec![0],
             Answer::Started { messages } => [&[0], &two_bytes(messages)[..]].concat(),
             Answer::Delivered { kind, messages, outcome } => {
                 [&[0, kind as u8], &two_bytes(messages)[..], &[outcome as u8]].concat()

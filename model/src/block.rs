@@ -26,6 +26,7 @@ pub trait Calls {
     fn clear(&self, block: &mut [u64]) -> u64;
     fn hand_over(&self, block: &mut [u64], giver: u64, receiver: u64) -> u64;
     fn compare(&self, block: &[u64], first: u64, second: u64) -> u64;
+    fn check(&self, block: &[u64]) -> u64;
 
     /// Makes the call, with this output for a showing.
     #[inline]
@@ -45,6 +46,7 @@ pub trait Calls {
             Call::Clear => self.clear(block),
             Call::HandOver { giver, receiver } => self.hand_over(block, *giver, *receiver),
             Call::Compare { first, second } => self.compare(block, *first, *second),
+            Call::Check => self.check(block),
         }
     }
 }
@@ -151,6 +153,13 @@ impl Calls for Modelled {
     fn compare(&self, block: &[u64], first: u64, second: u64) -> u64 {
         match self.store(block) {
             Ok(store) => store.compare(first, second).number(),
+            Err(refusal) => refusal.number(),
+        }
+    }
+
+    fn check(&self, block: &[u64]) -> u64 {
+        match self.store(block) {
+            Ok(store) => store.check().number(),
             Err(refusal) => refusal.number(),
         }
     }

@@ -52,6 +52,8 @@ pub enum Call {
         first: u64,
         second: u64,
     },
+    /// Tells whether the block is as good as one that the calls have made.
+    Check,
 }
 
 impl Call {

@@ -2,16 +2,18 @@
 //! and outputs alone.
 //!
 //! The checker runs a list of labels beside the calls, as the steps say which messages join and
-//! leave, and never sees the store's tables. By the labels it follows what each client has seen,
-//! its view. So it knows each write's stamp from its start on, shown or not, and which write each
-//! get asks for: every clause goes by whole stamps. By the commits that were delivered it knows each
-//! item's latest write, and so what the replies to a fast read bring. It keeps a capacity for its
-//! summary alone, so it doesn't see whether a start has to be refused. Each clause is one function
-//! and one `Clause`; the three about ends share theirs. That answers, outputs and tables are those
-//! of the steps and the refusal table is for whoever holds the list against the model's store.
+//! leave, and never sees the store's tables, but for those that an accepted block held before the
+//! first call. By the labels it follows what each client has seen, its view. So it knows each
+//! write's stamp from its start on, shown or not, and which write each get asks for: every clause
+//! goes by whole stamps. By the commits that were delivered it knows each item's latest write, and
+//! so what the replies to a fast read bring. It keeps a capacity for its summary alone, so it
+//! doesn't see whether a start has to be refused. Each clause is one function and one `Clause`; the
+//! three about ends share theirs. That answers, outputs and tables are those of the steps and the
+//! refusal table is for whoever holds the list against the model's store.
 
 mod checker;
 mod clauses;
+mod held;
 mod history;
 mod label;
 mod showings;
@@ -20,6 +22,7 @@ mod transaction;
 mod view;
 
 use crate::call::Event;
+use crate::store::tables::Tables;
 use checker::Checker;
 
 /// A clause of condition 3 that an event of the list breaks.
@@ -61,7 +64,8 @@ pub enum Clause {
     /// The frame shown is one of the transaction that ended last, of a write with its set, number
     /// and values, of a fast read with its kind, of a mixed transaction with both parts.
     Frame,
-    /// A shown entry is initial or of an accepted write with that stamp, item and value.
+    /// A shown entry is initial or of an accepted write with that stamp, item and value; in a list
+    /// from an accepted block also of a write that it held, whole or under way.
     Unwritten { item: u64 },
     /// Where an entry's write also wrote another shown item, that one isn't shown older.
     Fractured { item: u64, older: u64 },
@@ -94,6 +98,8 @@ pub enum Clause {
     /// A write isn't refused by 9 if it has no more items than are left of the places that a
     /// clearing freed.
     FreedPlaces,
+    /// A check is accepted.
+    Checking,
 }
 
 /// The first event that breaks a clause, counted from 0, and the clause.
@@ -150,12 +156,26 @@ pub struct Summary {
     pub read_and_written: usize,
     /// Entries shown that a mixed transaction wrote.
     pub mixed_entries_shown: usize,
+    pub checks: usize,
+    /// Entries shown of writes that an accepted block held.
+    pub held_entries_shown: usize,
 }
 
 /// Whether the events keep every clause of condition 3. The first is an accepted fresh; another
 /// accepted fresh begins a new list.
 pub fn check(events: &[Event]) -> Result<Summary, Violation> {
-    let mut checker = Checker::default();
+    check_all(Checker::default(), events)
+}
+
+/// Whether the events keep every clause of condition 3 that begin with a block which a check has
+/// accepted, and which held these tables (document 02, P9): of reads and writes that they begin,
+/// and what looks back does so to those. An entry may also be of a write that the block held, whole
+/// or under way, and what it held stored counts as delivered.
+pub fn check_from(held: &Tables, events: &[Event]) -> Result<Summary, Violation> {
+    check_all(Checker::from(held), events)
+}
+
+fn check_all(mut checker: Checker, events: &[Event]) -> Result<Summary, Violation> {
     for (place, event) in events.iter().enumerate() {
         checker.check(place, event).map_err(|clause| Violation { event: place, clause })?;
     }

@@ -1,4 +1,5 @@
-//! Random runs: a list of calls from an accepted fresh, refused ones included, with its log.
+//! Random runs: a list of calls from an accepted fresh, or from a block that a check has accepted,
+//! refused ones included, with its log.
 
 mod choices;
 
@@ -7,6 +8,7 @@ use crate::call::{Call, Event};
 use crate::frames::hex::to_hex;
 use crate::frames::log::MOST_BYTES;
 use crate::random::Random;
+use crate::store::message::Message;
 use crate::store::tables::{Sizes, Tables};
 use crate::store::Store;
 
@@ -27,7 +29,7 @@ pub enum Sort {
 
 /// A run that has been made.
 pub struct Run {
-    /// All calls from the accepted fresh on.
+    /// All calls from the accepted fresh, or the accepted block, on.
     pub events: Vec<Event>,
     /// Each ended transaction, shown right after its end, and each hand-over, up to the judge's
     /// limits.
@@ -69,28 +71,47 @@ struct Runner<'a, 'b> {
     fast_reads: u64,
     /// So many starts in a hundred are of mixed transactions.
     mixed: u64,
+    /// Before so many calls in a hundred there is a check. Which these are is drawn apart, so that
+    /// the other calls are the same without checks.
+    checks: u64,
+    checks_random: Random,
     log_lines: usize,
     run: Run,
-    watch: &'a mut Watch<'b>,
+    /// With no watcher the tables after a refusal aren't held against the tables before the call.
+    watch: Option<&'a mut Watch<'b>>,
 }
 
 /// The run that a seed gives, watched call by call, from those before the accepted fresh on.
 pub fn run_watched(sort: Sort, seed: u64, watch: &mut Watch) -> Run {
-    let mut runner = Runner::new(sort, seed, watch);
+    let mut runner = Runner::new(sort, seed, Some(watch));
     runner.before_the_fresh();
-    for _ in 0..sort.calls() {
-        runner.call_something();
+    runner.go_on()
+}
+
+/// A run that goes on from these tables, which a check accepts, watched call by call.
+pub fn run_from(sort: Sort, seed: u64, tables: &Tables, watch: &mut Watch) -> Run {
+    let mut runner = Runner::new(sort, seed, Some(watch));
+    runner.hold(tables);
+    runner.call(Call::Check);
+    runner.go_on()
+}
+
+/// The same run with no checks in it, not watched: from an accepted fresh, or from tables that a
+/// check accepts.
+pub fn run_without_checks(sort: Sort, seed: u64, from: Option<&Tables>) -> Run {
+    let mut runner = Runner::new(sort, seed, None);
+    runner.checks = 0;
+    match from {
+        Some(tables) => runner.hold(tables),
+        None => runner.before_the_fresh(),
     }
-    if runner.random.percent(90) {
-        runner.deliver_all();
-    }
-    runner.run
+    runner.go_on()
 }
 
 /// Tables from the middle of a run.
 pub fn tables_amid(sort: Sort, seed: u64) -> Tables {
-    let watch: &mut Watch = &mut |_, _| ();
-    let mut runner = Runner::new(sort, seed, watch);
+    let mut runner = Runner::new(sort, seed, None);
+    runner.checks = 0;
     runner.before_the_fresh();
     let calls = runner.random.between(sort.calls() / 4, sort.calls());
     for _ in 0..calls {
@@ -101,7 +122,7 @@ pub fn tables_amid(sort: Sort, seed: u64) -> Tables {
 
 impl Sort {
     /// How many calls are made, deliveries of what is left at the end, showings after ends,
-    /// hand-overs and comparisons not counted.
+    /// hand-overs, comparisons and checks not counted.
     fn calls(self) -> u64 {
         match self {
             Sort::Small => 120,
@@ -124,7 +145,7 @@ impl Sort {
 }
 
 impl<'a, 'b> Runner<'a, 'b> {
-    fn new(sort: Sort, seed: u64, watch: &'a mut Watch<'b>) -> Runner<'a, 'b> {
+    fn new(sort: Sort, seed: u64, watch: Option<&'a mut Watch<'b>>) -> Runner<'a, 'b> {
         let mut random = Random::new(seed);
         let sizes = sort.sizes(&mut random);
         let order = match random.below(7) {
@@ -140,6 +161,11 @@ impl<'a, 'b> Runner<'a, 'b> {
         let hand_overs = random.pick(&[0, 1, 5, 15]);
         let fast_reads = random.pick(&[0, 50, 50, 100]);
         let mixed = random.pick(&[0, 0, 20, 50]);
+        let mut checks_random = Random::new(!seed);
+        let checks = match sort {
+            Sort::Crowded => 3,
+            _ => checks_random.pick(&[0, 0, 0, 5, 25, 100]),
+        };
         Runner {
             random,
             sort,
@@ -150,6 +176,8 @@ impl<'a, 'b> Runner<'a, 'b> {
             hand_overs,
             fast_reads,
             mixed,
+            checks,
+            checks_random,
             log_lines: 0,
             run: Run {
                 events: Vec::new(),
@@ -162,6 +190,21 @@ impl<'a, 'b> Runner<'a, 'b> {
         }
     }
 
+    fn hold(&mut self, tables: &Tables) {
+        self.sizes = tables.sizes;
+        self.run.store = Store::with_tables(tables.clone());
+    }
+
+    fn go_on(mut self) -> Run {
+        for _ in 0..self.sort.calls() {
+            self.call_something();
+        }
+        if self.random.percent(90) {
+            self.deliver_all();
+        }
+        self.run
+    }
+
     fn call_something(&mut self) {
         if self.random.percent(self.clearings) {
             self.call(Call::Clear);
@@ -171,6 +214,9 @@ impl<'a, 'b> Runner<'a, 'b> {
         }
         if self.random.percent(self.hand_overs) {
             self.compare();
+        }
+        if self.checks_random.percent(self.checks) {
+            self.call(Call::Check);
         }
         match self.random.below(100) {
             0..60 => self.deliver_next(),
@@ -192,25 +238,29 @@ impl<'a, 'b> Runner<'a, 'b> {
         self.call(Call::Clear);
         self.call(Call::HandOver { giver: 1, receiver: 2 });
         self.call(Call::Compare { first: 1, second: 1 });
+        self.call(Call::Check);
         self.run.events.clear();
         self.call(fresh(true, clients));
     }
 
     /// Makes the call; shows and logs what it ended, or logs who handed over to whom.
     fn call(&mut self, call: Call) -> Answer {
-        let before = self.run.store.tables.clone();
+        let before = self.watch.is_some().then(|| self.run.store.tables.clone());
+        let delivered = match &call {
+            Call::Deliver { place } => self.run.store.tables.messages.get(*place as usize),
+            _ => None,
+        };
+        let client = delivered.map(Message::client);
         let (answer, event) = self.run.store.make(call);
-        (self.watch)(&event, &self.run.store.tables);
-        if let Answer::Refused(refusal) = answer {
+        if let Some(watch) = &mut self.watch {
+            watch(&event, &self.run.store.tables);
+        }
+        if let (Answer::Refused(refusal), Some(before)) = (answer, before) {
             let after = &self.run.store.tables;
             assert_eq!(*after, before, "refusal {refusal} changed the tables");
         }
-        let ended = match (&event.call, &answer) {
-            (Call::Deliver { place }, Answer::Delivered { outcome, .. })
-                if *outcome != NONE_ENDED =>
-            {
-                Some(before.messages[*place as usize].client())
-            }
+        let ended = match answer {
+            Answer::Delivered { outcome, .. } if outcome != NONE_ENDED => client,
             _ => None,
         };
         self.run.events.push(event);

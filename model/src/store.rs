@@ -1,6 +1,7 @@
 //! The store on plain tables: calls, each a check against the refusal table and then a step.
 
 mod calls;
+pub mod check;
 mod clear;
 mod fast_read;
 pub mod fault;

@@ -4,10 +4,12 @@
 mod agreement;
 mod brimming;
 mod busy;
+pub mod checks;
 pub mod clearings;
 pub mod damage;
 pub mod edges;
 pub mod hand_overs;
+mod kept;
 mod leftovers;
 mod met;
 pub mod promises;

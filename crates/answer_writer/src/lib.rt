@@ -78,6 +78,7 @@ fn put_into(out: &mut [u8], a: Answer, shown: &[u8]) -> usize
             2228224 + giver % 256 * 256 + receiver % 256,
         ),
         Answer::Compared { standing } => put_line(out, 2, standing % 256),
+        Answer::Checked => put_line(out, 1, 0),
     }
 }
 

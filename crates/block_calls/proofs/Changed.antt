@@ -5,8 +5,7 @@ use Prim.Native.Nat.{ℕ}
 use Rattle.protocol.specs.Tables.{Tables}
 use Rattle.protocol.specs.Range.{capacities}
 use Rattle.protocol.specs.Calls.{Call, startRead, startFastRead, startWrite, startMixed, deliver}
-use Rattle.protocol.specs.Calls.{show, clear}
-use Rattle.protocol.specs.Calls.{handOver, compare, refusal, effect}
+use Rattle.protocol.specs.Calls.{show, clear, handOver, compare, check, refusal, effect}
 use Rattle.protocol.proofs.Refusals.{accepted-read, accepted-fast-read, accepted-write}
 use Rattle.protocol.proofs.Refusals.{accepted-mixed}
 use Rattle.protocol.proofs.Refusals.{accepted-deliver, accepted-clear, accepted-hand-over}
@@ -43,3 +42,4 @@ encodes-changed b t (handOver giver receiver) same h e =
     (encodes-handed-over giver receiver h (room-valid t (a .valid)) (a .giver .0) (a .giver .1)
     (a .receiver .0) (a .receiver .1) (a .other))
 encodes-changed b t (compare first second) same h e = h
+encodes-changed b t check same h e = h

@@ -6,7 +6,7 @@ use Prim.Native.Nat.{ℕ, _-_}
 use lib.ListN.{length, replicate}
 use Rattle.protocol.specs.declared.Answer.{Answer}
 use Rattle.protocol.specs.declared.Answer.the-variants.{Refused, Made, Started, Delivered, Shown}
-use Rattle.protocol.specs.declared.Answer.the-variants.{Cleared, HandedOver, Compared}
+use Rattle.protocol.specs.declared.Answer.the-variants.{Cleared, HandedOver, Compared, Checked}
 use Rattle.protocol.specs.Range.{sizesInRange}
 use Rattle.protocol.specs.Calls.{first, numberOfAnswer}
 use Rattle.gather.specs.Sized.{sizes}
@@ -27,14 +27,15 @@ unfolding freshAnswerOn freshRefusalOn first sizesInRange
 fresh-rows = refl
 
 -- bits 8..23 of a start, of a showing and of a clearing; 8..15, 16..31 and 32..39 of a delivery;
--- nothing but 0 of a hand-over; 8..15 of a comparison
+-- nothing but 0 of a hand-over and of a check; 8..15 of a comparison
 abbrev numbers : List ℕ
 numbers =
     numberOfAnswer (Refused 14) ∷ numberOfAnswer Made ∷ numberOfAnswer (Started 258)
     ∷ numberOfAnswer (Delivered 4 3 1)
     ∷ numberOfAnswer (Shown 586) ∷ numberOfAnswer (Cleared 512)
-    ∷ numberOfAnswer (HandedOver 7 8) ∷ numberOfAnswer (Compared 3) ∷ []
+    ∷ numberOfAnswer (HandedOver 7 8) ∷ numberOfAnswer (Compared 3) ∷ numberOfAnswer Checked ∷ []
 
-pub number-rows : numbers ≡ 14 ∷ 0 ∷ 0x10200 ∷ 0x100030400 ∷ 0x24a00 ∷ 0x20000 ∷ 0 ∷ 0x300 ∷ []
+pub number-rows : numbers
+    ≡ 14 ∷ 0 ∷ 0x10200 ∷ 0x100030400 ∷ 0x24a00 ∷ 0x20000 ∷ 0 ∷ 0x300 ∷ 0 ∷ []
 unfolding numberOfAnswer
 number-rows = refl

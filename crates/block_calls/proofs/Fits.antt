@@ -9,12 +9,12 @@ use Rattle.basics.proofs.Cases.{by-test}
 use Rattle.itemset.specs.Set.{count}
 use Rattle.protocol.specs.declared.Answer.{Answer}
 use Rattle.protocol.specs.declared.Answer.the-variants.{Refused, Made, Started, Delivered, Shown}
-use Rattle.protocol.specs.declared.Answer.the-variants.{Cleared, HandedOver, Compared}
+use Rattle.protocol.specs.declared.Answer.the-variants.{Cleared, HandedOver, Compared, Checked}
 use Rattle.protocol.specs.Tables.{Tables, Sizes}
 use Rattle.protocol.specs.Steps.{messageAt}
 use Rattle.protocol.specs.Calls.{Call, startRead, startFastRead, startWrite, startMixed, deliver}
-use Rattle.protocol.specs.Calls.{show, clear}
-use Rattle.protocol.specs.Calls.{handOver, compare, Test, test, first, refusal, effect, reply, step}
+use Rattle.protocol.specs.Calls.{show, clear, handOver, compare, check, Test, test, first, refusal}
+use Rattle.protocol.specs.Calls.{effect, reply, step}
 use Rattle.protocol.specs.Calls.{pick, badSet, readTests, writeTests, numberOfAnswer}
 use Rattle.protocol.proofs.MessageKinds.{kind-within}
 use Rattle.protocol.proofs.Delivered.{outcome-most}
@@ -33,22 +33,22 @@ use Rattle.block_calls.proofs.Accepted.{answer-accepted, answer-refused
 -- ---- refusals
 
 -- one more test
-more : (n : ℕ) (a : Bool) (xs : List Test) → n ≤ 18 → first xs ≤ 18 → first (test n a ∷ xs) ≤ 18
+more : (n : ℕ) (a : Bool) (xs : List Test) → n ≤ 19 → first xs ≤ 19 → first (test n a ∷ xs) ≤ 19
 unfolding first
 more n true xs x y = x
 more n false xs x y = y
 
-none : first [] ≤ 18
+none : first [] ≤ 19
 unfolding first
 none = omega arith
 
-read-le : (t : Tables) (d s : ℕ) → first (readTests capacities t d s) ≤ 18
+read-le : (t : Tables) (d s : ℕ) → first (readTests capacities t d s) ≤ 19
 read-le t d s =
     more 1 _ _ (omega arith) (more 3 _ _ (omega arith)
     (more 4 _ _ (omega arith) (more 5 _ _ (omega arith) (more 8 _ _ (omega arith) none))))
 
 write-le : (t : Tables) (d : ℕ) (bad : Bool) (s : ℕ) (bytes : List ℕ) (joining : ℕ)
-    → first (writeTests capacities t d bad s bytes joining) ≤ 18
+    → first (writeTests capacities t d bad s bytes joining) ≤ 19
 write-le t d bad s bytes joining =
     more 1 _ _ (omega arith)
     (more 3 _ _ (omega arith)
@@ -58,7 +58,7 @@ write-le t d bad s bytes joining =
     (more 8 _ _ (omega arith) (more 9 _ _ (omega arith) none))))))))
 
 -- one of the refusal table's numbers, or 0
-pub refusal-le : (t : Tables) (c : Call) → refusal capacities t c ≤ 18
+pub refusal-le : (t : Tables) (c : Call) → refusal capacities t c ≤ 19
 unfolding refusal
 refusal-le t (startRead d s) = read-le t d s
 refusal-le t (startFastRead d s) = read-le t d s
@@ -74,8 +74,9 @@ refusal-le t clear = more 1 _ _ (omega arith) none
 refusal-le t (handOver d e) = more 1 _ _ (omega arith)
     (more 3 _ _ (omega arith) (more 18 _ _ (omega arith) (more 4 _ _ (omega arith) none)))
 refusal-le t (compare d e) = more 1 _ _ (omega arith) (more 3 _ _ (omega arith) none)
+refusal-le t check = more 1 _ _ (omega arith) (more 19 _ _ (omega arith) none)
 
-fresh-refusal-le : (b : List ℕ) (z : Sizes) → freshRefusalOn b z ≤ 18
+fresh-refusal-le : (b : List ℕ) (z : Sizes) → freshRefusalOn b z ≤ 19
 unfolding freshRefusalOn
 fresh-refusal-le b z = more 2 _ _ (omega arith) (more 1 _ _ (omega arith) none)
 
@@ -91,6 +92,7 @@ refusalOf (Shown n) = 0
 refusalOf (Cleared n) = 0
 refusalOf (HandedOver giver receiver) = 0
 refusalOf (Compared n) = 0
+refusalOf Checked = 0
 
 -- the messages after an accepted call
 few : (t : Tables) (c : Call) → refusal capacities t c ≡ 0
@@ -117,6 +119,7 @@ reply-fits t (handOver d e) h =
     let most = a .valid .inRange .sizes .clients in
     (omega (arith, a .giver .1, most), omega (arith, a .receiver .1, most))
 reply-fits t (compare d e) h = omega (arith, standing-most t d e)
+reply-fits t check h = tt
 
 step-fits : (t : Tables) (c : Call) → Fits (step capacities t c .answer)
 unfolding step
@@ -151,6 +154,7 @@ low-byte (Shown n) f = omega arith
 low-byte (Cleared n) f = omega arith
 low-byte (HandedOver giver receiver) f = refl
 low-byte (Compared n) f = omega arith
+low-byte Checked f = refl
 
 reply-accepts : (t : Tables) (c : Call) → refusalOf (reply t c) ≡ 0
 unfolding refusalOf reply
@@ -163,6 +167,7 @@ reply-accepts t (show d output) = refl
 reply-accepts t clear = refl
 reply-accepts t (handOver d e) = refl
 reply-accepts t (compare d e) = refl
+reply-accepts t check = refl
 
 tells-refusal : (b : List ℕ) (c : Call) (r : ℕ) → refusalOn b c ≡ r → refusalOf (answerOn b c) ≡ r
 unfolding refusalOf

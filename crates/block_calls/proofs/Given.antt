@@ -10,13 +10,13 @@ use lib.ListN.{length, drop}
 use Rattle.basics.proofs.Cases.{between, and-left, and-right}
 use Rattle.itemset.specs.Set.{count}
 use Rattle.protocol.specs.declared.Answer.the-variants.{Refused, Started, Shown, Cleared}
-use Rattle.protocol.specs.declared.Answer.the-variants.{HandedOver, Compared}
+use Rattle.protocol.specs.declared.Answer.the-variants.{HandedOver, Compared, Checked}
 use Rattle.protocol.specs.Tables.{Sizes, Tables}
 use Rattle.protocol.specs.Range.{capacities, isClient, load, occupied}
 use Rattle.protocol.specs.Clear.{gone}
 use Rattle.protocol.specs.HandOver.{standing}
 use Rattle.protocol.specs.Calls.{Call, startRead, startWrite, startMixed, show, clear, handOver}
-use Rattle.protocol.specs.Calls.{compare}
+use Rattle.protocol.specs.Calls.{compare, check}
 use Rattle.protocol.specs.Calls.{effect, reply, written, lent, pick, shownFrame, refusal, first}
 use Rattle.protocol.proofs.Ranges.Tables.{Valid, valid-facts}
 use Rattle.protocol.proofs.Refusals.{AcceptedStart, accepted-read, accepted-fast-read}
@@ -245,6 +245,10 @@ pub compare-keeps : (b : List ℕ) (d e : ℕ) → b ≡ blockAfter b (compare d
 unfolding blockAfter changed
 compare-keeps b d e = kept b (refusalOn b (compare d e))
 
+pub check-keeps : (b : List ℕ) → b ≡ blockAfter b check
+unfolding blockAfter changed
+check-keeps b = kept b (refusalOn b check)
+
 -- ---- showings
 
 module _ (b : List ℕ) (d : ℕ) (out : List ℕ) (e : refusalOn b (show d out) ≡ 0) where
@@ -345,3 +349,9 @@ module _ (b : List ℕ) (d e : ℕ) where
       → Compared n ≡ answerOn b (compare d e)
   unfolding reply
   compare-given z n m = ap Compared m ∙ sym (answer-accepted b (compare d e) z)
+
+-- ---- checks
+
+pub check-given : (b : List ℕ) → refusalOn b check ≡ 0 → Checked ≡ answerOn b check
+unfolding reply
+check-given b e = sym (answer-accepted b check e)

@@ -38,7 +38,7 @@ module _ (b : List ℕ) (t : Tables) (h : Holds b t) where
   tables-are = tables-within b t (h .encodes) (h .masked) (valid-within capacities t facts)
 
   -- what the calls give on the block is what the steps give on the tables
-  refusal-is : (c : Call) → refusalOn b c ≡ refusal capacities t c
+  pub refusal-is : (c : Call) → refusalOn b c ≡ refusal capacities t c
   unfolding refusalOn
   refusal-is c = rw valid-block (ap (λ (u : Tables). refusal capacities u c) tables-are)
 

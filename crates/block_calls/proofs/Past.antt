@@ -4,8 +4,7 @@ use mathlib.Core.Path.{_≡_, refl}
 use Prim.Native.Nat.{ℕ, zero, suc}
 use Rattle.protocol.specs.Range.{capacities}
 use Rattle.protocol.specs.Calls.{Call, startRead, startFastRead, startWrite, startMixed, deliver}
-use Rattle.protocol.specs.Calls.{show, clear}
-use Rattle.protocol.specs.Calls.{handOver, compare, pick}
+use Rattle.protocol.specs.Calls.{show, clear, handOver, compare, check, pick}
 use Rattle.protocol.proofs.Refusals.{accepted-read, accepted-fast-read, accepted-write}
 use Rattle.protocol.proofs.Refusals.{accepted-mixed, accepted-clear}
 use Rattle.layout.specs.Layout.{header, at, partitionsAt, itemsAt, versionsAt, messagesAt}
@@ -53,6 +52,7 @@ past-changed b (handOver d r) e =
     let ready = hand-over-ready b d r e (at b header itemsAt) refl in
     past-hand-over b d r (at b header itemsAt) (ready .2) (ready .3) (ready .4)
 past-changed b (compare d r) e = past-none b
+past-changed b check e = past-none b
 
 pub past-after : (b : List ℕ) (c : Call) → SamePast b (blockAfter b c)
 unfolding blockAfter

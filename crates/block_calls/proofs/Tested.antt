@@ -10,8 +10,9 @@ use Rattle.basics.proofs.Cases.{by-test, between, and-left, and-right}
 use Rattle.itemset.specs.Set.{allBelow, count}
 use Rattle.protocol.specs.Range.{capacities, isClient, isIdle, load, occupied}
 use Rattle.protocol.specs.Steps.{greatestOf}
+use Rattle.protocol.specs.Check.{sound}
 use Rattle.protocol.specs.Calls.{startRead, startWrite, startMixed, show, handOver, compare}
-use Rattle.protocol.specs.Calls.{writeTests, refusal, first, isNothing}
+use Rattle.protocol.specs.Calls.{check, writeTests, refusal, first, isNothing}
 use Rattle.layout.specs.Layout.{mostVersions, mostMessages, mostWriteItems, header, scalars, at}
 use Rattle.layout.specs.Layout.{itemsAt, modeAt, awaitedAt, lastKindAt, isWriteMode, isMixedMode}
 use Rattle.layout.specs.Decode.{sizesIn, clientIn, tablesOf, awaitsNone, validBlock}
@@ -173,3 +174,14 @@ module _ (b : List ℕ) (d e : ℕ) (v : validBlock b ≡ true) where
   pub compare-tests : bothClients ≡ true → refusal capacities (tablesOf b) (compare d e) ≡ 0
   unfolding refusal first
   compare-tests c = rw (valid-tables b v, sizes-read b, c) refl
+
+-- ---- of a check
+
+module _ (b : List ℕ) (v : validBlock b ≡ true) where
+  pub check-passes : sound (tablesOf b) ≡ true → refusal capacities (tablesOf b) check ≡ 0
+  unfolding refusal first
+  check-passes e = rw (valid-tables b v, e) refl
+
+  pub check-fails : sound (tablesOf b) ≡ false → refusal capacities (tablesOf b) check ≡ 19
+  unfolding refusal first
+  check-fails e = rw (valid-tables b v, e) refl

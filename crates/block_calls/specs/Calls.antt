@@ -8,12 +8,12 @@ use lib.Dec.{ltb}
 use lib.ListN.{length}
 use Rattle.protocol.specs.declared.Answer.{Answer}
 use Rattle.protocol.specs.declared.Answer.the-variants.{Refused, Made, Started, Delivered, Shown}
-use Rattle.protocol.specs.declared.Answer.the-variants.{Cleared, HandedOver, Compared}
+use Rattle.protocol.specs.declared.Answer.the-variants.{Cleared, HandedOver, Compared, Checked}
 use Rattle.protocol.specs.Tables.{Sizes, Tables, fresh}
 use Rattle.protocol.specs.Range.{capacities, sizesInRange}
 use Rattle.protocol.specs.Calls.{Call, startRead, startFastRead, startWrite, startMixed, deliver}
-use Rattle.protocol.specs.Calls.{show, clear}
-use Rattle.protocol.specs.Calls.{handOver, compare, test, first, pick, refusal, step, lent}
+use Rattle.protocol.specs.Calls.{show, clear, handOver, compare, check, test, first, pick, refusal}
+use Rattle.protocol.specs.Calls.{step, lent}
 use Rattle.layout.specs.Layout.{needed, header, at, itemsAt}
 use Rattle.layout.specs.Decode.{tablesOf, validBlock}
 use Rattle.layout.specs.Store.{freshBlock}
@@ -63,6 +63,7 @@ changed b (show d output) = b
 changed b clear = clearedBlock b
 changed b (handOver giver receiver) = handedOverBlock b giver receiver (at b header itemsAt)
 changed b (compare d e) = b
+changed b check = b
 
 unfoldable pub blockAfter : List ℕ → Call → List ℕ
 blockAfter b c = pick (refusalOn b c) (changed b c) b
@@ -86,3 +87,4 @@ Fits (Shown n) = n < 2 ^ 16
 Fits (Cleared n) = n < 2 ^ 16
 Fits (HandedOver giver receiver) = (giver < 2 ^ 8) × (receiver < 2 ^ 8)
 Fits (Compared n) = n < 2 ^ 8
+Fits Checked = Unit

@@ -18,7 +18,8 @@ use Rattle.protocol.specs.declared.Message.{Message}
 use Rattle.protocol.specs.declared.Message.the-variants.{Prepare, Get}
 use Rattle.protocol.specs.Tables.{Tables, Client, Side, ofRead, ofWrite, writerOf}
 use Rattle.protocol.specs.Message.{kindOf, isPrepared, isCommit, isGot, isFirstReply, isAnyGot}
-use Rattle.protocol.specs.Message.{itemOf, namesClient, ownerOf}
+use Rattle.protocol.specs.Message.{namesClient, ownerOf}
+pub use Rattle.protocol.specs.Message.{ofSide, isFor}
 use Rattle.protocol.specs.Steps.{asks, gets, version, valueOf, nextStamp, prepares, joined, isLast}
 use Rattle.protocol.proofs.Each.{Each, each-upto}
 use Rattle.protocol.proofs.Delivered.{joined-each}
@@ -28,15 +29,6 @@ use Rattle.condition3.specs.World.{Write, labelled}
 
 abbrev pub hasItem : Message → Bool
 hasItem m = not (isCommit m)
-
--- of a read part the gets and gots, of either kind, of a write part the prepares and prepared
--- replies
-abbrev pub ofSide : Side → Message → Bool
-ofSide ofRead m = namesClient m
-ofSide ofWrite m = leb (kindOf m) 2
-
-abbrev pub isFor : Side → ℕ → ℕ → Message → Bool
-isFor σ d k m = ofSide σ m && (eqb (ownerOf m) d && eqb (itemOf m) k)
 
 -- what holds of each side holds of both
 pub by-side {ℓ} : (P : Side → Type ℓ) → P ofRead → P ofWrite → (σ : Side) → P σ

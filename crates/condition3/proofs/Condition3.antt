@@ -1,5 +1,5 @@
 -- Condition 3, proved: of every list of calls made from a world with the invariant, and so from
--- freshly made tables of any sizes that refusal 2 allows.
+-- freshly made tables of any sizes that refusal 2 allows, and from tables that the check accepts.
 use mathlib.Core.Bool.{Bool, true, cond}
 use mathlib.Core.List.{List, [], _∷_, _++_}
 use mathlib.Core.Path.{_≡_, refl, sym, ap, _∙_, subst}
@@ -12,17 +12,21 @@ use Rattle.basics.proofs.Cases.{by-test}
 use Rattle.basics.specs.Lists.{counted}
 use Rattle.itemset.specs.Set.{has}
 use Rattle.itemset.proofs.Laws.{has-empty}
-use Rattle.protocol.specs.Tables.{Sizes}
+use Rattle.protocol.specs.Tables.{Sizes, Tables}
 use Rattle.protocol.specs.Range.{Capacities, sizesInRange}
-use Rattle.protocol.specs.Calls.{Call, startFastRead, refusal, effect, step, pick}
+use Rattle.protocol.specs.Calls.{Call, startFastRead, check, refusal, effect, step, pick}
 use Rattle.condition3.specs.World.{World, Labelled, begin, moved, passed, next, after}
 use Rattle.condition3.specs.World.{isReplyFor}
-use Rattle.condition3.specs.Condition3.{Manner, startOf, lengthOf, EndedBy, sent, came, Shows}
-use Rattle.condition3.specs.Condition3.{Condition3}
+use Rattle.condition3.specs.Held.{held, Promised}
+use Rattle.condition3.specs.Condition3.{Manner, startOf, EndedBy, sent, came, Shows}
+use Rattle.condition3.specs.Condition3.{Condition3, lengthOf}
 use Rattle.condition3.specs.Condition3.Manner.{ordinary, fast, writing}
 use Rattle.protocol.proofs.Refusals.{accepted-fast-read}
+use Rattle.condition3.proofs.Sound.Checked.{tells-check, check-sound}
 use Rattle.condition3.proofs.Link.{Inv}
 use Rattle.condition3.proofs.Link.Step.{begin-inv}
+use Rattle.condition3.proofs.Link.Held.{held-inv}
+use Rattle.condition3.proofs.Link.Dated.{held-in-use}
 use Rattle.condition3.proofs.Runs.Run.{after-append, after-inv, still-client}
 use Rattle.condition3.proofs.Runs.Replies.{Awaiting}
 use Rattle.condition3.proofs.Runs.Ended.{EndedRead}
@@ -182,11 +186,25 @@ condition-3-from caps w inv calls =
       clears = λ before rest e. clears caps w inv before;
       serves = λ κ before between rest n d s bytes e.
           serves caps w inv before κ between n d s bytes;
+      checks = λ before rest e.
+          let here = after-inv caps w inv before in
+          tells-check caps (after caps w before .tables) .1 (here .ledger, here .sound);
       deliverable =
           λ before rest e. deliverable caps (after caps w before) (after-inv caps w inv before);
     }
 
--- freshly made tables
+-- from freshly made tables
 pub condition-3 : (caps : Capacities) (z : Sizes) → sizesInRange z ≡ true → (calls : List Call)
     → Condition3 caps (begin z) calls
 condition-3 caps z ok = condition-3-from caps (begin z) (begin-inv caps z ok)
+
+-- 'If it accepts, all promises from a fresh start hold of reads and writes begun from then on'
+-- (document 02, P9)
+pub condition-3-accepted : (caps : Capacities) (t : Tables) → refusal caps t check ≡ 0
+    → (calls : List Call) → Promised caps t calls
+condition-3-accepted caps t e calls =
+    let sound = check-sound caps t e in
+    record {
+      condition3 = condition-3-from caps (held t) (held-inv caps t sound) calls;
+      entries = held-in-use caps t sound calls;
+    }

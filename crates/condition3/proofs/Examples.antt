@@ -2,4 +2,5 @@
 pub mod Spans
 pub mod Own
 pub mod Fast
+pub mod Held
 pub mod Mixed

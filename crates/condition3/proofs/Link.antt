@@ -8,6 +8,8 @@ pub mod Starts
 pub mod Delivery
 pub mod Step
 pub mod Asks
+pub mod Held
+pub mod Dated
 use mathlib.Core.Bool.{true}
 use mathlib.Core.List.{List, map}
 use mathlib.Core.Path.{_≡_}

@@ -1,6 +1,6 @@
--- From freshly made tables no call of a list is refused by 1, 11 or 12, the load is never above its
--- bound, and versions + prepares are never above theirs: the invariant keeps the tables valid, and
--- every message in flight is expected.
+-- From freshly made tables, and from those that the check accepts, no call of a list is refused by
+-- 1, 11, 12 or 19, the load is never above its bound, and versions + prepares are never above
+-- theirs: the invariant keeps the tables valid and sound, and every message in flight is expected.
 use mathlib.Core.Bool.{Bool, true, false, not}
 use mathlib.Core.List.{List, [], _∷_}
 use mathlib.Core.Path.{_≡_, refl}
@@ -10,24 +10,28 @@ use lib.Dec.{leb}
 use lib.ListN.{length}
 use borrow.Author.Tests.{leb-false}
 use Rattle.basics.proofs.Cases.{by-test}
-use Rattle.itemset.specs.Set.{count}
-use Rattle.protocol.specs.Tables.{Sizes}
+use Rattle.protocol.specs.Tables.{Sizes, Tables}
 use Rattle.protocol.specs.Range.{Capacities, sizesInRange, valid, load, occupied}
-use Rattle.protocol.specs.Calls.{Call, startRead, startFastRead, startWrite, startMixed, deliver}
-use Rattle.protocol.specs.Calls.{show, clear, handOver, compare, Test, test, first, readTests}
-use Rattle.protocol.specs.Calls.{writeTests, refusal}
+use Rattle.protocol.specs.Calls.{Call, startRead, startFastRead, startWrite, deliver, show, clear}
+use Rattle.protocol.specs.Calls.{handOver, compare, check, Test, test, first, readTests, refusal}
+use Rattle.protocol.specs.Calls.{startMixed, writeTests}
+use Rattle.itemset.specs.Set.{count}
 use Rattle.condition3.specs.World.{World, begin, after}
+use Rattle.condition3.specs.Held.{held}
 use Rattle.protocol.proofs.Ranges.Tables.{facts-valid}
+use Rattle.condition3.proofs.Sound.Checked.{tells-check, check-sound}
 use Rattle.condition3.proofs.Link.{Inv}
 use Rattle.condition3.proofs.Link.Step.{begin-inv}
+use Rattle.condition3.proofs.Link.Held.{held-inv}
 use Rattle.condition3.proofs.Runs.Run.{after-inv}
 use Rattle.condition3.proofs.Runs.Deliverable.{deliverable}
 
--- none of the three
+-- none of the four
 pub record Mild (r : ℕ) : Type 0 where
   pub one : r ≡ 1 → ⊥
   pub eleven : r ≡ 11 → ⊥
   pub twelve : r ≡ 12 → ⊥
+  pub nineteen : r ≡ 19 → ⊥
 
 -- a list of tests gives 0 or the number of one of them
 mild-test : (n : ℕ) (b : Bool) (xs : List Test) → Mild n → Mild (first xs)
@@ -38,7 +42,12 @@ mild-test n false xs here rest = rest
 
 mild-none : Mild (first [])
 unfolding first
-mild-none = record { one = λ e. omega arith; eleven = λ e. omega arith; twelve = λ e. omega arith }
+mild-none = record {
+  one = λ e. omega arith;
+  eleven = λ e. omega arith;
+  twelve = λ e. omega arith;
+  nineteen = λ e. omega arith;
+}
 
 -- a test that doesn't apply
 passes : (n : ℕ) (b : Bool) (xs : List Test) → b ≡ false → Mild (first xs)
@@ -56,6 +65,7 @@ accepted-mild r e = record {
   one = λ f. omega arith;
   eleven = λ f. omega arith;
   twelve = λ f. omega arith;
+  nineteen = λ f. omega arith;
 }
 
 module _ (caps : Capacities) (w : World) (inv : Inv caps w) where
@@ -102,18 +112,31 @@ module _ (caps : Capacities) (w : World) (inv : Inv caps w) where
       (mild-test 18 _ _ (omega arith) (mild-test 4 _ _ (omega arith) mild-none)))
   mild (compare d e) =
       passes 1 _ _ is-valid (mild-test 3 _ _ (omega arith) mild-none)
+  mild check =
+      accepted-mild (refusal caps (w .tables) check)
+      (tells-check caps (w .tables) .1 (inv .ledger, inv .sound))
 
--- ---- on a list from freshly made tables, before each of its calls
+-- ---- on a list from such tables, before each of its calls
 
-module _ (caps : Capacities) (z : Sizes) (ok : sizesInRange z ≡ true) (before : List Call) where
-  inv-here : Inv caps (after caps (begin z) before)
-  inv-here = after-inv caps (begin z) (begin-inv caps z ok) before
+pub record Never (caps : Capacities) (w : World) : Type 0 where
+  pub refused : (c : Call) → Mild (refusal caps (w .tables) c)
+  pub load : load (w .tables) ≤ caps .load
+  pub occupied : occupied (w .tables) ≤ caps .versions
 
-  pub never-refused : (c : Call) → Mild (refusal caps (after caps (begin z) before .tables) c)
-  never-refused = mild caps (after caps (begin z) before) inv-here
+never-from : (caps : Capacities) (w : World) → Inv caps w → (before : List Call)
+    → Never caps (after caps w before)
+never-from caps w inv before =
+    let here = after-inv caps w inv before in
+    record {
+      refused = mild caps (after caps w before) here;
+      load = here .sound .valid .load;
+      occupied = here .sound .valid .occupied;
+    }
 
-  pub load-bounded : load (after caps (begin z) before .tables) ≤ caps .load
-  load-bounded = inv-here .sound .valid .load
+pub never : (caps : Capacities) (z : Sizes) → sizesInRange z ≡ true → (before : List Call)
+    → Never caps (after caps (begin z) before)
+never caps z ok = never-from caps (begin z) (begin-inv caps z ok)
 
-  pub occupied-bounded : occupied (after caps (begin z) before .tables) ≤ caps .versions
-  occupied-bounded = inv-here .sound .valid .occupied
+pub never-accepted : (caps : Capacities) (t : Tables) → refusal caps t check ≡ 0
+    → (before : List Call) → Never caps (after caps (held t) before)
+never-accepted caps t e = never-from caps (held t) (held-inv caps t (check-sound caps t e))

@@ -20,8 +20,11 @@ pub mod DeliverCommit
 pub mod DeliverGet
 pub mod DeliverGot
 pub mod DeliverFirst
-use mathlib.Core.Bool.{Bool, true, false, cond, not, _&&_, _||_}
-use mathlib.Core.List.{List, [], _∷_}
+pub mod Check
+pub mod Passes
+pub mod Checked
+use mathlib.Core.Bool.{true, false, cond, _||_}
+use mathlib.Core.List.{List}
 use mathlib.Core.Logic.{_≢_}
 use mathlib.Core.Path.{_≡_}
 use Prim.Native.Nat.{ℕ, _≤_, _<_}
@@ -33,11 +36,13 @@ use Rattle.protocol.specs.declared.Entry.{Entry}
 use Rattle.protocol.specs.declared.Message.{Message}
 use Rattle.protocol.specs.declared.Message.the-variants.{Prepare, Prepared, Commit, Get, Got}
 use Rattle.protocol.specs.declared.Message.the-variants.{FirstGet, FirstReply}
-use Rattle.protocol.specs.Tables.{Tables, Client, Side, awaitedOf, Ended, showsWrite, stampOf}
-use Rattle.protocol.specs.Tables.{entryOf, numberOf, writerOf}
+use Rattle.protocol.specs.Tables.{Tables, Client, ReadPart, Side, awaitedOf, Ended, showsWrite}
+use Rattle.protocol.specs.Tables.{stampOf, entryOf, numberOf, writerOf}
 use Rattle.protocol.specs.Message.{ownerOf}
 use Rattle.protocol.specs.Range.{Capacities, hasFirst}
 use Rattle.protocol.specs.Steps.{stored}
+use Rattle.protocol.specs.Check.{answeredAgain}
+unfoldable pub use Rattle.protocol.specs.Check.{distinct}
 use Rattle.protocol.proofs.Ranges.Values.{IsClient}
 use Rattle.protocol.proofs.Ranges.Tables.{Valid}
 use Rattle.condition3.proofs.Common.{isFor}
@@ -67,11 +72,6 @@ pub record Kept (L : Ledger) (client : ℕ → Client) (v : Version) : Type 0 wh
   pub value : v .value ≡ L .value (v .stamp) (v .item)
   pub number : Counted client (v .stamp)
 
--- no two stored versions are alike
-unfoldable pub distinct : List Version → Bool
-distinct [] = true
-distinct (v ∷ vs) = not (stored vs (v .item) (v .stamp)) && distinct vs
-
 -- a write part under way is stamped with its own client and count, its set and values agree, and
 -- its items no longer awaited are stored
 pub record Writes (L : Ledger) (vs : List Version) (d : ℕ) (c : Client) : Type 0 where
@@ -90,6 +90,12 @@ pub record Past (L : Ledger) (client : ℕ → Client) (set stamp : ℕ) : Type 
 abbrev pub Last : Ledger → (ℕ → Client) → Ended → Type 0
 Last L client e =
     showsWrite (e .kind) ≡ true → Past L client (e .write .set) (e .write .stamp)
+
+-- a first reply that a read under way keeps holds its version's value, until its item's second
+-- answer has come
+abbrev pub FirstValue : Ledger → ReadPart → ℕ → Type 0
+FirstValue L p k = hasFirst p k ≡ true → answeredAgain p k ≡ false
+    → p .values k ≡ L .value (p .firsts k .stamp) k
 
 -- a message fits its part of its client's transaction, in stamp, set and value; a commit's write is
 -- whole
@@ -163,6 +169,7 @@ pub record SoundBy (caps : Capacities) (L : Ledger) (t : Tables) : Type 0 where
   -- first replies that have come, until the read ends
   pub firsts : (d k : ℕ) → IsClient (t .sizes) d → hasFirst (t .client d .read) k ≡ true
       → GoodEntry L (t .versions) k (t .client d .read .firsts k)
+  pub firstValues : (d k : ℕ) → IsClient (t .sizes) d → FirstValue L (t .client d .read) k
   -- each item awaited, of either part, has exactly one message, and every other message is a commit
   pub one : (σ : Side) (d k : ℕ) → IsClient (t .sizes) d
       → counted (isFor σ d k) (t .messages) ≡ cond (has (awaitedOf σ (t .client d)) k) 1 0

@@ -1,8 +1,15 @@
 -- Condition 3 of the tender: one claim about a list of calls, empty or as long as you like, made
--- one after another from a world (freshly made tables are `begin`, specs/World.antt). Each clause
--- of the condition is one field, with the clause's own words above it; document 01's line is an
--- item here, its desk a client, its cabinet a partition. It is proved for all capacities, all sizes
--- that refusal 2 allows and all lists: `condition-3`, proofs/Condition3.antt.
+-- one after another from a world. Each clause of the condition is one field, with the clause's own
+-- words above it; document 01's line is an item here, its desk a client, its cabinet a partition.
+-- It is proved for all capacities and all lists, from freshly made tables of all sizes that refusal
+-- 2 allows (`begin`, specs/World.antt) and from all tables that the check accepts (`held`,
+-- specs/Held.antt): `condition-3`, `condition-3-accepted`, proofs/Condition3.antt.
+--
+-- A clause about a read or a write is about those that the list itself begins. So from an accepted
+-- block the clause holds 'of reads and writes begun from then on' (document 02, P9). A clause that
+-- looks back at earlier reads or writes holds 'as to those begun from then on'. 'A write in the
+-- list' is a write of the world after the list. From an accepted block these are also the writes
+-- that the block held, 'whole or under way' (`entries`, specs/Held.antt).
 use mathlib.Core.Bool.{Bool, true, false, cond}
 use mathlib.Core.List.{List, [], _∷_, _++_, map}
 use mathlib.Core.Logic.{_⊎_, _↔_}
@@ -20,7 +27,7 @@ use Rattle.protocol.specs.Message.{partsOf, isPrepare, ownerOf}
 use Rattle.protocol.specs.Range.{Capacities}
 use Rattle.protocol.specs.Steps.{asks, nextStamp, commits, valueOf}
 use Rattle.protocol.specs.Calls.{Call, startRead, startFastRead, startWrite, startMixed, deliver}
-use Rattle.protocol.specs.Calls.{show, clear, handOver, refusal, step}
+use Rattle.protocol.specs.Calls.{show, clear, handOver, check, refusal, step}
 use Rattle.condition3.specs.World.{World, Labelled, Write, Store, placed, begun, storing}
 use Rattle.condition3.specs.World.{joining, after, joiningOver, leavingOver, isRequest}
 use Rattle.condition3.specs.World.{isReply, isPreparedReply, isPrepareOf, isCommitOf}
@@ -549,6 +556,10 @@ module _ (caps : Capacities) (w : World) where
         (after caps w (before ++ clear ∷ [])) between) + count s ≤ n
         → refusal caps (after caps w (before ++ clear ∷ between) .tables)
         (startWith κ d s bytes) ≡ 9 → ⊥
+    -- 'every block our own calls make from a fresh start or an accepted block is accepted'
+    -- (document 02, P9)
+    pub checks : (before rest : List Call) → calls ≡ before ++ rest
+        → refusal caps (after caps w before .tables) check ≡ 0
     -- 'a delivery at any place within the pile is accepted'
     -- and so, 'with clearings among the calls', a read 'meets no 12' (document 02, P5)
     pub deliverable : (before rest : List Call) → calls ≡ before ++ rest

@@ -11,7 +11,7 @@ use Rattle.protocol.specs.declared.Message.{Message}
 use Rattle.protocol.specs.declared.Message.the-variants.{Commit}
 use Rattle.protocol.specs.declared.Answer.{Answer}
 use Rattle.protocol.specs.declared.Answer.the-variants.{Refused, Made, Started, Delivered, Shown}
-use Rattle.protocol.specs.declared.Answer.the-variants.{Cleared, HandedOver, Compared}
+use Rattle.protocol.specs.declared.Answer.the-variants.{Cleared, HandedOver, Compared, Checked}
 use Rattle.protocol.specs.Tables.{Tables, Sizes, WritePart, fresh}
 use Rattle.protocol.specs.Message.{isPrepare, isPrepared, isCommit, isGot, isFirstReply, isAnyGet}
 use Rattle.protocol.specs.Message.{isAnyGot, itemOf}
@@ -206,6 +206,7 @@ outcomeIn (Shown n) = 0
 outcomeIn (Cleared n) = 0
 outcomeIn (HandedOver giver receiver) = 0
 outcomeIn (Compared n) = 0
+outcomeIn Checked = 0
 
 -- the call delivers a message of client d
 abbrev pub isDelivery : World → ℕ → Origin → Bool

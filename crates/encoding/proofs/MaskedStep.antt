@@ -31,7 +31,7 @@ use Rattle.protocol.specs.Steps.{offered, seen, committed, delivered, joined, m
 use Rattle.protocol.specs.Clear.{cleared}
 use Rattle.protocol.specs.HandOver.{takenOver}
 use Rattle.protocol.specs.Calls.{Call, startRead, startFastRead, startWrite, startMixed, deliver}
-use Rattle.protocol.specs.Calls.{show, clear, handOver, compare, refusal, effect}
+use Rattle.protocol.specs.Calls.{show, clear, handOver, compare, check, refusal, effect}
 use Rattle.protocol.proofs.FastRead.{first-in-set, first-come, first-kept, first-apart, first-other}
 use Rattle.protocol.proofs.Put.{by-cond, put-all, put-other, put-every}
 use Rattle.protocol.proofs.Stored.{found-held}
@@ -378,6 +378,7 @@ masked-step caps t (handOver d r) e m =
     masked-view t m r (takenOver t d r) (accepted-hand-over caps t d r .0 e .receiver)
     (λ k f. rw (m .itemView r k f, m .itemView d k f) refl)
 masked-step caps t (compare d r) e m = m
+masked-step caps t check e m = m
 
 pub masked-fresh : (z : Sizes) → Masked (fresh z)
 masked-fresh z =

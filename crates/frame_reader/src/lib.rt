@@ -96,6 +96,10 @@ fn parse_later(f: &[u8]) -> Parsed
         };
         return Parsed::Frame { frame, length };
     }
+    if is_frame(f, 0x43, 1) {
+        let frame = StoreFrame::Check;
+        return Parsed::Frame { frame, length };
+    }
     Parsed::Malformed
 }
 

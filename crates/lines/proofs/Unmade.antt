@@ -23,7 +23,7 @@ use Rattle.block_calls.specs.Calls.{freshRefusalOn, freshAnswerOn, freshAfter, 
 use Rattle.block_calls.specs.Calls.{blockAfter}
 use Rattle.store_frames.specs.declared.StoreFrame.the-variants.{Fresh, Read, Write, Deliver, Show}
 use Rattle.store_frames.specs.declared.StoreFrame.the-variants.{FastRead, Mixed, Clear, HandOver}
-use Rattle.store_frames.specs.declared.StoreFrame.the-variants.{Compare}
+use Rattle.store_frames.specs.declared.StoreFrame.the-variants.{Compare, Check}
 use Rattle.store_frames.specs.declared.Parsed.{Parsed}
 use Rattle.store_frames.specs.declared.Parsed.the-variants.{Frame, Malformed}
 use Rattle.store_frames.specs.Answers.{answerLine}
@@ -49,6 +49,7 @@ isOther (Frame (Mixed client r s) n) = true
 isOther (Frame Clear n) = true
 isOther (Frame (HandOver giver receiver) n) = true
 isOther (Frame (Compare first second) n) = true
+isOther (Frame Check n) = true
 
 module _ (b : List ℕ) (zeros : Zeros b) where
   invalid : validBlock b ≡ false
@@ -76,6 +77,7 @@ module _ (b : List ℕ) (zeros : Zeros b) where
   other-answer f o (Frame Clear n) e = refused _
   other-answer f o (Frame (HandOver giver receiver) n) e = refused _
   other-answer f o (Frame (Compare first second) n) e = refused _
+  other-answer f o (Frame Check n) e = refused _
 
   other-block : (f o : List ℕ) (p : Parsed) → isOther p ≡ true → parsedBlock b f o p ≡ b
   unfolding isOther parsedBlock callBlock
@@ -90,6 +92,7 @@ module _ (b : List ℕ) (zeros : Zeros b) where
   other-block f o (Frame Clear n) e = kept _
   other-block f o (Frame (HandOver giver receiver) n) e = kept _
   other-block f o (Frame (Compare first second) n) e = kept _
+  other-block f o (Frame Check n) e = kept _
 
   -- an `01` that isn't accepted changes nothing either
   made-or-kept : (r : ℕ) (x : List ℕ) → (pick r Made (Refused r) ≡ Made → ⊥) → pick r x b ≡ b
@@ -112,6 +115,7 @@ module _ (b : List ℕ) (zeros : Zeros b) where
   unmade-parsed f o (Frame Clear n) h = kept _
   unmade-parsed f o (Frame (HandOver giver receiver) n) h = kept _
   unmade-parsed f o (Frame (Compare first second) n) h = kept _
+  unmade-parsed f o (Frame Check n) h = kept _
 
   unmade-line : (line : List ℕ) → (lineAnswer b line ≡ Made → ⊥) → lineBlock b line ≡ b
   unmade-line line h = unmade-parsed (frameBytes line) blank (storeFrameOf line) h

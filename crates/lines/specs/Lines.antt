@@ -8,13 +8,13 @@ use Rattle.protocol.specs.declared.Answer.{Answer}
 use Rattle.protocol.specs.declared.Answer.the-variants.{Refused}
 use Rattle.protocol.specs.LogFrame.{mostLogFrame}
 use Rattle.protocol.specs.Calls.{startRead, startFastRead, startWrite, startMixed, deliver, show}
-use Rattle.protocol.specs.Calls.{clear, handOver, compare}
+use Rattle.protocol.specs.Calls.{clear, handOver, compare, check}
 use Rattle.gather.specs.Sized.{sizes}
 use Rattle.block_calls.specs.Calls.{freshAnswerOn, freshAfter, answerOn, outputOn, blockAfter}
 use Rattle.store_frames.specs.declared.StoreFrame.{StoreFrame}
 use Rattle.store_frames.specs.declared.StoreFrame.the-variants.{Fresh, Read, Write, Deliver, Show}
 use Rattle.store_frames.specs.declared.StoreFrame.the-variants.{FastRead, Mixed, Clear, HandOver}
-use Rattle.store_frames.specs.declared.StoreFrame.the-variants.{Compare}
+use Rattle.store_frames.specs.declared.StoreFrame.the-variants.{Compare, Check}
 use Rattle.store_frames.specs.declared.Parsed.{Parsed}
 use Rattle.store_frames.specs.declared.Parsed.the-variants.{Frame, Malformed}
 use Rattle.store_frames.specs.Answers.{answerLine}
@@ -34,6 +34,7 @@ callAnswer b f output (Mixed client r s) = answerOn b (startMixed client r s (mi
 callAnswer b f output Clear = answerOn b clear
 callAnswer b f output (HandOver giver receiver) = answerOn b (handOver giver receiver)
 callAnswer b f output (Compare first second) = answerOn b (compare first second)
+callAnswer b f output Check = answerOn b check
 
 unfoldable pub callBlock : List ℕ → List ℕ → List ℕ → StoreFrame → List ℕ
 callBlock b f output (Fresh clients partitions items) =
@@ -47,6 +48,7 @@ callBlock b f output (Mixed client r s) = blockAfter b (startMixed client r s (m
 callBlock b f output Clear = blockAfter b clear
 callBlock b f output (HandOver giver receiver) = blockAfter b (handOver giver receiver)
 callBlock b f output (Compare first second) = blockAfter b (compare first second)
+callBlock b f output Check = blockAfter b check
 
 unfoldable pub callOutput : List ℕ → List ℕ → List ℕ → StoreFrame → List ℕ
 callOutput b f output (Fresh clients partitions items) = output
@@ -59,6 +61,7 @@ callOutput b f output (Mixed client r s) = output
 callOutput b f output Clear = output
 callOutput b f output (HandOver giver receiver) = output
 callOutput b f output (Compare first second) = output
+callOutput b f output Check = output
 
 -- ---- the call of a line, 15 where it is malformed
 

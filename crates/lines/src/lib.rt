@@ -45,6 +45,7 @@ fn call(b: &mut [u64], frame: StoreFrame, f: &[u8], shown: &mut [u8]) -> Answer
             reads,
             writes,
         } => store_calls::start_mixed(b, client, reads, writes, &f[18..]),
+        StoreFrame::Check => store_calls::check(b),
     }
 }
 

@@ -8,14 +8,15 @@ use Prim.Native.Nat.{ℕ}
 use lib.Dec.{eqb}
 use lib.ListN.{length, drop}
 use Rattle.basics.specs.Lists.{all}
-use Rattle.protocol.specs.Calls.{startRead, startFastRead, startWrite, startMixed, deliver}
-use Rattle.protocol.specs.Calls.{show, clear, handOver, compare}
+use Rattle.protocol.specs.Calls.{startRead, startFastRead, startWrite, deliver, show, clear}
+use Rattle.protocol.specs.Calls.{handOver, compare, check, startMixed}
 use Rattle.protocol.proofs.Examples.Table.{Row, freshly, on, onEach, _⇒_, _keeping_}
 use Rattle.protocol.proofs.Examples.Table.{value, room, anything, right, messagesAre}
 use Rattle.protocol.proofs.Examples.Table.{entryIs}
 use Rattle.protocol.proofs.Examples.Begin.{sizes, entry, loaded, holding, seeing, ahead}
 use Rattle.protocol.proofs.Examples.Begin.{spent, crowded, strayed}
 use Rattle.protocol.proofs.Examples.Cleared.{clearings}
+use Rattle.protocol.proofs.Examples.Checked.{checks, failing}
 use Rattle.protocol.proofs.Examples.Faults.{faults}
 use Rattle.protocol.proofs.Examples.Falls.{falls}
 use Rattle.protocol.proofs.Examples.HandOver.{handOvers}
@@ -35,6 +36,7 @@ pub mod Widest
 pub mod Cleared
 pub mod HandOver
 pub mod Fast
+pub mod Checked
 pub mod Far
 pub mod Mixed
 
@@ -360,7 +362,7 @@ outOfRange =
           ∷ startMixed 9 0 0 [] ⇒ "01"
           ∷ deliver 0 ⇒ "01"
           ∷ show 1 (room 1) ⇒ "01" keeping "ee" ∷ clear ⇒ "01" ∷ handOver 1 1 ⇒ "01"
-          ∷ compare 9 9 ⇒ "01" ∷ [];
+          ∷ compare 9 9 ⇒ "01" ∷ check ⇒ "01" ∷ [];
       after = anything;
     }
 
@@ -387,12 +389,13 @@ rows =
     ∷ firstOfSeveral
     ∷ strays
     ∷ outOfRange
-    ∷ numbers ++ (falls ++ (widest ++ (clearings ++ (handOvers ++ (fasts ++ (mixes ++ pinned))))))
+    ∷ numbers ++ (falls ++ (widest ++ (clearings ++ (handOvers ++ (fasts ++ (mixes
+    ++ (checks ++ pinned)))))))
 
 pub examples : all right rows ≡ true
-unfolding all right
+unfolding all right failing
 examples = refl
 
 pub far-examples : all (λ b. b) far ≡ true
-unfolding all done shows ranged
+unfolding all done shows ranged failing
 far-examples = refl

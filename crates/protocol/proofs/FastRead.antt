@@ -5,10 +5,10 @@ use mathlib.Core.Logic.{_≢_}
 use mathlib.Core.Path.{_≡_, refl, sym, _∙_}
 use Prim.Native.Nat.{ℕ, _^_, _≤_, _<_}
 use native.Mathlib.Omega.{arith}
-use lib.Dec.{ltb}
+use lib.Dec.{eqb, ltb}
 use lib.ListN.{length, length-map}
-use borrow.Author.Tests.{ne-eqb, ltb-true, ltb-false, lt-ltb}
-use Rattle.basics.proofs.Cases.{by-test, not-both, and-left, and-right}
+use borrow.Author.Tests.{ne-eqb, eqb-true, ltb-true, ltb-false, lt-ltb}
+use Rattle.basics.proofs.Cases.{by-test, not-both, and-left, and-right, not-false}
 use Rattle.itemset.specs.Set.{has, count}
 use Rattle.itemset.proofs.Laws.{has-remove-other}
 use Rattle.itemset.proofs.Counts.{count-within}
@@ -17,6 +17,7 @@ use Rattle.itemset.proofs.SetOf.{setOf-below, has-setOf}
 use Rattle.protocol.specs.declared.Version.{Version}
 use Rattle.protocol.specs.Tables.{ReadPart, isFirstPart, isSecondPart}
 use Rattle.protocol.specs.Range.{hasFirst}
+use Rattle.protocol.specs.Check.{answeredAgain}
 use Rattle.protocol.specs.FastRead.{repliesOf, freshest, stale, firstKept, secondGets}
 use Rattle.protocol.proofs.Stored.{choice-own}
 
@@ -67,6 +68,31 @@ pub first-other : (p : ReadPart) (v : Version) (k : ℕ) → k ≢ v .item
     → hasFirst (firstKept p v) k ≡ hasFirst p k
 unfolding hasFirst
 first-other p v k other = rw (has-remove-other (p .awaited) (v .item) k other) refl
+
+-- ---- whose second answer has come (document 02, P9)
+
+-- in the first part none
+pub first-unanswered : (p : ReadPart) (k : ℕ) → p .stage ≡ 1 → answeredAgain p k ≡ false
+unfolding answeredAgain
+first-unanswered p k e = rw e refl
+
+-- for the rest it goes by what is awaited and asked
+pub answered-other : (p q : ReadPart) (k : ℕ) → q .stage ≡ p .stage
+    → q .asked k ≡ p .asked k → q .firsts k ≡ p .firsts k
+    → has (q .awaited) k ≡ has (p .awaited) k → answeredAgain q k ≡ answeredAgain p k
+unfolding answeredAgain
+answered-other p q k s a f w = rw (s, a, f, w) refl
+
+-- an item that the second part has struck, and yet not answered again, was asked for with its first
+-- reply's stamp
+pub answered-first : (p : ReadPart) (k : ℕ) → p .stage ≢ 1 → hasFirst p k ≡ true
+    → answeredAgain p k ≡ false → has (p .awaited) k ≡ false → p .asked k ≡ p .firsts k .stamp
+unfolding hasFirst answeredAgain
+answered-first p k n h again struck =
+    by-test (isSecondPart p)
+    (λ s. eqb-true (p .asked k) (p .firsts k .stamp)
+    (not-false (eqb (p .asked k) (p .firsts k .stamp)) (rw (s, struck) at again)))
+    (λ s. not-both (and-right (has (p .set) k) false (rw (s, ne-eqb (p .stage) 1 n) at h)) refl)
 
 -- ---- the stamps that they show
 

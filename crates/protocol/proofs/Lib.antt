@@ -23,4 +23,6 @@ pub mod HandOver
 pub mod Kept
 pub mod Sorts
 pub mod Keeps
+pub mod Checks
+pub mod CheckWords
 pub mod Valid

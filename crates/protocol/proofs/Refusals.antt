@@ -20,10 +20,11 @@ use Rattle.protocol.specs.Tables.{Sizes, Tables, Client, writerOf, Ended
 use Rattle.protocol.specs.Tables.{ofRead, ofWrite, awaitedOf}
 use Rattle.protocol.specs.Range.{Capacities, load, occupied}
 use Rattle.protocol.specs.Steps.{messageAt, greatestOf}
-use Rattle.protocol.specs.Calls.{startRead, startFastRead, startWrite, startMixed, deliver}
-use Rattle.protocol.specs.Calls.{show, clear}
-use Rattle.protocol.specs.Calls.{handOver, compare, Test, test, first, unexpected, missing}
-use Rattle.protocol.specs.Calls.{isNothing, writeTests, refusal, freshRefusal, shownFrame}
+use Rattle.protocol.specs.Calls.{startRead, startFastRead, startWrite, deliver, show, clear}
+use Rattle.protocol.specs.Calls.{handOver, compare, check, Test, test, first, unexpected}
+use Rattle.protocol.specs.Calls.{missing, isNothing, refusal, freshRefusal, shownFrame}
+use Rattle.protocol.specs.Calls.{startMixed, writeTests}
+use Rattle.protocol.specs.Check.{sound}
 use Rattle.protocol.proofs.Tells.{tells}
 use Rattle.protocol.proofs.Each.{Each}
 use Rattle.protocol.proofs.Ranges.Values.{SizesInRange, tells-sizes, IsClient}
@@ -274,7 +275,7 @@ pub accepted-message : (caps : Capacities) (t : Tables) (i : ℕ) → AcceptedDe
 accepted-message caps t i a = a .valid .inRange .messages (messageAt t i)
     (in-getD (t .messages) i (Commit 0 0) (a .place))
 
--- ---- Fresh starts, showings, clearings, hand-overs and comparisons
+-- ---- Fresh starts, showings, clearings, hand-overs, comparisons and checks
 
 pub accepted-fresh : (z : Sizes) → (freshRefusal z ≡ 0) ↔ SizesInRange z
 accepted-fresh z = (
@@ -332,6 +333,19 @@ pub accepted-compare : (caps : Capacities) (t : Tables) (d e : ℕ)
 unfolding refusal
 accepted-compare caps t d e = (
   λ h. let f = simp tests at h in
+      search,
+  λ a. simp tests (search first-empty),
+)
+
+pub record AcceptedCheck (caps : Capacities) (t : Tables) : Type 0 where
+  pub valid : Valid caps t
+  pub passes : sound t ≡ true
+
+pub accepted-check : (caps : Capacities) (t : Tables)
+    → (refusal caps t check ≡ 0) ↔ AcceptedCheck caps t
+unfolding refusal
+accepted-check caps t = (
+  λ e. let f = simp tests at e in
       search,
   λ a. simp tests (search first-empty),
 )

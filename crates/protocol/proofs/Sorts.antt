@@ -8,6 +8,7 @@ use Prim.Native.Nat.{ℕ, _≤_, _<_}
 use native.Mathlib.Nat.{le-refl}
 use Rattle.protocol.specs.declared.Answer.{Answer}
 use Rattle.protocol.specs.declared.Answer.the-variants.{Cleared, HandedOver, Compared}
+use Rattle.protocol.specs.declared.Answer.the-variants.{Checked}
 use Rattle.protocol.specs.declared.Entry.{Entry}
 use Rattle.protocol.specs.declared.Version.{Version}
 use Rattle.protocol.specs.Tables.{Tables, withVersions}
@@ -15,17 +16,17 @@ use Rattle.protocol.specs.Range.{Capacities}
 use Rattle.protocol.specs.Steps.{stored}
 use Rattle.protocol.specs.Clear.{unused, cleared, gone}
 use Rattle.protocol.specs.HandOver.{handedOver, standing}
-use Rattle.protocol.specs.Calls.{Call, startRead, startFastRead, startWrite, startMixed}
-use Rattle.protocol.specs.Calls.{deliver, show, clear, handOver, compare, refusal, quiet}
-use Rattle.protocol.specs.Calls.{effects}
+use Rattle.protocol.specs.Calls.{Call, startRead, startFastRead, startWrite, deliver, show}
+use Rattle.protocol.specs.Calls.{clear, handOver, compare, check, refusal, quiet, effects}
+use Rattle.protocol.specs.Calls.{startMixed}
 use Rattle.protocol.proofs.Cleared.{cleared-sublist, stored-cleared}
 use Rattle.protocol.proofs.Ranges.Values.{IsClient}
 use Rattle.protocol.proofs.Ranges.Tables.{Valid}
-use Rattle.protocol.proofs.Refusals.{AcceptedStart, AcceptedWrite, AcceptedMixed}
-use Rattle.protocol.proofs.Refusals.{AcceptedDeliver, accepted-read, accepted-fast-read}
-use Rattle.protocol.proofs.Refusals.{accepted-write, accepted-mixed, accepted-deliver}
-use Rattle.protocol.proofs.Refusals.{accepted-show, accepted-clear}
-use Rattle.protocol.proofs.Refusals.{accepted-hand-over, accepted-compare}
+use Rattle.protocol.proofs.Refusals.{AcceptedStart, AcceptedWrite, AcceptedDeliver}
+use Rattle.protocol.proofs.Refusals.{accepted-read, accepted-fast-read, accepted-write}
+use Rattle.protocol.proofs.Refusals.{accepted-deliver, accepted-show, accepted-clear}
+use Rattle.protocol.proofs.Refusals.{accepted-hand-over, accepted-compare, accepted-check}
+use Rattle.protocol.proofs.Refusals.{AcceptedMixed, accepted-mixed}
 use Rattle.protocol.proofs.HandOver.{handed-taken, handed-grows}
 
 -- the tables with other views and stored versions
@@ -132,3 +133,5 @@ module _ (caps : Capacities) (t : Tables) where
   sort (compare d e) h =
       apart (compare d e) (accepted-compare caps t d e .0 h .valid)
       (still t (compare d e) [] (Compared (standing t d e)) refl)
+  sort check e =
+      apart check (accepted-check caps t .0 e .valid) (still t check [] Checked refl)

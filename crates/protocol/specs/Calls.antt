@@ -13,6 +13,7 @@ use Rattle.protocol.specs.declared.Message.the-variants.{FirstGet, First
 use Rattle.protocol.specs.declared.Answer.{Answer}
 use Rattle.protocol.specs.declared.Answer.the-variants.{Refused, Made, Started, Delivered}
 use Rattle.protocol.specs.declared.Answer.the-variants.{Shown, Cleared, HandedOver, Compared}
+use Rattle.protocol.specs.declared.Answer.the-variants.{Checked}
 use Rattle.protocol.specs.Tables.{Sizes, Tables, WritePart, Ended, isFirstPart, writerOf}
 use Rattle.protocol.specs.Message.{partsOf, kindOf, isPrepare, isFirstGet, isAnyGet, itemOf}
 use Rattle.protocol.specs.Range.{Capacities, valid, sizesInRange, isClient, isIdle, load}
@@ -23,6 +24,7 @@ use Rattle.protocol.specs.Steps.{deliveryOf, gets, prepares, writer, joi
 use Rattle.protocol.specs.Steps.{mixer, mixedMessages, startedMixed}
 use Rattle.protocol.specs.Clear.{cleared, gone}
 use Rattle.protocol.specs.HandOver.{handedOver, standing}
+use Rattle.protocol.specs.Check.{sound}
 use Rattle.protocol.specs.LogFrame.{frame, handOverFrame}
 
 -- The calls that follow a fresh start. A write brings its value bytes, a mixed start its read set
@@ -37,6 +39,7 @@ pub data Call : Type 0 where
   clear : Call
   handOver : (giver receiver : ℕ) → Call
   compare : (first second : ℕ) → Call
+  check : Call
 
 -- ---- Refusal table: each call's tests in their order
 
@@ -157,6 +160,8 @@ refusal caps t (compare d e) =
     (test 1 (not (valid caps t))
     ∷ test 3 (not (isClient (t .sizes) d && isClient (t .sizes) e))
     ∷ [])
+-- 'It refuses 19 for any other block, tested after 1' (document 02, P9)
+refusal caps t check = first (test 1 (not (valid caps t)) ∷ test 19 (not (sound t)) ∷ [])
 
 -- of a fresh start, a block's length apart; accepted, its tables are `fresh z`
 abbrev pub freshRefusal : Sizes → ℕ
@@ -250,6 +255,7 @@ effects t clear = quiet (cleared t) [] (Cleared (gone t))
 effects t (handOver giver receiver) = quiet (handedOver t giver receiver) []
     (HandedOver giver receiver)
 effects t (compare d e) = quiet t [] (Compared (standing t d e))
+effects t check = quiet t [] Checked
 
 unfoldable pub effect : Tables → Call → Tables
 effect t c = effects t c .tables
@@ -271,6 +277,7 @@ lent (show d output) = output
 lent clear = []
 lent (handOver giver receiver) = []
 lent (compare d e) = []
+lent check = []
 
 -- What a call gives: its answer, the tables after it, the output after it. A refusal changes
 -- nothing.
@@ -307,6 +314,7 @@ numberOfAnswer (Shown n) = n * 2 ^ 8
 numberOfAnswer (Cleared n) = n * 2 ^ 8
 numberOfAnswer (HandedOver giver receiver) = 0
 numberOfAnswer (Compared n) = n * 2 ^ 8
+numberOfAnswer Checked = 0
 
 -- what the driver prints as digits; after a show or a hand-over, the log frame's bytes follow
 unfoldable pub bytesOfAnswer : Answer → List ℕ → List ℕ
@@ -319,3 +327,4 @@ bytesOfAnswer (Shown n) output = 0 ∷ take n output
 bytesOfAnswer (Cleared n) output = 0 ∷ bigEndian 2 n
 bytesOfAnswer (HandedOver giver receiver) output = 0 ∷ handOverFrame giver receiver
 bytesOfAnswer (Compared n) output = 0 ∷ bigEndian 1 n
+bytesOfAnswer Checked output = 0 ∷ []

@@ -1,13 +1,13 @@
 -- What a message is (document 01, 'Tables' and 'Steps'): its parts, said once for each kind. All
 -- that is asked of a message as such goes by them.
-use mathlib.Core.Bool.{Bool, cond, _||_}
+use mathlib.Core.Bool.{Bool, cond, _&&_, _||_}
 use Prim.Native.Nat.{ℕ}
 use lib.Dec.{eqb, leb}
 use Rattle.protocol.specs.declared.Entry.{Entry}
 use Rattle.protocol.specs.declared.Message.{Message}
 use Rattle.protocol.specs.declared.Message.the-variants.{Prepare, Prepared, Commit, Get, Got}
 use Rattle.protocol.specs.declared.Message.the-variants.{FirstGet, FirstReply}
-use Rattle.protocol.specs.Tables.{initial, writerOf}
+use Rattle.protocol.specs.Tables.{Side, ofRead, ofWrite, initial, writerOf}
 
 pub record Parts : Type 0 where
   pub kind : ℕ
@@ -86,3 +86,13 @@ namesClient m = leb 4 (kindOf m)
 
 abbrev pub ownerOf : Message → ℕ
 ownerOf m = cond (namesClient m) (partsOf m .place) (writerOf (partsOf m .stamp))
+
+-- of a read part the gets and gots, of either kind, of a write part the prepares and prepared
+-- replies
+abbrev pub ofSide : Side → Message → Bool
+ofSide ofRead m = namesClient m
+ofSide ofWrite m = leb (kindOf m) 2
+
+-- for item k of that part of client d
+abbrev pub isFor : Side → ℕ → ℕ → Message → Bool
+isFor σ d k m = ofSide σ m && (eqb (ownerOf m) d && eqb (itemOf m) k)

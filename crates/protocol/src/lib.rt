@@ -107,4 +107,5 @@ pub enum Answer {
     Compared {
         standing: u64,
     },
+    Checked,
 }

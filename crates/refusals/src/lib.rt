@@ -6,7 +6,7 @@ ghost use lib.Dec.{eqb};
 ghost use Rattle.itemset.specs.Set.{allBelow};
 ghost use Rattle.protocol.specs.Range.{capacities, isClient};
 ghost use Rattle.protocol.specs.Calls.{startRead, startWrite, startMixed, show, clear, handOver};
-ghost use Rattle.protocol.specs.Calls.{compare, first, writeTests, refusal};
+ghost use Rattle.protocol.specs.Calls.{compare, check, first, writeTests, refusal};
 ghost use Rattle.layout.specs.Layout.{mostMessages, header, scalars, at, itemsAt, modeAt};
 ghost use Rattle.layout.specs.Decode.{sizesIn, tablesOf, validBlock};
 ghost use Rattle.gather.specs.Sized.{sizes};
@@ -299,4 +299,18 @@ pub fn of_compare(b: &[u64], first: u64, second: u64) -> u64
     } else {
         1
     }
+}
+
+fn of_valid_check(b: &[u64]) -> u64
+    requires { ⌜ validBlock (now b) ≡ true ⌝ }
+    ensures { λ r. ⌜ r ≡ refusal capacities (tablesOf (now (b .entry))) check ⌝ }
+{
+    if check_block::check(b) { 0 } else { 19 }
+}
+
+// 19 for a valid block that breaks a rule of document 02's P9.
+pub fn of_check(b: &[u64]) -> u64
+    ensures { λ r. ⌜ r ≡ refusalOn (now (b .entry)) check ⌝ }
+{
+    if valid_block(b) { of_valid_check(b) } else { 1 }
 }

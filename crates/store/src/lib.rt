@@ -1,10 +1,10 @@
-// The store: ten calls on one lent block of words (document 01: fresh, start a read, start a write,
-// deliver, show; document 02: start a fast read, start a mixed transaction, clear, hand over,
-// compare), for C. Each returns a number: refused, the refusal; accepted, 0 in the lowest byte and
-// the answer above it (`numberOfAnswer`).
+// The store: eleven calls on one lent block of words (document 01: fresh, start a read, start a
+// write, deliver, show; document 02: start a fast read, start a mixed transaction, clear, hand
+// over, compare, check), for C. Each returns a number: refused, the refusal; accepted, 0 in the
+// lowest byte and the answer above it (`numberOfAnswer`).
 ghost use mathlib.Core.Path.{_≡_};
 ghost use Rattle.protocol.specs.Calls.{startRead, startFastRead, startWrite, startMixed, deliver};
-ghost use Rattle.protocol.specs.Calls.{show, clear, handOver, compare, numberOfAnswer};
+ghost use Rattle.protocol.specs.Calls.{show, clear, handOver, compare, check, numberOfAnswer};
 ghost use Rattle.layout.specs.Decode.{tablesOf};
 ghost use Rattle.gather.specs.Sized.{sizes};
 ghost use Rattle.block_calls.specs.Calls.{freshAnswerOn, freshAfter, freshTables, answerOn};
@@ -32,6 +32,7 @@ fn number_of(a: Answer) -> u64
             receiver: _,
         } => 0,
         Answer::Compared { standing } => standing * 256,
+        Answer::Checked => 0,
     }
 }
 
@@ -166,4 +167,13 @@ pub extern "C" fn koolvent_compare(b: &[u64], first: u64, second: u64) -> u64
     ensures block { λ _. ⌜ now (b .exit) ≡ blockAfter (now (b .entry)) (compare first second) ⌝ }
 {
     number_of(store_calls::compare(b, first, second))
+}
+
+// The block is lent shared: a check doesn't change it.
+#[no_mangle]
+pub extern "C" fn koolvent_check(b: &[u64]) -> u64
+    ensures answer { λ r. ⌜ r ≡ numberOfAnswer (answerOn (now (b .entry)) check) ⌝ }
+    ensures block { λ _. ⌜ now (b .exit) ≡ blockAfter (now (b .entry)) check ⌝ }
+{
+    number_of(store_calls::check(b))
 }

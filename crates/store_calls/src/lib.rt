@@ -3,7 +3,7 @@ ghost use mathlib.Core.Path.{_≡_};
 ghost use Prim.Native.Nat.{_≤_};
 ghost use lib.ListN.{length};
 ghost use Rattle.protocol.specs.Calls.{startRead, startFastRead, startWrite, startMixed, show};
-ghost use Rattle.protocol.specs.Calls.{clear, handOver, compare};
+ghost use Rattle.protocol.specs.Calls.{clear, handOver, compare, check};
 ghost use Rattle.layout.specs.Layout.{needed, header, at, itemsAt};
 ghost use Rattle.layout.specs.Decode.{tablesOf};
 ghost use Rattle.gather.specs.Sized.{sizes};
@@ -242,6 +242,19 @@ pub fn compare(b: &[u64], first: u64, second: u64) -> Answer
     let refusal = refusals::of_compare(b, first, second);
     if refusal == 0 {
         compare_on(b, first, second)
+    } else {
+        Answer::Refused(refusal)
+    }
+}
+
+// The block is lent shared: a check doesn't change it.
+pub fn check(b: &[u64]) -> Answer
+    ensures answer { λ r. ⌜ r ≡ answerOn (now (b .entry)) check ⌝ }
+    ensures block { λ _. ⌜ now (b .exit) ≡ blockAfter (now (b .entry)) check ⌝ }
+{
+    let refusal = refusals::of_check(b);
+    if refusal == 0 {
+        Answer::Checked
     } else {
         Answer::Refused(refusal)
     }

@@ -11,11 +11,12 @@ use Rattle.hex.specs.Number.{numberAt, bigEndian}
 use Rattle.hex.specs.Text.{isHex, bytesOf, hexText}
 use Rattle.protocol.specs.declared.Answer.{Answer}
 use Rattle.protocol.specs.declared.Answer.the-variants.{Refused, Made, Started, Delivered, Shown}
-use Rattle.protocol.specs.declared.Answer.the-variants.{Cleared, HandedOver, Compared}
+use Rattle.protocol.specs.declared.Answer.the-variants.{Cleared, HandedOver, Compared, Checked}
 use Rattle.protocol.specs.Calls.{bytesOfAnswer}
 use Rattle.store_frames.specs.declared.StoreFrame.the-variants.{Fresh, Read, Write, Deliver}
 use Rattle.store_frames.specs.declared.StoreFrame.the-variants.{Show, FastRead, Mixed}
 use Rattle.store_frames.specs.declared.StoreFrame.the-variants.{Clear, HandOver, Compare}
+use Rattle.store_frames.specs.declared.StoreFrame.the-variants.{Check}
 use Rattle.store_frames.specs.declared.Parsed.{Parsed}
 use Rattle.store_frames.specs.declared.Parsed.the-variants.{Frame, Malformed}
 use Rattle.store_frames.specs.Answers.{answerLine}
@@ -60,6 +61,7 @@ handedOn (Frame (Mixed client r s) n) f = mixedBytes f
 handedOn (Frame Clear n) f = []
 handedOn (Frame (HandOver giver receiver) n) f = []
 handedOn (Frame (Compare first second) n) f = []
+handedOn (Frame Check n) f = []
 
 -- what the definitions give for its line
 reading : Row → Row
@@ -131,6 +133,10 @@ rows =
     ∷ "42\n" ⇒ Malformed
     ∷ "4208\n" ⇒ Malformed
     ∷ "42080100\n" ⇒ Malformed
+    -- check
+    ∷ "43\n" ⇒ Frame Check 1
+    ∷ "4300\n" ⇒ Malformed
+    ∷ "430102\n" ⇒ Malformed
     -- kinds that there aren't, and no byte at all
     ∷ "7f\n" ⇒ Malformed
     ∷ "0002\n" ⇒ Malformed
@@ -138,7 +144,7 @@ rows =
     ∷ "07020000000000000001\n" ⇒ Malformed
     ∷ "2102\n" ⇒ Malformed
     ∷ "220102\n" ⇒ Malformed
-    ∷ "430102\n" ⇒ Malformed
+    ∷ "44\n" ⇒ Malformed
     ∷ "\n" ⇒ Malformed
     ∷ "" ⇒ Malformed
     -- a last line without its 0a
@@ -189,6 +195,8 @@ answers =
     ∷ HandedOver 1 8 answered "00220108\n"
     ∷ Compared 0 answered "0000\n"
     ∷ Compared 3 answered "0003\n"
+    ∷ Refused 19 answered "13\n"
+    ∷ Checked answered "00\n"
     ∷ []
 
 -- ---- Each line and each answer is as its row says

@@ -13,6 +13,7 @@ use Rattle.store_frames.specs.declared.StoreFrame.{StoreFrame}
 use Rattle.store_frames.specs.declared.StoreFrame.the-variants.{Fresh, Read, Write, Deliver}
 use Rattle.store_frames.specs.declared.StoreFrame.the-variants.{Show, FastRead, Mixed}
 use Rattle.store_frames.specs.declared.StoreFrame.the-variants.{Clear, HandOver, Compare}
+use Rattle.store_frames.specs.declared.StoreFrame.the-variants.{Check}
 use Rattle.store_frames.specs.declared.Parsed.{Parsed}
 use Rattle.store_frames.specs.declared.Parsed.the-variants.{Frame, Malformed}
 use Rattle.store_frames.specs.StoreFrames.{kindOf, isStoreFrame, valuesIn, isValued}
@@ -85,6 +86,7 @@ parsed-long f h =
       isStoreFrame-other 0x41 3 f (λ e. omega arith),
       isStoreFrame-other 0x42 3 f (λ e. omega arith),
       isValued-other 0x07 18 f (omega arith) h,
+      isStoreFrame-other 0x43 1 f (λ e. omega arith),
     )
 
 -- ---- a frame: its length is that of the bytes, and a write has ten bytes before its values, a
@@ -101,6 +103,7 @@ Headed f (Mixed client r s) = 18 ≤ length f
 Headed f Clear = Unit
 Headed f (HandOver giver receiver) = Unit
 Headed f (Compare first second) = Unit
+Headed f Check = Unit
 
 abbrev Sized : List ℕ → Parsed → Type 0
 Sized f Malformed = Unit
@@ -115,7 +118,8 @@ later-sized f =
     (λ c. by-test (isStoreFrame 0x42 3 f) (λ d. rw (a, b, c, d) (refl, tt))
     (λ d. by-test (isMixed f)
     (λ e. rw (a, b, c, d, e) (refl, isValued-length 0x07 18 f e .0))
-    (λ e. rw (a, b, c, d, e) tt)))))
+    (λ e. by-test (isStoreFrame 0x43 1 f) (λ g. rw (a, b, c, d, e, g) (refl, tt))
+    (λ g. rw (a, b, c, d, e, g) tt))))))
 
 parsed-sized : (f : List ℕ) → Sized f (parsed f)
 unfolding parsed

@@ -12,7 +12,7 @@ use Rattle.hex.proofs.Stores.{sets-join}
 use Rattle.hex.specs.Text.{hexText}
 use Rattle.hex.proofs.Text.{length-hexText}
 use Rattle.protocol.specs.declared.Answer.the-variants.{Refused, Made, Started, Delivered, Shown}
-use Rattle.protocol.specs.declared.Answer.the-variants.{Cleared, HandedOver, Compared}
+use Rattle.protocol.specs.declared.Answer.the-variants.{Cleared, HandedOver, Compared, Checked}
 use Rattle.protocol.specs.LogFrame.{handOverFrame}
 use Rattle.protocol.specs.Calls.{bytesOfAnswer}
 use Rattle.store_frames.specs.Answers.{lineOf, answerLine}
@@ -123,6 +123,10 @@ pub answer-compared : (n : ℕ) (output : List ℕ)
     → lineOf (bigEndian 2 (n % 256)) ≡ answerLine (Compared n) output
 unfolding answerLine bytesOfAnswer
 answer-compared n output = ap lineOf (compared-bytes n)
+
+pub answer-checked : (output : List ℕ) → lineOf (bigEndian 1 0) ≡ answerLine Checked output
+unfolding answerLine bytesOfAnswer bigEndian
+answer-checked output = refl
 
 -- what one line is written as, another that is the same is
 pub written : {r : ℕ} (out : List ℕ) {after l m : List ℕ} → l ≡ m → (r ≡ length l)

@@ -15,6 +15,7 @@ use Rattle.store_frames.specs.Limits.{mostLine}
 use Rattle.store_frames.specs.declared.StoreFrame.the-variants.{Fresh, Read, Write, Deliver}
 use Rattle.store_frames.specs.declared.StoreFrame.the-variants.{Show, FastRead, Mixed}
 use Rattle.store_frames.specs.declared.StoreFrame.the-variants.{Clear, HandOver, Compare}
+use Rattle.store_frames.specs.declared.StoreFrame.the-variants.{Check}
 use Rattle.store_frames.specs.declared.Parsed.{Parsed}
 use Rattle.store_frames.specs.declared.Parsed.the-variants.{Frame, Malformed}
 
@@ -61,7 +62,7 @@ isMixed f = isValued 0x07 18 f
 
 -- document 02's: `06` desk, set: fast read, 'with the layout and checks of `02`'. `40`: clear. `41`
 -- giver, receiver (a byte each): hand over. `42` first, second: compare. 'Store frame `07` is desk,
--- read set, write set, values'. Any other is malformed
+-- read set, write set, values'. `43`: check the block. Any other is malformed
 unfoldable pub parsedLater : List ℕ → Parsed
 parsedLater f =
     let n = length f in
@@ -70,7 +71,8 @@ parsedLater f =
     (cond (isStoreFrame 0x41 3 f) (Frame (HandOver (numberAt 1 f 1) (numberAt 1 f 2)) n)
     (cond (isStoreFrame 0x42 3 f) (Frame (Compare (numberAt 1 f 1) (numberAt 1 f 2)) n)
     (cond (isMixed f) (Frame (Mixed (numberAt 1 f 1) (numberAt 8 f 2) (numberAt 8 f 10)) n)
-    Malformed))))
+    (cond (isStoreFrame 0x43 1 f) (Frame Check n)
+    Malformed)))))
 
 -- `01` desks, cabinets, lines (a byte each): fresh. `02` desk, set (8 bytes): read. `03` desk, set,
 -- values: write. `04` place (2 bytes): deliver. `05` desk: show; or one of document 02's

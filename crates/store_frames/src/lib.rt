@@ -51,6 +51,7 @@ pub enum StoreFrame {
         first: u64,
         second: u64,
     },
+    Check,
 }
 
 // What a line parses to.

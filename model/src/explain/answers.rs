@@ -24,7 +24,7 @@ pub fn sentence(frame: Option<&Call>, line: &[u8]) -> String {
 /// An accepted call's answer, if the bytes are one of this frame.
 fn accepted(frame: &Call, bytes: &[u8]) -> Option<String> {
     match (frame, bytes) {
-        (Call::Fresh { .. }, [0]) => Some("accepted".to_owned()),
+        (Call::Fresh { .. } | Call::Check, [0]) => Some("accepted".to_owned()),
         (
             Call::Read { .. } | Call::FastRead { .. } | Call::Write { .. } | Call::Mixed { .. },
             [0, high, low],

@@ -1,6 +1,6 @@
 //! The refusals of documents 01 and 02 in words.
 
-const WORDS: [&str; 18] = [
+const WORDS: [&str; 19] = [
     "the block is too short or damaged, or no fresh start was accepted yet",
     "sizes outside 1 to 8 clients, 1 to 8 partitions and 1 to 64 items",
     "no such client",
@@ -19,6 +19,7 @@ const WORDS: [&str; 18] = [
     "over 32,768 bytes or over 256 line ends",
     "a write of more than 12 items",
     "a hand-over of a client to itself",
+    "the block is in range, but not one that the calls make",
 ];
 
 /// The sentence of a refusal's number, if it is one.

@@ -38,6 +38,7 @@ pub fn sentence(call: &Call) -> String {
         Call::Compare { first, second } => {
             format!("client {first}'s view is compared with client {second}'s")
         }
+        Call::Check => "the block is checked".to_owned(),
     }
 }
 

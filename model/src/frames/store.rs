@@ -53,6 +53,7 @@ pub fn parse(line: &[u8]) -> Result<Call, String> {
         [0x42, first, second] => {
             return Ok(Call::Compare { first: first.into(), second: second.into() })
         }
+        [0x43] => return Ok(Call::Check),
         [1, ..] => "a fresh start has 4 bytes",
         [2, ..] => "a read has 10 bytes",
         [3, ..] => "a write has 10 bytes and 4 for each of at most 64 values",
@@ -63,6 +64,7 @@ pub fn parse(line: &[u8]) -> Result<Call, String> {
         [0x40, ..] => "a clearing has 1 byte",
         [0x41, ..] => "a hand-over has 3 bytes",
         [0x42, ..] => "a comparison has 3 bytes",
+        [0x43, ..] => "a check has 1 byte",
         _ => return Err(format!("unknown kind {:02x}", bytes[0])),
     };
     Err(format!("wrong length: {right}, this {}", bytes.len()))

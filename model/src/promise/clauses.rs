@@ -63,6 +63,9 @@ pub(super) fn ends_with_its_last_reply_alone(
     let mut running = 0;
     for transaction in history.running(label.client) {
         running += 1;
+        if transaction.held {
+            continue;
+        }
         let (read, write) = (transaction.read.as_ref(), transaction.write.as_ref());
         let is_reply =
             read.is_some() && label.is_reply() || write.is_some() && label.kind == Kind::Prepared;
@@ -91,7 +94,8 @@ pub(super) fn length_is_that_of_the_list(history: &History, answer: Answer) -> R
         | Answer::Shown { .. }
         | Answer::Cleared { .. }
         | Answer::HandedOver { .. }
-        | Answer::Compared { .. } => Ok(()),
+        | Answer::Compared { .. }
+        | Answer::Checked => Ok(()),
     }
 }
 
@@ -116,10 +120,15 @@ pub(super) fn freed_places_serve(
     holds(answer.refusal() != 9 || size(set) > history.freed, Clause::FreedPlaces)
 }
 
+/// A check is accepted.
+pub(super) fn check_is_accepted(answer: Answer) -> Result<(), Clause> {
+    holds(answer == Answer::Checked, Clause::Checking)
+}
+
 /// Every running read has exactly one request or reply of its client in the list for each item that
 /// has had fewer replies than requests.
 pub(super) fn one_message_for_each_awaited_item(history: &History) -> Result<(), Clause> {
-    let running = history.transactions.iter().filter(|of| of.ended.is_none());
+    let running = history.transactions.iter().filter(|of| of.ended.is_none() && !of.held);
     for transaction in running {
         let Some(read) = &transaction.read else {
             continue;
@@ -142,9 +151,9 @@ pub(super) fn one_message_for_each_awaited_item(history: &History) -> Result<(),
 }
 
 /// Of each item of its set a fast read has at most one first get, one get, one first reply and one
-/// got, and it asks for no other; one that the event ended too.
-pub(super) fn fast_reads_are_bounded(history: &History, event: usize) -> Result<(), Clause> {
-    for (of, read) in fast_reads_until(history, event) {
+/// got, and it asks for no other; one that ended just then too.
+pub(super) fn fast_reads_are_bounded(history: &History, time: usize) -> Result<(), Clause> {
+    for (of, read) in fast_reads_until(history, time) {
         if let Some(item) = read.out_of_bounds() {
             return Err(Clause::Bounded { client: of.client, item });
         }
@@ -153,7 +162,7 @@ pub(super) fn fast_reads_are_bounded(history: &History, event: usize) -> Result<
 }
 
 /// Until its n-th reply has come a fast read has sent n requests, and from then on it sends none
-/// beyond those that joined with that reply; one that the event ended too.
+/// beyond those that joined with that reply; one that ended just then too.
 ///
 /// What a delivery sends is in the labels as the steps say, so no delivery breaks this clause by
 /// itself: a store that sends a request sooner or later answers another length of the list, and
@@ -161,21 +170,18 @@ pub(super) fn fast_reads_are_bounded(history: &History, event: usize) -> Result<
 /// taken as they are answered, and one that is accepted while its client's fast read is under way
 /// sends requests besides. `Clause::Bounded` sees those of other items and those of a kind that was
 /// sent before, this clause also the get of an item that has had its first reply alone.
-pub(super) fn fast_reads_send_in_two_rounds(history: &History, event: usize) -> Result<(), Clause> {
-    for (of, read) in fast_reads_until(history, event) {
+pub(super) fn fast_reads_send_in_two_rounds(history: &History, time: usize) -> Result<(), Clause> {
+    for (of, read) in fast_reads_until(history, time) {
         let stated = read.sent.unwrap_or(size(read.set) as usize);
         holds(read.requests.len() == stated, Clause::TwoRounds { client: of.client })?;
     }
     Ok(())
 }
 
-/// The fast reads that are running or that the event ended.
-fn fast_reads_until(
-    history: &History,
-    event: usize,
-) -> impl Iterator<Item = (&Transaction, &Read)> {
+/// The fast reads of the list that are running or ended just then.
+fn fast_reads_until(history: &History, time: usize) -> impl Iterator<Item = (&Transaction, &Read)> {
     let all = history.transactions.iter();
-    let until = all.filter(move |of| of.ended.is_none_or(|ended| ended == event));
+    let until = all.filter(move |of| !of.held && of.ended.is_none_or(|ended| ended == time));
     let reads = until.filter_map(|of| of.read.as_ref().map(|read| (of, read)));
     reads.filter(|(_, read)| read.manner == Manner::Fast)
 }

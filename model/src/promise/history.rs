@@ -5,7 +5,8 @@
 //! of a write and by a hand-over. The view at a start tells the number of a write and the write
 //! that each get asks for. A reply also has its item's latest committed write when the get was
 //! delivered. That is what a first reply brings, and the sets of these writes tell which items a
-//! fast read fetches again. And with them go the writes that count as each client's own.
+//! fast read fetches again. And with them go the writes that count as each client's own. From a
+//! block that a check accepted (held.rs) the list begins with what the block held.
 
 use super::label::{Kind, Label};
 use super::transaction::{Read, Transaction, Write};
@@ -16,27 +17,29 @@ use crate::set::{items, size};
 use crate::stamp::{Entry, Stamp};
 use std::collections::{BTreeMap, BTreeSet};
 
-/// The list of messages and all transactions so far, with the sizes of the fresh.
+/// The list of messages and all transactions so far, with the sizes of the fresh. The time of an
+/// event is its place in the list; in a list from an accepted block two times come before the first
+/// event's (held.rs).
 #[derive(Clone, Debug, Default)]
 pub(super) struct History {
-    partitions: u64,
+    pub(super) partitions: u64,
     pub(super) messages: Vec<Label>,
     pub(super) transactions: Vec<Transaction>,
     /// By client: the writes that count as its own, those that it has ended and those that it was
     /// handed, by their places among the transactions.
     own: BTreeMap<u64, BTreeSet<usize>>,
     /// By item: the latest write of it whose commit at its partition was delivered.
-    committed: BTreeMap<u64, Entry>,
+    pub(super) committed: BTreeMap<u64, Entry>,
     /// By client: the number of the write that it started last.
-    counts: BTreeMap<u64, u64>,
-    views: BTreeMap<u64, View>,
+    pub(super) counts: BTreeMap<u64, u64>,
+    pub(super) views: BTreeMap<u64, View>,
     /// By client: the latest stamp among all entries that showings gave it, its own writes' too.
     shown: BTreeMap<u64, Stamp>,
     /// By client and item: the latest stamp that a read of that client showed, and the latest that
     /// a fast one did.
     read: BTreeMap<u64, BTreeMap<u64, Stamp>>,
     read_fast: BTreeMap<u64, BTreeMap<u64, Stamp>>,
-    /// Prepares delivered, and versions that clearings took away.
+    /// Prepares delivered and versions that a block held, and versions that clearings took away.
     pub(super) stored: u64,
     pub(super) gone: u64,
     /// Places left of those that a clearing freed, the items of writes started since taken off; of
@@ -50,9 +53,9 @@ impl History {
     }
 
     /// An accepted read start: one get per item joins, of a fast read one first get.
-    pub(super) fn start_read(&mut self, event: usize, client: u64, set: u64, manner: Manner) {
+    pub(super) fn start_read(&mut self, time: usize, client: u64, set: u64, manner: Manner) {
         let read = self.read_of(client, set, manner);
-        self.start(event, client, Some(read), None);
+        self.start(time, client, Some(read), None);
         let kind = match manner {
             Manner::Ordinary => Kind::Get,
             Manner::Fast => Kind::FirstGet,
@@ -61,23 +64,23 @@ impl History {
     }
 
     /// An accepted write start: one prepare per item joins.
-    pub(super) fn start_write(&mut self, event: usize, client: u64, set: u64, values: &[u8]) {
+    pub(super) fn start_write(&mut self, time: usize, client: u64, set: u64, values: &[u8]) {
         let write = self.write_of(client, set, values);
-        self.start(event, client, None, Some(write));
+        self.start(time, client, None, Some(write));
         self.send(client, set, Kind::Prepare);
     }
 
     /// An accepted mixed start: one get per item read joins, then one prepare per item written.
     pub(super) fn start_mixed(
         &mut self,
-        event: usize,
+        time: usize,
         client: u64,
         [read, written]: [u64; 2],
         values: &[u8],
     ) {
         let read_part = self.read_of(client, read, Manner::Ordinary);
         let write_part = self.write_of(client, written, values);
-        self.start(event, client, Some(read_part), Some(write_part));
+        self.start(time, client, Some(read_part), Some(write_part));
         self.send_gets(client, read, Kind::Get);
         self.send(client, written, Kind::Prepare);
     }
@@ -117,9 +120,9 @@ impl History {
         self.shown.get(&client).copied().unwrap_or_default()
     }
 
-    fn start(&mut self, event: usize, client: u64, read: Option<Read>, write: Option<Write>) {
+    fn start(&mut self, time: usize, client: u64, read: Option<Read>, write: Option<Write>) {
         let own = self.own.get(&client).cloned().unwrap_or_default();
-        let of = Transaction { client, started: event, ended: None, own, read, write };
+        let of = Transaction { client, held: false, started: time, ended: None, own, read, write };
         self.transactions.push(of);
     }
 
@@ -151,7 +154,7 @@ impl History {
     }
 
     /// An accepted delivery within the list: the message leaves, and what its step sends joins.
-    pub(super) fn deliver(&mut self, event: usize, place: usize) -> Label {
+    pub(super) fn deliver(&mut self, time: usize, place: usize) -> Label {
         let label = self.messages.remove(place);
         match label.kind {
             Kind::Prepare => {
@@ -159,20 +162,20 @@ impl History {
                 if let Some(write) = &mut self.transactions[label.transaction].write {
                     write.unstored.retain(|item| *item != label.item);
                     if write.unstored.is_empty() {
-                        write.stored = Some(event);
+                        write.stored = Some(time);
                     }
                 }
                 self.join(label, Kind::Prepared, label.item);
             }
             Kind::Prepared => self.deliver_prepared(label),
-            Kind::Commit => self.deliver_commit(event, label),
+            Kind::Commit => self.deliver_commit(time, label),
             Kind::Get | Kind::FirstGet => {
                 let latest = self.committed.get(&label.item).copied().unwrap_or_default();
                 let (reply, version) = match label.kind {
                     Kind::FirstGet => (Kind::FirstReply, latest),
                     _ => (Kind::Got, label.version),
                 };
-                self.join(Label { answered: event, latest, version, ..label }, reply, label.item);
+                self.join(Label { answered: time, latest, version, ..label }, reply, label.item);
             }
             Kind::Got | Kind::FirstReply => self.deliver_reply(label),
         }
@@ -223,11 +226,11 @@ impl History {
         }
     }
 
-    fn deliver_commit(&mut self, event: usize, label: Label) {
+    fn deliver_commit(&mut self, time: usize, label: Label) {
         let Some(write) = &mut self.transactions[label.transaction].write else {
             return;
         };
-        write.committed.insert(label.item, event);
+        write.committed.insert(label.item, time);
         for item in items(write.set).filter(|item| item % self.partitions == label.item) {
             let committed = self.committed.entry(item).or_default();
             if write.stamp > committed.stamp {
@@ -270,14 +273,16 @@ impl History {
         self.stored + prepares.count() as u64
     }
 
-    /// A delivery of the client's message reported an end: what it wrote is in its view and its own
-    /// from then on.
-    pub(super) fn end(&mut self, event: usize, client: u64) {
+    /// A delivery of the client's message reported an end: from then on what it wrote is in its view
+    /// and, unless the block held that write, its own.
+    pub(super) fn end(&mut self, time: usize, client: u64) {
         let running = self.transactions.iter_mut().enumerate();
         for (place, of) in running.filter(|(_, of)| of.client == client && of.ended.is_none()) {
-            of.ended = Some(event);
+            of.ended = Some(time);
             if let Some(write) = &of.write {
-                self.own.entry(client).or_default().insert(place);
+                if !of.held {
+                    self.own.entry(client).or_default().insert(place);
+                }
                 let view = self.views.entry(client).or_default();
                 for item in items(write.set) {
                     view.see(item, Entry::new(write.stamp, write.set));
@@ -327,15 +332,15 @@ impl History {
         last.filter(|of| of.ended.is_some())
     }
 
-    /// The writes of the item whose commit at its partition was delivered before the event.
+    /// The writes of the item whose commit at its partition was delivered before that time.
     pub(super) fn committed_before(
         &self,
-        event: usize,
+        time: usize,
         item: u64,
     ) -> impl Iterator<Item = (&Transaction, &Write)> {
         let partition = item % self.partitions;
         let is_committed = move |write: &Write| {
-            write.committed.get(&partition).is_some_and(|committed| *committed < event)
+            write.committed.get(&partition).is_some_and(|committed| *committed < time)
         };
         self.writes().filter(move |(_, write)| write.value(item).is_some() && is_committed(write))
     }

@@ -23,9 +23,9 @@ pub(super) struct Label {
     pub(super) item: u64,
     /// The transaction whose start it goes back to, by its place among them.
     pub(super) transaction: usize,
-    /// Of a got or first reply, the event that delivered the get behind it.
+    /// Of a got or first reply, when the get behind it was delivered.
     pub(super) answered: usize,
-    /// Of a got or first reply, its item's latest committed write at that event.
+    /// Of a got or first reply, its item's latest committed write then.
     pub(super) latest: Entry,
     /// Of a get, the write asked for; of a got or first reply, the write brought.
     pub(super) version: Entry,

@@ -10,7 +10,8 @@ use crate::frames::log::{Entry, LogFrame, Manner, WritePart};
 use crate::set::size;
 use crate::stamp::Stamp;
 
-/// Checks a showing, and gives the frame of an accepted one.
+/// Checks a showing, and gives the frame of an accepted one. Of what a block held nothing is
+/// promised.
 pub(super) fn check(
     history: &History,
     client: u64,
@@ -23,6 +24,9 @@ pub(super) fn check(
             _ => Ok(None),
         };
     };
+    if last.held {
+        return Ok(None);
+    }
     accepted_with_room_enough(last, event, answer)?;
     let Answer::Shown { length } = answer else {
         return Ok(None);
@@ -123,8 +127,8 @@ fn entries_of_the_read(read: &Read, frame: &LogFrame) -> Result<Vec<Entry>, Clau
     }
 }
 
-/// An entry is initial, or its write is an accepted write of the list with that stamp, item and
-/// value.
+/// An entry is initial, or its write is an accepted write of the list, or one that an accepted
+/// block held, with that stamp, item and value.
 fn put_there_by_a_write<'a>(
     history: &'a History,
     entry: &Entry,

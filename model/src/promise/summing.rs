@@ -25,11 +25,14 @@ pub(super) fn showing(summary: &mut Summary, history: &History, client: u64, fra
     let written = shown.iter().filter(|entry| entry.stamp != Stamp::INITIAL);
     summary.reads_shown += usize::from(frame.read.is_some());
     summary.written_entries_shown += written.count();
-    let by_mixed = |entry: &&Entry| {
+    let is_of = |entry: &Entry, is_one: fn(&Transaction) -> bool| {
         let mut writes = history.writes();
-        writes.any(|(of, write)| of.read.is_some() && write.stamp == entry.stamp)
+        writes.any(|(of, write)| is_one(of) && write.stamp == entry.stamp)
     };
-    summary.mixed_entries_shown += shown.iter().filter(by_mixed).count();
+    let by_mixed = shown.iter().filter(|entry| is_of(entry, |of| of.read.is_some()));
+    summary.mixed_entries_shown += by_mixed.count();
+    let held = shown.iter().filter(|entry| is_of(entry, |of| of.held));
+    summary.held_entries_shown += held.count();
     let Some(last) = history.last_ended(client) else {
         return;
     };

@@ -116,9 +116,9 @@ pub(super) struct Write {
     pub(super) unstored: Vec<u64>,
     /// Items whose own prepared reply is not delivered.
     pub(super) unprepared: Vec<u64>,
-    /// The event with which it was stored at all its partitions.
+    /// When it was stored at all its partitions.
     pub(super) stored: Option<usize>,
-    /// By partition: the event that delivered its commit there.
+    /// By partition: when its commit was delivered there.
     pub(super) committed: BTreeMap<u64, usize>,
 }
 
@@ -130,11 +130,13 @@ impl Write {
     }
 }
 
-/// A transaction with the events of its start and its end: a read, a write, or a mixed one, which
-/// has both parts.
+/// A transaction with the times of its start and its end: a read, a write, or a mixed one, which
+/// has both parts. A transaction that a block held was begun before the list: what it wrote may be
+/// shown, what it sees enters its client's view, and nothing else is promised of it.
 #[derive(Clone, Debug)]
 pub(super) struct Transaction {
     pub(super) client: u64,
+    pub(super) held: bool,
     pub(super) started: usize,
     pub(super) ended: Option<usize>,
     /// The writes that counted as its client's own at its start, by their places among the

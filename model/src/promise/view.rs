@@ -2,6 +2,7 @@
 
 use crate::set::has;
 use crate::stamp::Entry;
+use crate::store::tables::ITEMS;
 use std::collections::BTreeMap;
 
 /// By item the write seen last; initial where there is none.
@@ -9,6 +10,11 @@ use std::collections::BTreeMap;
 pub(super) struct View(BTreeMap<u64, Entry>);
 
 impl View {
+    /// What a block held, by item.
+    pub(super) fn of(entries: &[Entry; ITEMS]) -> View {
+        View((0..).zip(*entries).collect())
+    }
+
     /// The item's entry becomes the later of itself and this one; with equal stamps it stays.
     pub(super) fn see(&mut self, item: u64, entry: Entry) {
         let seen = self.0.entry(item).or_default();

@@ -48,6 +48,7 @@ mod library {
         pub fn koolvent_hand_over(block: *mut u64, length: usize, giver: u64, receiver: u64)
             -> u64;
         pub fn koolvent_compare(block: *const u64, length: usize, first: u64, second: u64) -> u64;
+        pub fn koolvent_check(block: *const u64, length: usize) -> u64;
     }
 }
 
@@ -117,5 +118,10 @@ impl Calls for Proved {
     #[inline]
     fn compare(&self, block: &[u64], first: u64, second: u64) -> u64 {
         unsafe { library::koolvent_compare(block.as_ptr(), block.len(), first, second) }
+    }
+
+    #[inline]
+    fn check(&self, block: &[u64]) -> u64 {
+        unsafe { library::koolvent_check(block.as_ptr(), block.len()) }
     }
 }

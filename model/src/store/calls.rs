@@ -1,5 +1,6 @@
 //! The calls. Any number may be passed; a refusal changes nothing.
 
+use super::check;
 use super::fault::{self, Fault};
 use super::range::GREATEST;
 use super::refusals;
@@ -29,6 +30,7 @@ impl Store {
             Call::Clear => self.clear(),
             Call::HandOver { giver, receiver } => self.hand_over(*giver, *receiver),
             Call::Compare { first, second } => self.compare(*first, *second),
+            Call::Check => self.check(),
         }
     }
 
@@ -199,6 +201,18 @@ impl Store {
         Answer::Compared { standing: self.standing(first, second) }
     }
 
+    /// Tells whether the tables are as good as those that the calls make.
+    pub fn check(&self) -> Answer {
+        let refusal = match self.fault {
+            Some(Fault::Check(misread)) => check::misread(&self.tables, misread),
+            _ => refusals::check(&self.tables),
+        };
+        match self.spoilt(refusal, 0) {
+            Some(refusal) => Answer::Refused(refusal),
+            None => Answer::Checked,
+        }
+    }
+
     fn started(&self) -> Answer {
         Answer::Started { messages: self.answered_length() }
     }
@@ -221,7 +235,7 @@ impl Store {
     /// The tables, with no fast read under way.
     fn with_fast_readers_idle(&self) -> Tables {
         let mut tables = self.tables.clone();
-        for client in &mut tables.clients {
+        for client in tables.clients.iter_mut() {
             if [FIRST_PART, SECOND_PART].contains(&client.mode) {
                 *client = Client::resting(client.count, client.last);
             }

@@ -1,6 +1,7 @@
 //! Wrong stores. For tests alone: each shows that some test would notice a store that is wrong in
 //! this way.
 
+use super::check::Misread;
 use super::tables::{
     Client, Tables, FIRST_PART, IDLE, MIXED, MIXING, SECOND_PART, WIDEST_WRITE, WRITE, WRITING,
 };
@@ -247,6 +248,8 @@ pub enum Fault {
     MixedAskedSpares,
     /// A first reply is awaited by a mixed transaction.
     FirstReplyToAMixed,
+    /// The test of a block is misread.
+    Check(Misread),
 }
 
 impl Store {

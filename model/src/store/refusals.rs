@@ -1,6 +1,7 @@
 //! The refusal table: for each call its tests in order, of which the first that applies is
 //! returned.
 
+use super::check::broken_rules;
 use super::message::Message;
 use super::range::{is_usable, GREATEST};
 use super::shown::shown_frame;
@@ -102,6 +103,11 @@ pub(super) fn compare(tables: &Tables, one: u64, other: u64) -> Option<u64> {
         (1, &|| !is_usable(tables)),
         (3, &|| !(tables.has_client(one) && tables.has_client(other))),
     ])
+}
+
+/// 19 for a block that breaks a rule, tested after 1.
+pub(super) fn check(tables: &Tables) -> Option<u64> {
+    first(&[(1, &|| !is_usable(tables)), (19, &|| !broken_rules(tables).is_empty())])
 }
 
 /// A prepare of an item and stamp already stored; a prepared whose client isn't writing, a got

@@ -201,6 +201,19 @@ impl Client {
         items(self.set).map(|item| self.stamps[item as usize])
     }
 
+    /// What it has under way to write, alone or in a mixed transaction.
+    pub fn write_under_way(&self) -> Option<WritePart> {
+        match self.mode {
+            WRITING => {
+                let stamp = self.running_stamps().next().unwrap_or_default();
+                let Client { set, awaited, values, .. } = *self;
+                Some(WritePart { set, awaited, stamp, values })
+            }
+            MIXING => Some(self.write),
+            _ => None,
+        }
+    }
+
     /// The stamps of its last ended transaction.
     pub fn last_stamps(&self) -> Vec<Stamp> {
         let read = items(self.last.set).map(|item| self.last.stamps[item as usize]);
@@ -220,8 +233,8 @@ pub struct Tables {
     /// By item, at its partition: the latest committed write.
     pub latest: [Entry; ITEMS],
     /// By client and item: the last-seen write.
-    pub view: [[Entry; ITEMS]; CLIENTS],
-    pub clients: [Client; CLIENTS],
+    pub view: Box<[[Entry; ITEMS]; CLIENTS]>,
+    pub clients: Box<[Client; CLIENTS]>,
     /// Stored versions; of those alike in item and stamp the first counts.
     pub versions: Vec<Version>,
     /// Messages in flight (the pile).
@@ -240,8 +253,8 @@ impl Tables {
         Tables {
             sizes,
             latest: [Entry::INITIAL; ITEMS],
-            view: [[Entry::INITIAL; ITEMS]; CLIENTS],
-            clients: [Client::INITIAL; CLIENTS],
+            view: Box::new([[Entry::INITIAL; ITEMS]; CLIENTS]),
+            clients: Box::new([Client::INITIAL; CLIENTS]),
             versions: Vec::new(),
             messages: Vec::new(),
         }

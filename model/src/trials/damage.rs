@@ -43,7 +43,10 @@ pub fn damaged_blocks(
         let [fast_read, mixed] = [chooser.fast_read(), chooser.mixed()];
         let [hand_over, compare] = [chooser.hand_over(), chooser.compare()];
         let others = [chooser.deliver(), chooser.show(), Call::Clear, hand_over, compare];
-        for call in [read, fast_read, write, mixed].into_iter().chain(others) {
+        let starts = [read, fast_read, write, mixed];
+        // Blocks that calls may not have made have checks of their own, so few are enough.
+        let check = damaged.blocks.is_multiple_of(4).then_some(Call::Check);
+        for call in starts.into_iter().chain(others).chain(check) {
             let answer = match &tables {
                 Some(_) => agree(served, &words, &call),
                 None => refused(served, &words, &call, 1),

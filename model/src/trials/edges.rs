@@ -19,7 +19,7 @@ pub fn edges(served: &dyn Calls, busy: &Busy, met: &mut Met) -> Result<(), Diffe
     lengths(served, busy, met)?;
     let starts = [reads(busy), writes(busy), mixed(busy)];
     let calls = [starts.concat(), deliveries(busy), showings(busy), pairs(busy)];
-    for call in calls.concat().into_iter().chain([Call::Clear]) {
+    for call in calls.concat().into_iter().chain([Call::Clear, Call::Check]) {
         met.count_on(&busy.tables, &call, agree(served, &busy.words, &call)?);
     }
     Ok(())
@@ -49,6 +49,7 @@ fn lengths(served: &dyn Calls, busy: &Busy, met: &mut Met) -> Result<(), Differe
         Call::Clear,
         Call::HandOver { giver: 1, receiver: 2 },
         Call::Compare { first: 1, second: 1 },
+        Call::Check,
     ];
     let mut words = busy.words.clone();
     words.resize(NEEDED + 70, 5);

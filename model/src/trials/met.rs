@@ -8,7 +8,7 @@ use crate::store::tables::Tables;
 pub struct Met {
     pub calls: usize,
     /// By refusal.
-    pub refused: [usize; 19],
+    pub refused: [usize; 20],
     /// Of the deliveries refused by 11, and by 12, where a trial counts these: by kind of message.
     pub unwanted: [usize; 8],
     pub not_stored: [usize; 8],
@@ -29,6 +29,8 @@ pub struct Met {
     pub handed_over: usize,
     /// By how the first view stands to the second.
     pub compared: [usize; 4],
+    /// Blocks that were accepted.
+    pub checked: usize,
 }
 
 impl Met {
@@ -60,6 +62,7 @@ impl Met {
             }
             Call::HandOver { .. } => self.handed_over += 1,
             Call::Compare { .. } => self.compared[(answer >> 8) as usize] += 1,
+            Call::Check => self.checked += 1,
         }
     }
 
@@ -90,7 +93,8 @@ impl Met {
         }
     }
 
-    /// The least of the counts of accepted calls, by call, kind of message and end.
+    /// The least of the counts of accepted calls, by call, kind of message and end; but for checks,
+    /// which hardly any block passes that no calls leave.
     pub fn rarest_accepted(&self) -> usize {
         let others = [self.cleared, self.handed_over, self.compared.iter().sum()];
         let starts = [self.reads, self.fast_reads, self.writes, self.mixed];

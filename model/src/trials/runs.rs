@@ -1,13 +1,13 @@
 //! Random runs on a block, call by call beside the model's store on tables.
 
-use super::{Difference, Met};
+use super::{Busy, Difference, Met};
 use crate::block::{make, Calls};
 use crate::call::Event;
 use crate::judge::{judge, Verdict};
 use crate::layout::{decode, NEEDED};
-use crate::promise::{check, Summary};
+use crate::promise::{check, check_from, Summary, Violation};
 use crate::random::Random;
-use crate::runs::{run_watched, Sort};
+use crate::runs::{run_from, run_watched, Run, Sort, Watch};
 use crate::store::tables::Tables;
 
 /// What the runs met.
@@ -36,6 +36,7 @@ pub struct Runs {
     pub ended_by_a_got: usize,
     pub read_and_written: usize,
     pub mixed_entries_shown: usize,
+    pub held_entries_shown: usize,
     pub greatest_load: u64,
     pub most_versions: usize,
 }
@@ -64,40 +65,71 @@ fn random_run(
     let mut beside = Beside::new(served, seed);
     let run = run_watched(sort, seed, &mut |event, tables| beside.watch(event, tables));
     beside.held?;
-    for event in &run.events {
-        runs.met.count(&event.call, event.answer);
-    }
-    let summary: Summary =
-        check(&run.events).map_err(|violation| Difference(format!("{violation:?}")))?;
+    runs.sum_up(&run, check(&run.events))?;
     let verdict = judge(&run.log);
     if verdict != Verdict::CLEAN {
         return Err(Difference(format!("its log is judged {verdict:?}")));
     }
-    runs.runs += 1;
-    runs.longest = runs.longest.max(run.events.len());
-    runs.reads_shown += summary.reads_shown;
-    runs.written_entries_shown += summary.written_entries_shown;
-    runs.corrections += summary.corrections;
-    runs.shown_again += summary.shown_again;
-    runs.served += summary.served;
-    runs.taken_over += summary.taken_over;
-    runs.fast_reads_shown += summary.fast_reads_shown;
-    runs.fetched_again += summary.fetched_again;
-    runs.fallen += summary.fallen;
-    runs.own_missed += summary.own_missed;
-    runs.fast_shown_again += summary.fast_shown_again;
-    runs.fast_gots += summary.fast_gots;
-    runs.stored_meanwhile += summary.stored_meanwhile;
-    runs.committed_before += summary.committed_before;
-    runs.own_committed += summary.own_committed;
-    runs.committed_meanwhile += summary.committed_meanwhile;
-    runs.mixed_shown += summary.mixed_shown;
-    runs.ended_by_a_got += summary.ended_by_a_got;
-    runs.read_and_written += summary.read_and_written;
-    runs.mixed_entries_shown += summary.mixed_entries_shown;
-    runs.greatest_load = runs.greatest_load.max(run.greatest_load);
-    runs.most_versions = runs.most_versions.max(run.most_versions);
     Ok(())
+}
+
+/// A run that goes on from a block that a check accepts: answers, outputs and tables are the
+/// model's, and condition 3's promises hold of the list of calls from there. Its log begins in the
+/// middle, so that no verdict on it is promised.
+pub(super) fn continued(
+    served: &dyn Calls,
+    sort: Sort,
+    seed: u64,
+    busy: &Busy,
+    runs: &mut Runs,
+) -> Result<(), Difference> {
+    let mut beside = Beside::on(served, busy.words.clone());
+    let watch: &mut Watch = &mut |event, tables| beside.watch(event, tables);
+    let run = run_from(sort, seed, &busy.tables, watch);
+    beside.held?;
+    runs.sum_up(&run, check_from(&busy.tables, &run.events))
+}
+
+impl Runs {
+    fn sum_up(&mut self, run: &Run, held: Result<Summary, Violation>) -> Result<(), Difference> {
+        let summary = held.map_err(|violation| {
+            let event = &run.events[violation.event];
+            Difference(format!("{violation:?}: {event:?}"))
+        })?;
+        for event in &run.events {
+            self.met.count(&event.call, event.answer);
+        }
+        self.add(run, &summary);
+        Ok(())
+    }
+
+    fn add(&mut self, run: &Run, summary: &Summary) {
+        self.runs += 1;
+        self.longest = self.longest.max(run.events.len());
+        self.reads_shown += summary.reads_shown;
+        self.written_entries_shown += summary.written_entries_shown;
+        self.corrections += summary.corrections;
+        self.shown_again += summary.shown_again;
+        self.served += summary.served;
+        self.taken_over += summary.taken_over;
+        self.fast_reads_shown += summary.fast_reads_shown;
+        self.fetched_again += summary.fetched_again;
+        self.fallen += summary.fallen;
+        self.own_missed += summary.own_missed;
+        self.fast_shown_again += summary.fast_shown_again;
+        self.fast_gots += summary.fast_gots;
+        self.stored_meanwhile += summary.stored_meanwhile;
+        self.committed_before += summary.committed_before;
+        self.own_committed += summary.own_committed;
+        self.committed_meanwhile += summary.committed_meanwhile;
+        self.mixed_shown += summary.mixed_shown;
+        self.ended_by_a_got += summary.ended_by_a_got;
+        self.read_and_written += summary.read_and_written;
+        self.mixed_entries_shown += summary.mixed_entries_shown;
+        self.held_entries_shown += summary.held_entries_shown;
+        self.greatest_load = self.greatest_load.max(run.greatest_load);
+        self.most_versions = self.most_versions.max(run.most_versions);
+    }
 }
 
 /// A block on which each call of a run is made as well.
@@ -117,6 +149,10 @@ impl Beside<'_> {
         let length = NEEDED + random.below(4) as usize;
         let mut words: Vec<u64> = (0..length).map(|_| random.number()).collect();
         words[..3].fill(0);
+        Beside::on(served, words)
+    }
+
+    fn on(served: &dyn Calls, words: Vec<u64>) -> Beside<'_> {
         Beside { served, past: words[NEEDED..].to_vec(), words, calls: 0, held: Ok(()) }
     }
 

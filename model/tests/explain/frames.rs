@@ -77,6 +77,7 @@ fn every_refusal_is_said() {
         ("10", "refused by 16: over 32,768 bytes or over 256 line ends"),
         ("11", "refused by 17: a write of more than 12 items"),
         ("12", "refused by 18: a hand-over of a client to itself"),
+        ("13", "refused by 19: the block is in range, but not one that the calls make"),
     ];
     for (answer, sentence) in refusals {
         let expected = format!("the message at place 2 is delivered: {sentence}");
@@ -95,7 +96,7 @@ fn bytes_that_answer_no_such_frame_are_told() {
         ("040000", "0001000203"),
         ("0502", "00"),
         ("0502", "002102"),
-        ("0502", "13"),
+        ("0502", "14"),
         ("0502", "00220201"),
         ("06", "00"),
         ("06020000000000000003", "00"),
@@ -112,7 +113,9 @@ fn bytes_that_answer_no_such_frame_are_told() {
         ("420102", "00"),
         ("420102", "0004"),
         ("420102", "000000"),
-        ("43", "00"),
+        ("43", "0000"),
+        ("43", "000000"),
+        ("44", "00"),
     ];
     for (frame, answer) in others {
         let said = said(frame, answer);
@@ -154,6 +157,14 @@ fn a_comparison_is_said_with_how_the_first_stands_to_the_second() {
     for (answer, sentence) in standings {
         assert_eq!(said("420108", answer), format!("{asked}: {sentence}"));
     }
+}
+
+#[test]
+fn a_check_is_said_with_its_answer() {
+    let asked = "the block is checked";
+    assert_eq!(said("43", "00"), format!("{asked}: accepted"));
+    let refused = "refused by 19: the block is in range, but not one that the calls make";
+    assert_eq!(said("43", "13"), format!("{asked}: {refused}"));
 }
 
 #[test]

@@ -68,7 +68,8 @@ fn the_kind_and_length_of_a_store_frame() {
         ("41", "wrong length: a hand-over has 3 bytes, this 1"),
         ("41010203", "wrong length: a hand-over has 3 bytes, this 4"),
         ("4201", "wrong length: a comparison has 3 bytes, this 2"),
-        ("43", "unknown kind 43"),
+        ("4300", "wrong length: a check has 1 byte, this 2"),
+        ("44", "unknown kind 44"),
         (
             "0301000000000000000100000007ff",
             "wrong length: a write has 10 bytes and 4 for each of at most 64 values, this 15",

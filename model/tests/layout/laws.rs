@@ -19,7 +19,7 @@ fn full_tables() -> Tables {
     let stamp = Stamp::new(u64::from(u32::MAX), 8);
     let entry = Entry::new(stamp, u64::MAX);
     tables.latest = [entry; 64];
-    tables.view = [[entry; 64]; 8];
+    *tables.view = [[entry; 64]; 8];
     for (place, record) in tables.clients.iter_mut().enumerate() {
         let (mode, kind) =
             [(READING, WRITE), (WRITING, READ), (SECOND_PART, FAST_READ), (MIXING, MIXED)]

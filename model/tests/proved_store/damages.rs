@@ -1,5 +1,5 @@
 //! 255,000 damages of one word or two, 205,000 of them of blocks from the middle of runs: each of
-//! the calls, its answer, its output and every word after it.
+//! the calls, a check of every fourth, its answer, its output and every word after it.
 
 use koolvent_model::proved::store::Proved;
 use koolvent_model::random::Random;
@@ -25,8 +25,8 @@ fn small_blocks() {
     let damaged = damages(block, 200_000..200_650, 200);
     assert_eq!(damaged.blocks, 130_000);
     assert!(damaged.valid >= 30_000, "{damaged:?}");
-    assert!(damaged.met.rarest_accepted() >= 500, "{damaged:?}");
-    damaged.met.assert_refused(&[1, 2, 3, 4, 5, 6, 7, 10, 11, 12, 13, 14, 18], 20);
+    assert!(damaged.met.rarest_accepted().min(damaged.met.checked) >= 500, "{damaged:?}");
+    damaged.met.assert_refused(&[1, 2, 3, 4, 5, 6, 7, 10, 11, 12, 13, 14, 18, 19], 20);
     damaged.met.assert_refused_by_kind(10);
 }
 
@@ -36,8 +36,8 @@ fn blocks_of_any_size() {
     let damaged = damages(block, 210_000..211_000, 50);
     assert_eq!(damaged.blocks, 50_000);
     assert!(damaged.valid >= 15_000, "{damaged:?}");
-    assert!(damaged.met.rarest_accepted() >= 120, "{damaged:?}");
-    damaged.met.assert_refused(&[1, 2, 3, 4, 5, 6, 8, 10, 11, 12, 13, 14, 17, 18], 50);
+    assert!(damaged.met.rarest_accepted().min(damaged.met.checked) >= 120, "{damaged:?}");
+    damaged.met.assert_refused(&[1, 2, 3, 4, 5, 6, 8, 10, 11, 12, 13, 14, 17, 18, 19], 50);
 }
 
 #[test]
@@ -46,8 +46,8 @@ fn crowded_blocks() {
     let damaged = damages(block, 220_000..220_100, 250);
     assert_eq!(damaged.blocks, 25_000);
     assert!(damaged.valid >= 5_000, "{damaged:?}");
-    assert!(damaged.met.rarest_accepted() >= 50, "{damaged:?}");
-    damaged.met.assert_refused(&[1, 2, 3, 4, 5, 6, 8, 9, 10, 11, 12, 14, 17, 18], 10);
+    assert!(damaged.met.rarest_accepted().min(damaged.met.checked) >= 50, "{damaged:?}");
+    damaged.met.assert_refused(&[1, 2, 3, 4, 5, 6, 8, 9, 10, 11, 12, 14, 17, 18, 19], 10);
     // Every client has ended something, so that a damage alone leaves one that has not.
     damaged.met.assert_refused(&[13], 3);
 }
@@ -58,6 +58,6 @@ fn blocks_unlike_any_that_calls_leave() {
     assert_eq!(damaged.blocks, 50_000);
     assert!(damaged.valid >= 10_000, "{damaged:?}");
     assert!(damaged.met.rarest_accepted() >= 150, "{damaged:?}");
-    damaged.met.assert_refused(&[1, 2, 3, 4, 5, 6, 7, 8, 9, 10, 11, 12, 13, 14, 17, 18], 100);
+    damaged.met.assert_refused(&[1, 2, 3, 4, 5, 6, 7, 8, 9, 10, 11, 12, 13, 14, 17, 18, 19], 100);
     damaged.met.assert_refused_by_kind(500);
 }

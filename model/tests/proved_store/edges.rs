@@ -23,7 +23,7 @@ fn busy_blocks() {
     let any_size = (40..80).map(|seed| Busy::new(Sort::AnySize, seed));
     let crowded = (110..130).map(|seed| Busy::new(Sort::Crowded, seed));
     let met = met(small.chain(any_size).chain(crowded).collect());
-    assert!(met.rarest_accepted() >= 10, "{met:?}");
+    assert!(met.rarest_accepted().min(met.checked) >= 10, "{met:?}");
     met.assert_refused(&[1, 2, 3, 4, 5, 6, 8, 9, 10, 13, 14, 17, 18], 10);
 }
 
@@ -31,7 +31,7 @@ fn busy_blocks() {
 fn blocks_unlike_any_that_calls_leave() {
     let met = met((0..60).map(Busy::unlike_any).collect());
     assert!(met.rarest_accepted() >= 5, "{met:?}");
-    met.assert_refused(&[1, 2, 3, 4, 5, 6, 7, 8, 10, 11, 12, 13, 14, 17, 18], 5);
+    met.assert_refused(&[1, 2, 3, 4, 5, 6, 7, 8, 10, 11, 12, 13, 14, 17, 18, 19], 5);
     met.assert_refused_by_kind(50);
 }
 

@@ -14,7 +14,7 @@ fn runs(sort: Sort, seeds: std::ops::Range<u64>) -> Runs {
 #[test]
 fn small_stores() {
     let runs = runs(Sort::Small, 100_000..104_600);
-    assert!(runs.met.rarest_accepted() >= 3_000, "{runs:?}");
+    assert!(runs.met.rarest_accepted().min(runs.met.checked) >= 3_000, "{runs:?}");
     runs.met.assert_refused(&[1, 2, 3, 4, 5, 6, 10, 13, 14, 18], 500);
     assert!(runs.met.compared.iter().all(|times| *times >= 500), "{runs:?}");
     assert!(runs.taken_over >= 800, "{runs:?}");
@@ -35,7 +35,7 @@ fn small_stores() {
 #[test]
 fn stores_of_any_size() {
     let runs = runs(Sort::AnySize, 110_000..110_400);
-    assert!(runs.met.rarest_accepted() >= 400, "{runs:?}");
+    assert!(runs.met.rarest_accepted().min(runs.met.checked) >= 400, "{runs:?}");
     runs.met.assert_refused(&[1, 2, 3, 4, 5, 6, 8, 10, 13, 14, 17, 18], 20);
     assert!(runs.written_entries_shown >= 2_000, "{runs:?}");
     assert!(runs.met.gone >= 100, "{runs:?}");
@@ -50,7 +50,7 @@ fn stores_of_any_size() {
 fn crowded_stores_of_some_thousand_calls() {
     let runs = runs(Sort::Crowded, 120_000..120_030);
     assert!(runs.longest >= 3_000, "{runs:?}");
-    assert!(runs.met.rarest_accepted() >= 30, "{runs:?}");
+    assert!(runs.met.rarest_accepted().min(runs.met.checked) >= 30, "{runs:?}");
     runs.met.assert_refused(&[1, 2, 3, 4, 5, 6, 8, 9, 10, 13, 14, 17, 18], 20);
     assert_eq!((runs.greatest_load, runs.most_versions), (128, 512));
     assert!(runs.written_entries_shown >= 2_000, "{runs:?}");

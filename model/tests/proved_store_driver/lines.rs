@@ -7,7 +7,7 @@ use crate::program::{agreed, printed};
 fn frames() -> Vec<String> {
     let write = |values: usize| format!("0301000000000000000f{}", "0000002a".repeat(values));
     let starts = ["01020204", "0201000000000000000f", "0601000000000000000f"];
-    let others = ["040000", "0501", "40", "410102", "420201"];
+    let others = ["040000", "0501", "40", "410102", "420201", "43"];
     let writes = [0, 1, 4, 64].map(write);
     let mixed = |values: usize| {
         format!("07010000000000000003000000000000000f{}", "0000002a".repeat(values))

@@ -33,6 +33,7 @@ fn line(call: &Call) -> Option<String> {
         Call::Clear => vec![0x40],
         Call::HandOver { giver, receiver } => vec![0x41, byte(*giver)?, byte(*receiver)?],
         Call::Compare { first, second } => vec![0x42, byte(*first)?, byte(*second)?],
+        Call::Check => vec![0x43],
     };
     Some(to_hex(&frame))
 }

@@ -68,12 +68,14 @@ impl Drop for Talk {
 }
 
 /// A write and a read of two items, a fast read that fetches one again, a mixed transaction that a
-/// got ends, showings, clearings, a hand-over, comparisons, and lines that are refused.
-const LINES: [&str; 45] = [
+/// got ends, showings, clearings, a hand-over, comparisons, checks, and lines that are refused.
+const LINES: [&str; 50] = [
     "0501",
     "40",
     "410102",
+    "43",
     "01020202",
+    "43",
     "030100000000000000030000000700000008",
     "040000",
     "040000",
@@ -113,8 +115,11 @@ const LINES: [&str; 45] = [
     "040001",
     "040001",
     "0502",
+    "43",
     "0G",
     "400",
+    "430",
+    "4343",
 ];
 
 #[test]

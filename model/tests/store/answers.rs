@@ -83,6 +83,19 @@ fn a_comparison_gives_how_the_first_stands_to_the_second() {
 }
 
 #[test]
+fn a_check_gives_nothing_but_0() {
+    assert_eq!((Answer::Checked.bytes(&[]), Answer::Checked.number()), (vec![0], 0));
+    assert_eq!(Answer::of(&Call::Check, 0), Some(Answer::Checked));
+    for refusal in [1, 19] {
+        assert_eq!(Answer::of(&Call::Check, refusal), Some(Answer::Refused(refusal)));
+    }
+    for number in [2, 3, 4, 11, 12, 18, 20, 1 << 8] {
+        assert_eq!(Answer::of(&Call::Check, number), None);
+    }
+    assert_eq!(Answer::of(&Call::Clear, 19), None);
+}
+
+#[test]
 fn a_number_is_an_answer_only_to_a_call_that_can_give_it() {
     let delivery = Call::Deliver { place: 0 };
     let delivered = Answer::Delivered { kind: 5, messages: 0x0102, outcome: READ_ENDED };

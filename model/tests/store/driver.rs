@@ -16,7 +16,7 @@ fn a_last_line_without_its_end_is_15() {
 
 #[test]
 fn other_lines_are_15_and_the_next_line_goes_on() {
-    let others: [&[u8]; 29] = [
+    let others: [&[u8]; 31] = [
         b"",
         b"\r",
         b"01020202\r",
@@ -45,7 +45,9 @@ fn other_lines_are_15_and_the_next_line_goes_on() {
         b"42",
         b"4201",
         b"42010200",
-        b"43",
+        b"4300",
+        b"430",
+        b"44",
     ];
     for line in others {
         let input = [b"01020202\n", line, b"\n0501\n"].concat();
@@ -74,6 +76,7 @@ fn well_formed_frames_before_an_accepted_fresh_are_1() {
         "410000",
         "420102",
         "42ffff",
+        "43",
     ];
     for frame in frames {
         let input = format!("{frame}\n01090101\n{frame}\n01010101\n");
@@ -315,4 +318,17 @@ fn a_mixed_transaction_ends_with_its_last_reply_of_either_kind() {
     ];
     let (input, output): (Vec<&str>, Vec<&str>) = steps.into_iter().unzip();
     assert_eq!(run(input.concat().as_bytes()), output.concat());
+}
+
+/// A driver's block is written by its frames alone, so that every check is accepted, whatever is
+/// under way.
+#[test]
+fn a_check_is_accepted_after_every_frame() {
+    let frames = "01020202 030100000000000000030000000700000008 040000 06020000000000000003 0502 \
+                  040000 040000 040000 040000 07010000000000000001000000000000000200000009 040000 \
+                  40 040000 040000 040000 040000 040000 410102 0501";
+    let input: String = frames.split(' ').map(|frame| format!("{frame}\n43\n")).collect();
+    let output = run(input.as_bytes());
+    let checks: Vec<&str> = output.lines().skip(1).step_by(2).collect();
+    assert_eq!(checks, vec!["00"; frames.split(' ').count()]);
 }

@@ -4,7 +4,7 @@ use koolvent_model::call::Call;
 use koolvent_model::frames::store::{parse, run};
 use koolvent_model::random::Random;
 
-const GOOD: [&str; 13] = [
+const GOOD: [&str; 14] = [
     "01020202",
     "02020000000000000003",
     "030100000000000000030000000700000008",
@@ -18,6 +18,7 @@ const GOOD: [&str; 13] = [
     "40",
     "410102",
     "42ff00",
+    "43",
 ];
 
 /// The call of a line without its 0a.
@@ -35,7 +36,7 @@ fn has_a_length_of_its_kind(bytes: &[u8]) -> bool {
         Some(4) => length == 3,
         Some(5) => length == 2,
         Some(7) => (18..=274).contains(&length) && length % 4 == 2,
-        Some(0x40) => length == 1,
+        Some(0x40 | 0x43) => length == 1,
         Some(0x41 | 0x42) => length == 3,
         _ => false,
     }
@@ -55,6 +56,7 @@ fn every_good_frame_is_parsed() {
     assert_eq!(parsed(GOOD[8].as_bytes()), Some(mixed));
     assert_eq!(parsed(b"410102"), Some(Call::HandOver { giver: 1, receiver: 2 }));
     assert_eq!(parsed(b"42ff00"), Some(Call::Compare { first: 255, second: 0 }));
+    assert_eq!(parsed(b"43"), Some(Call::Check));
 }
 
 #[test]
@@ -88,7 +90,7 @@ fn random_bytes_are_parsed_exactly_when_they_have_a_length_of_their_kind() {
         let length = random.below(32) as usize;
         let mut bytes = random.bytes(length);
         if let Some(first) = bytes.first_mut() {
-            *first = random.pick(&[0, 1, 2, 3, 4, 5, 6, 7, 8, 0x40, 0x41, 0x42, 0x43]);
+            *first = random.pick(&[0, 1, 2, 3, 4, 5, 6, 7, 8, 0x40, 0x41, 0x42, 0x43, 0x44]);
         }
         let line: String = bytes.iter().map(|byte| format!("{byte:02x}")).collect();
         let frame = parsed(line.as_bytes());

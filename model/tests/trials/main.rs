@@ -3,6 +3,7 @@
 
 mod model;
 mod wrong_calls;
+mod wrong_checks;
 mod wrong_promises;
 mod wrong_range;
 mod wrong_store;
@@ -10,6 +11,7 @@ mod wrong_store;
 use koolvent_model::block::Calls;
 use koolvent_model::random::Random;
 use koolvent_model::runs::Sort;
+use koolvent_model::trials::checks::{checks, runs_from_accepted, Checked};
 use koolvent_model::trials::clearings::clearings;
 use koolvent_model::trials::damage::{damaged_blocks, Damaged};
 use koolvent_model::trials::edges::{edges, fresh_starts};
@@ -17,6 +19,7 @@ use koolvent_model::trials::hand_overs::hand_overs;
 use koolvent_model::trials::range::{every_field, random_words, Judged, Valid};
 use koolvent_model::trials::runs::{random_runs, Runs};
 use koolvent_model::trials::{brimming, Busy, Difference, Met, BRIMMING_SORTS};
+use std::ops::Range;
 
 /// Runs of every sort.
 fn runs(served: &dyn Calls) -> Result<Runs, Difference> {
@@ -91,6 +94,26 @@ fn handed_over(served: &dyn Calls) -> Result<Met, Difference> {
     let mut met = Met::default();
     hand_overs(served, 0..300, &mut met)?;
     Ok(met)
+}
+
+/// Seeds of blocks that calls may not have made, with their sorts.
+const CHECKED: [(Sort, Range<u64>); 2] = [(Sort::Small, 0..6_000), (Sort::AnySize, 6_000..6_300)];
+
+/// Checks of these blocks.
+fn checked(served: &dyn Calls) -> Result<Checked, Difference> {
+    let mut checked = Checked::default();
+    for (sort, seeds) in CHECKED {
+        checks(served, sort, seeds, &mut checked)?;
+    }
+    Ok(checked)
+}
+
+/// Runs that go on from blocks which are accepted.
+fn runs_from(served: &dyn Calls) -> Result<Runs, Difference> {
+    let mut runs = Runs::default();
+    runs_from_accepted(served, Sort::Small, 0..600, &mut runs)?;
+    runs_from_accepted(served, Sort::AnySize, 600..660, &mut runs)?;
+    Ok(runs)
 }
 
 /// Damaged blocks of every sort, small, unlike any that calls leave or at the brim of a capacity,

@@ -6,7 +6,7 @@ use koolvent_model::layout::is_valid;
 #[test]
 fn runs_meet_every_call_and_most_refusals() {
     let runs = crate::runs(&Modelled::default()).expect("the model's own answers");
-    assert!(runs.met.rarest_accepted() >= 100, "{runs:?}");
+    assert!(runs.met.rarest_accepted().min(runs.met.checked) >= 100, "{runs:?}");
     runs.met.assert_refused(&[1, 2, 3, 4, 5, 6, 8, 9, 10, 13, 14, 17, 18], 1);
     assert!(runs.met.compared.iter().all(|times| *times >= 50), "{runs:?}");
     assert!(runs.taken_over >= 100, "{runs:?}");
@@ -28,7 +28,7 @@ fn runs_meet_every_call_and_most_refusals() {
 fn damages_meet_every_call_and_refusal() {
     let damaged = crate::damages(&Modelled::default()).expect("the model's own answers");
     assert!(damaged.met.rarest_accepted() >= 30, "{damaged:?}");
-    damaged.met.assert_refused(&[1, 2, 3, 4, 5, 6, 7, 8, 10, 11, 12, 13, 14, 17, 18], 1);
+    damaged.met.assert_refused(&[1, 2, 3, 4, 5, 6, 7, 8, 10, 11, 12, 13, 14, 17, 18, 19], 1);
     damaged.met.assert_refused_by_kind(20);
     assert!(damaged.valid >= 1_000, "{damaged:?}");
 }
@@ -39,7 +39,7 @@ fn edges_meet_starts_deliveries_and_their_refusals() {
     let calls = [met.reads, met.fast_reads, met.writes, met.mixed, met.shown, met.cleared];
     assert!(calls.iter().min() >= Some(&10), "{met:?}");
     assert!(met.handed_over.min(met.compared.iter().sum()) >= 10, "{met:?}");
-    met.assert_refused(&[1, 2, 3, 4, 5, 6, 7, 8, 9, 10, 13, 14, 17, 18], 1);
+    met.assert_refused(&[1, 2, 3, 4, 5, 6, 7, 8, 9, 10, 13, 14, 17, 18, 19], 1);
     met.assert_refused_by_kind(20);
 }
 
@@ -56,6 +56,23 @@ fn hand_overs_meet_views_that_stand_to_each_other_in_every_way() {
     assert!(met.handed_over >= 500, "{met:?}");
     assert!(met.compared.iter().all(|times| *times >= 100), "{met:?}");
     met.assert_refused(&[1, 4, 18], 50);
+}
+
+#[test]
+fn checks_meet_every_rule_broken_alone() {
+    let checked = crate::checked(&Modelled::default()).expect("the model's own answers");
+    assert!(checked.met.checked >= 2_000, "{checked:?}");
+    assert!(checked.broken_alone[1..].iter().all(|times| *times >= 10), "{checked:?}");
+    checked.met.assert_refused(&[1, 19], 500);
+}
+
+#[test]
+fn runs_from_accepted_blocks_show_what_these_held() {
+    let runs = crate::runs_from(&Modelled::default()).expect("the model's own answers");
+    assert!(runs.runs >= 300 && runs.held_entries_shown >= 1_000, "{runs:?}");
+    let starts = [runs.met.reads, runs.met.fast_reads, runs.met.writes, runs.met.mixed];
+    assert!(starts.iter().chain(&runs.met.delivered[1..]).min() >= Some(&500), "{runs:?}");
+    assert_eq!(runs.met.refused[19] + runs.met.refused[11] + runs.met.refused[12], 0, "{runs:?}");
 }
 
 #[test]

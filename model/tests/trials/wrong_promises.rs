@@ -5,24 +5,29 @@ use koolvent_model::block::Modelled;
 use koolvent_model::promise::Clause;
 use koolvent_model::runs::Sort;
 use koolvent_model::store::fault::Fault;
-use koolvent_model::trials::promises::broken;
+use koolvent_model::trials::promises::{broken, broken_from_accepted, Checks};
 use std::mem::discriminant;
 use std::ops::Range;
 
 /// The clauses that runs on the store break, of each run the first.
-fn broken_by(store: Modelled) -> Vec<Clause> {
-    let small = broken(&store, Sort::Small, 0..300);
-    [small, broken(&store, Sort::AnySize, 0..40)].concat()
+fn broken_by(store: Modelled, checks: Checks) -> Vec<Clause> {
+    let small = broken(&store, Sort::Small, 0..300, checks);
+    [small, broken(&store, Sort::AnySize, 0..40, checks)].concat()
+}
+
+fn broken_without_checks(fault: Fault) -> Vec<Clause> {
+    broken_by(Modelled { fault: Some(fault) }, Checks::LeftOut)
 }
 
 /// Runs on the store with the fault break each of these clauses, of whatever item and client.
 fn breaks(fault: Fault, clauses: &[Clause]) {
-    are_among(&broken_by(Modelled { fault: Some(fault) }), fault, clauses);
+    are_among(&broken_without_checks(fault), fault, clauses);
 }
 
 /// So do these runs, where those that all stores have hardly come to it.
 fn breaks_in(sort: Sort, seeds: Range<u64>, fault: Fault, clauses: &[Clause]) {
-    are_among(&broken(&Modelled { fault: Some(fault) }, sort, seeds), fault, clauses);
+    let found = broken(&Modelled { fault: Some(fault) }, sort, seeds, Checks::LeftOut);
+    are_among(&found, fault, clauses);
 }
 
 fn are_among(found: &[Clause], fault: Fault, clauses: &[Clause]) {
@@ -45,7 +50,7 @@ const NOT_CHOSEN: Clause = Clause::NotChosen { item: 0 };
 
 #[test]
 fn the_model_breaks_no_clause() {
-    assert_eq!(broken_by(Modelled::default()), []);
+    assert_eq!(broken_by(Modelled::default(), Checks::Made), []);
 }
 
 #[test]
@@ -95,7 +100,7 @@ fn fast_reads_shown_or_remembered_wrongly_are_found() {
 #[test]
 fn choices_from_another_part_of_the_view_or_from_more_are_found() {
     for fault in [Fault::PassEndsWithTheSet, Fault::VersionToSiblings] {
-        let broken = broken_by(Modelled { fault: Some(fault) });
+        let broken = broken_without_checks(fault);
         are_among(&broken, fault, &[NOT_CHOSEN]);
         assert!(
             broken.iter().all(|clause| matches!(clause, Clause::NotChosen { .. })),
@@ -166,6 +171,44 @@ fn what_shows_in_tables_or_refusals_alone_breaks_no_clause() {
         Fault::MixedAskedSpares,
         Fault::FirstReplyToAMixed,
     ] {
-        assert_eq!(broken_by(Modelled { fault: Some(fault) }), [], "{fault:?}");
+        assert_eq!(broken_without_checks(fault), [], "{fault:?}");
+    }
+}
+
+/// A check finds tables that no other clause goes by.
+#[test]
+fn a_check_that_refuses_what_the_store_has_made_is_found() {
+    let found = broken_by(Modelled { fault: Some(Fault::MixedViewAtStart) }, Checks::Made);
+    assert!(!found.is_empty() && found.iter().all(|clause| *clause == Clause::Checking));
+}
+
+#[test]
+fn from_an_accepted_block_the_model_breaks_no_clause() {
+    let model = Modelled::default();
+    assert_eq!(broken_from_accepted(&model, Sort::Small, 0..400), []);
+    assert_eq!(broken_from_accepted(&model, Sort::AnySize, 400..440), []);
+}
+
+/// Of what a list begins from an accepted block, with the views and latest that the block held.
+#[test]
+fn from_accepted_blocks_wrong_stores_break_the_same_clauses() {
+    for (fault, clauses) in [
+        (Fault::PassEndsWithTheSet, &[NOT_CHOSEN][..]),
+        (Fault::VersionToSiblings, &[NOT_CHOSEN]),
+        (Fault::ChosenAtTheEnd, &[NOT_CHOSEN]),
+        (Fault::OwnWriteShown, &[NOT_CHOSEN]),
+        (Fault::GotLeavesTheView, &[OWN_WRITE_MISSED, NOT_CHOSEN]),
+        (Fault::FirstRepliesUnseen, &[WENT_BACK, Clause::OlderThanShown, NOT_CHOSEN]),
+        (Fault::InitialFirst, &[COMMITTED_MISSED, STALE]),
+        (Fault::LateCommit, &[COMMITTED_MISSED, STALE]),
+        (Fault::NewestFirst, &[NOT_BROUGHT]),
+        (Fault::OwnLatestAgain, &[FRACTURED]),
+        (Fault::EndsWithTheFirstPart, &[Clause::ReadEnd]),
+        (Fault::EndsWithTheLastGot, &[Clause::MixedEnd]),
+        (Fault::FastReaderStarts, &[BOUNDED]),
+        (Fault::NothingHandedOver, &[OWN_WRITE_MISSED, NOT_CHOSEN]),
+    ] {
+        let store = Modelled { fault: Some(fault) };
+        are_among(&broken_from_accepted(&store, Sort::Small, 0..150), fault, clauses);
     }
 }

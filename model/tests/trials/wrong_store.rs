@@ -80,6 +80,14 @@ pub enum Wrong {
     ClearsWriteAtAnEnd,
     /// The end of a mixed transaction keeps of its words the halves that it shows.
     KeepsShownHalves,
+    /// A check looks at the views and latest of clients and items that don't exist too.
+    ChecksAbsentEntries,
+    /// A check takes the first replies of a client that has no fast read for kept ones.
+    ChecksOldFirstReplies,
+    /// A check looks at a message past the last.
+    ChecksOneMessageMore,
+    /// A check looks at a version past the last.
+    ChecksOneVersionMore,
 }
 
 impl Wrong {
@@ -215,6 +223,30 @@ impl Wrong {
             kept += 1;
         }
         after[places::VERSIONS] = kept as u64;
+    }
+
+    /// Whether a check that looks at words which are no field finds fault with an accepted block.
+    fn finds_fault(self, block: &[u64]) -> bool {
+        let stored: Vec<u64> = (0..block[places::VERSIONS] as usize)
+            .map(|place| block[places::version(place) + 2])
+            .collect();
+        let is_odd = |place: usize| block[place] != 0 && !stored.contains(&block[place]);
+        let clients = 1..=block[places::CLIENTS] as usize;
+        match self {
+            Wrong::ChecksAbsentEntries => absent_entries(block).into_iter().any(is_odd),
+            Wrong::ChecksOldFirstReplies => clients
+                .filter(|client| block[places::scalar(*client, Scalar::Mode)] <= WRITING)
+                .any(|client| (0..64).any(|item| is_odd(places::first(client, item)))),
+            Wrong::ChecksOneMessageMore => {
+                let messages = block[places::MESSAGES];
+                messages < LOAD_CAPACITY && block[places::message(messages as usize)] != 0
+            }
+            Wrong::ChecksOneVersionMore => {
+                let versions = stored.len();
+                versions < 512 && is_odd(places::version(versions) + 2)
+            }
+            _ => false,
+        }
     }
 
     fn client(self, client: u64) -> u64 {
@@ -398,6 +430,18 @@ impl Calls for Wrong {
         if *self == Wrong::ComparesAbsentItems && answer == 0 {
             let [one, other] = [first, second].map(|client| absent_items(block, client));
             return u64::from(block[one] != block[other]) << 8;
+        }
+        answer
+    }
+
+    fn check(&self, block: &[u64]) -> u64 {
+        let mut longer = block.to_vec();
+        if *self == Wrong::OneWordShort && block.len() == NEEDED - 1 {
+            longer.push(0);
+        }
+        let answer = MODEL.check(&longer);
+        if answer == 0 && self.finds_fault(block) {
+            return 19;
         }
         answer
     }

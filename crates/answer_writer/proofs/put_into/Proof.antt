@@ -10,7 +10,7 @@ use Rattle.store_frames.specs.Answers.{lineOf, answerLine}
 use Rattle.store_frames.proofs.Writing.{length-take-most, answer-refused, answer-made}
 use Rattle.store_frames.proofs.Writing.{answer-started, answer-delivered, answer-shown}
 use Rattle.store_frames.proofs.Writing.{answer-cleared, answer-handed-over}
-use Rattle.store_frames.proofs.Writing.{answer-compared, written}
+use Rattle.store_frames.proofs.Writing.{answer-compared, answer-checked, written}
 use Rattle.answer_writer.proofs.put_into.Statement.{statement}
 use Rattle.answer_writer.proofs.put_into.Tie as tie
 
@@ -91,6 +91,12 @@ enum-known-a-7 c = search needs
 
 put-line-requires-7 : tie.Need-put-line-requires-7
 put-line-requires-7 c κs = search needs
+
+enum-told-2 : tie.Need-enum-told-2
+enum-told-2 c = search needs
+
+put-line-requires-8 : tie.Need-put-line-requires-8
+put-line-requires-8 c κs = search needs
 
 same-length : tie.Need-same-length
 same-length c = search needs
@@ -190,6 +196,18 @@ returns-8 c =
     ∙ sym (ap answer (c .before .before .before .before .before .a7 .given .1)))
     (c .before .before .put-line7 .ensures)
 
+same-length-9 : tie.Need-same-length-9
+same-length-9 c = search needs
+
+returns-9 : tie.Need-returns-9
+returns-9 c =
+    let a = c .before .before .before .before .before .before .before .before .args in
+    let answer : Answer → List ℕ = λ x. answerLine x (a .shown .now) in
+    written (a .out .now)
+    (answer-checked (a .shown .now)
+    ∙ sym (ap answer (c .before .before .before .before .enum-told2 .given .1)))
+    (c .before .before .put-line8 .ensures)
+
 pub put-into-spec : {M : Type 1} → statement M
 put-into-spec =
     tie.close
@@ -218,6 +236,8 @@ put-into-spec =
     put-line-requires-6
     enum-known-a-7
     put-line-requires-7
+    enum-told-2
+    put-line-requires-8
     same-length
     returns
     same-length-2
@@ -233,4 +253,6 @@ put-into-spec =
     same-length-7
     returns-7
     same-length-8
-    returns-8)
+    returns-8
+    same-length-9
+    returns-9)

@@ -40,7 +40,7 @@ use Rattle.condition3.proofs.Common.{gets-none, prepares-none}
 
 -- ---- what is in flight, and what leaves, was in flight at first or joined
 
-in-staying : (w : World) (c : Call) (l : Labelled) → In l (staying w c) → In l (w .inFlight)
+pub in-staying : (w : World) (c : Call) (l : Labelled) → In l (staying w c) → In l (w .inFlight)
 unfolding staying withoutAll
 in-staying w c l i = go (does w c .leaves) i
   where

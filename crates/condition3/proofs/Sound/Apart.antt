@@ -44,6 +44,7 @@ module _ (caps : Capacities) (L : Ledger) (t : Tables) (sound : SoundBy caps L t
         writes = writes-carried caps L t sound Used (used-covered t) L (a .versions) carries;
         last = sound .last;
         firsts = firsts-carried caps L t sound Used (used-covered t) L (a .versions) carries;
+        firstValues = sound .firstValues;
         one = sound .one;
         fits = λ m i.
             fits-carried caps L t sound Used (used-covered t) L (a .versions) carries m i

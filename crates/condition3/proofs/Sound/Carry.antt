@@ -25,7 +25,7 @@ use Rattle.protocol.proofs.Cleared.{Covers}
 use Rattle.protocol.proofs.FastRead.{first-in-set}
 use Rattle.protocol.proofs.Ranges.Values.{IsClient, owner-in-range}
 use Rattle.condition3.proofs.Sound.{Ledger, Good, GoodEntry, Kept, Last, Writes, Fits}
-use Rattle.condition3.proofs.Sound.{SoundBy}
+use Rattle.condition3.proofs.Sound.{FirstValue, SoundBy}
 use Rattle.condition3.proofs.Common.{hasItem, Like}
 
 -- L′ and vs′ say of stamp s what L and vs say
@@ -199,6 +199,16 @@ module _ (caps : Capacities) (L : Ledger) (t : Tables) (sound : SoundBy caps L t
       (sound .valid .inRange .client d i .read .set) (first-in-set p k e) in
       carry-entry L L′ (t .versions) vs′ k (p .firsts k)
       (carries (p .firsts k .stamp) (covers .first d k i l e)) (sound .firsts d k i e)
+
+  pub first-values-carried : (d k : ℕ) → IsClient (t .sizes) d
+      → FirstValue L′ (t .client d .read) k
+  first-values-carried d k i e again =
+      let p = t .client d .read in
+      let l : k < t .sizes .items = has-below (p .set) k (t .sizes .items)
+      (sound .valid .inRange .client d i .read .set) (first-in-set p k e) in
+      sound .firstValues d k i e again
+      ∙ sym (carries (p .firsts k .stamp) (covers .first d k i l e) .value k
+      (sound .firsts d k i e .good .mine))
 
   pub fits-carried : (m : Message) → In m (t .messages) → (c′ : Client)
       → (hasItem m ≡ true → Like (t .client (ownerOf m)) c′)

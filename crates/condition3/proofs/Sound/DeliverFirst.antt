@@ -8,7 +8,7 @@ use Prim.Native.Nat.{ℕ, _+_, _≤_, _<_}
 use native.Mathlib.Nat.{le-refl}
 use native.Mathlib.Omega.{arith}
 use lib.Dec.{eqb}
-use borrow.Author.Tests.{eqb-true}
+use borrow.Author.Tests.{eqb-true, eqb-false}
 use Rattle.basics.proofs.Cases.{by-test, not-both, eqb-same}
 use Rattle.basics.specs.Lists.{counted, without}
 use Rattle.basics.proofs.Lists.{counted-append}
@@ -28,13 +28,13 @@ use Rattle.protocol.specs.Steps.{delivered, joined, gotFirst, offered, ended, i
 use Rattle.protocol.proofs.Each.{Each, each-none, each-append, each-upto}
 use Rattle.protocol.proofs.Put.{by-cond, put-same, put-every}
 use Rattle.protocol.proofs.FastRead.{first-in-set, no-first, first-come, first-other, stale-below}
-use Rattle.protocol.proofs.FastRead.{stale-in-set}
-use Rattle.protocol.proofs.Kept.Values.{fast-alone, no-write-awaited}
+use Rattle.protocol.proofs.FastRead.{stale-in-set, first-unanswered}
+use Rattle.protocol.proofs.Kept.Values.{no-write-awaited, fast-alone}
 use Rattle.protocol.proofs.Ranges.Values.{IsClient}
 use Rattle.protocol.proofs.Ranges.Clients.{ClientInRange}
 use Rattle.protocol.proofs.Ranges.Tables.{Valid}
 use Rattle.condition3.proofs.Sound.{Ledger, Good, GoodEntry, Writes, Last, FitsFirstReply}
-use Rattle.condition3.proofs.Sound.{FitsGet, Fits, SoundBy}
+use Rattle.condition3.proofs.Sound.{FitsGet, Fits, FirstValue, SoundBy}
 use Rattle.condition3.proofs.Sound.Carry.{owner-client, recounted, last-recounted}
 use Rattle.condition3.proofs.Sound.End.{ended-last}
 use Rattle.condition3.proofs.Sound.Start.{part-counted, part-uncounted}
@@ -69,12 +69,25 @@ module _ (caps : Capacities) (L : Ledger) (t : Tables) (sound : SoundBy caps L t
       (λ j other h. sound .firsts d j is-client
       (sym (first-other (t .client d .read) v j other) ∙ h))
 
+  -- and their values, in the first part
+  kept-value : v .value ≡ L .value (v .stamp) (v .item) → kept .stage ≡ 1
+      → (j : ℕ) → hasFirst kept j ≡ true
+      → kept .values j ≡ L .value (kept .firsts j .stamp) j
+  kept-value value first j h =
+      by-test (eqb j (v .item))
+      (λ u. rw u (value ∙ sym (ap (L .value (v .stamp)) (eqb-true j (v .item) u))))
+      (λ u. rw u (sound .firstValues d j is-client
+      (sym (first-other (t .client d .read) v j (eqb-false j (v .item) u)) ∙ h)
+      (first-unanswered (t .client d .read) j first)))
+
   -- when all have come, as a view
   module _ (first : kept .stage ≡ 1) (over : eqb (kept .awaited) 0 ≡ true) where
+    all-come : (j : ℕ) → has (kept .set) j ≡ true → hasFirst kept j ≡ true
+    all-come j e = first-come kept j first e
+        (subst (λ (x : ℕ). has x j ≡ false) (sym (eqb-true (kept .awaited) 0 over)) (has-empty j))
+
     all-good : (j : ℕ) → has (kept .set) j ≡ true → GoodEntry L (t .versions) j (kept .firsts j)
-    all-good j e =
-        kept-good j (first-come kept j first e
-        (subst (λ (x : ℕ). has x j ≡ false) (sym (eqb-true (kept .awaited) 0 over)) (has-empty j)))
+    all-good j e = kept-good j (all-come j e)
 
     pub replies-good : (j : ℕ) → j < t .sizes .items
         → GoodEntry L (t .versions) j (repliesOf kept j)
@@ -220,6 +233,24 @@ module _ (caps : Capacities) (L : Ledger) (t : Tables) (sound : SoundBy caps L t
       (first-in-set (secondPart n part) j h)))
       (λ o. subst FirstsGood (sym (part-more o))
       (kept-good caps L t sound d is-client v (fit .version)))))
+
+  abbrev ValuesKept : ReadPart → Type 0
+  ValuesKept q = (j : ℕ) → FirstValue L q j
+
+  first-values-here : ValuesKept (c′ .read)
+  first-values-here =
+      by-test ends
+      (λ e. subst (λ (x : Client). ValuesKept (x .read)) (sym (is-ended e))
+      (λ j h. not-both h (no-first noRead j refl)))
+      (λ e. subst (λ (x : Client). ValuesKept (x .read)) (sym (is-open e))
+      (by-test over
+      (λ o. subst ValuesKept (sym (part-over o))
+      (λ j h again. kept-value caps L t sound d is-client v (fit .version) (fit .value)
+      (fit .byItem) j (all-come caps L t sound d is-client v (fit .version) (fit .byItem) o j
+      (first-in-set (secondPart n part) j h))))
+      (λ o. subst ValuesKept (sym (part-more o))
+      (λ j h again. kept-value caps L t sound d is-client v (fit .version) (fit .value)
+      (fit .byItem) j h))))
 
   -- ---- the view
 
@@ -375,6 +406,9 @@ module _ (caps : Capacities) (L : Ledger) (t : Tables) (sound : SoundBy caps L t
         firsts = λ e j h. put-every (λ (e : ℕ) (x : Client). IsClient (t .sizes) e
             → hasFirst (x .read) j ≡ true → GoodEntry L (t .versions) j (x .read .firsts j))
             (t .client) d c′ (λ h. firsts-here j) (λ e n h. sound .firsts e j h) e h;
+        firstValues = λ e j h. put-every (λ (e : ℕ) (x : Client). IsClient (t .sizes) e
+            → FirstValue L (x .read) j) (t .client) d c′ (λ h. first-values-here j)
+            (λ e n h. sound .firstValues e j h) e h;
         one = one;
         fits = each-append FitsHere (without i (t .messages)) js
             (staying caps L t sound i (put (t .client) d c′)

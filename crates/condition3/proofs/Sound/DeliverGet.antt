@@ -55,6 +55,7 @@ module _ (caps : Capacities) (L : Ledger) (t : Tables) (sound : SoundBy caps L t
           writes = sound .writes;
           last = sound .last;
           firsts = sound .firsts;
+          firstValues = sound .firstValues;
           one = one;
           fits = each-append (λ x. Fits L (t .versions) (t .client (ownerOf x)) x)
               (without i (t .messages)) (reply ∷ [])

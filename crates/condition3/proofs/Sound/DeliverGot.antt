@@ -2,13 +2,15 @@
 use mathlib.Core.Bool.{true, false, Bool, cond}
 use mathlib.Core.List.{List, []}
 use mathlib.Core.Logic.{_≢_, _⊎_, inl, inr}
-use mathlib.Core.Path.{_≡_, refl, sym, _∙_, subst}
+use mathlib.Core.Path.{_≡_, refl, sym, ap, _∙_, subst}
 use Prim.Native.Nat.{ℕ, _≤_, _<_}
 use native.Mathlib.Nat.{le-refl}
+use lib.Dec.{eqb}
+use borrow.Author.Tests.{eqb-true, eqb-false}
 use Rattle.basics.proofs.Cases.{by-test, not-both}
 use Rattle.basics.specs.Lists.{counted, without}
 use Rattle.itemset.specs.Set.{has, remove}
-use Rattle.itemset.proofs.Laws.{has-empty}
+use Rattle.itemset.proofs.Laws.{has-empty, has-remove-same, has-remove-other}
 use Rattle.protocol.specs.declared.Version.{Version}
 use Rattle.protocol.specs.declared.Entry.{Entry}
 use Rattle.protocol.specs.declared.Message.{Message}
@@ -21,10 +23,11 @@ use Rattle.protocol.specs.Steps.{delivered, joined, stored, seen, commits, got,
 use Rattle.protocol.specs.Steps.{ended, isLast}
 use Rattle.protocol.proofs.Each.{Each, each-none, each-append}
 use Rattle.protocol.proofs.Put.{by-cond, put-every}
-use Rattle.protocol.proofs.FastRead.{no-first, first-apart}
+use Rattle.protocol.proofs.FastRead.{no-first, first-apart, answered-first, answered-other}
 use Rattle.protocol.proofs.Ranges.Values.{IsClient}
 use Rattle.protocol.proofs.Ranges.Tables.{Valid}
-use Rattle.condition3.proofs.Sound.{Ledger, GoodEntry, Writes, Last, FitsGot, Fits, SoundBy}
+use Rattle.condition3.proofs.Sound.{Ledger, GoodEntry, Writes, Last, FitsGot, Fits}
+use Rattle.condition3.proofs.Sound.{FirstValue, SoundBy}
 use Rattle.condition3.proofs.Sound.Carry.{owner-client, recounted, last-recounted}
 use Rattle.condition3.proofs.Sound.End.{has-some, commits-for, ended-last, seen-good}
 use Rattle.condition3.proofs.Sound.End.{commits-fit}
@@ -122,6 +125,31 @@ module _ (caps : Capacities) (L : Ledger) (t : Tables) (sound : SoundBy caps L t
       (sym (first-apart (c .read) (answered c k (v .value) .read) j (fit .byStamp) refl refl)
       ∙ e)))
 
+  -- its own item's value is the answer to the stamp asked for, the others' stay
+  answered-value : (j : ℕ) → FirstValue L (answered c k (v .value) .read) j
+  answered-value j e again =
+      let q = answered c k (v .value) .read in
+      let kept : hasFirst (c .read) j ≡ true =
+      sym (first-apart (c .read) q j (fit .byStamp) refl refl) ∙ e in
+      by-test (eqb j k)
+      (λ u.
+      let same : j ≡ k = eqb-true j k u in
+      let asked : c .read .asked j ≡ c .read .firsts j .stamp =
+      answered-first q j (fit .byStamp) e again
+      (rw same (has-remove-same (c .read .awaited) k)) in
+      let stamp : c .read .firsts j .stamp ≡ v .stamp =
+      sym asked ∙ ap (c .read .asked) same ∙ fit .asked in
+      rw u (fit .value ∙ sym (ap (L .value (v .stamp)) same)
+      ∙ ap (λ (s : ℕ). L .value s j) (sym stamp)))
+      (λ u. rw u (sound .firstValues d j is-client kept
+      (sym (answered-other (c .read) q j refl refl refl
+      (has-remove-other (c .read .awaited) k j (eqb-false j k u))) ∙ again)))
+
+  first-values-here : (j : ℕ) → FirstValue L (c′ .read) j
+  first-values-here j =
+      by-test last (λ l. rw l (λ e. not-both e (no-first noRead j refl)))
+      (λ f. rw f (answered-value j))
+
   ended-here : Last L (put (t .client) d c′) (c′ .last)
   ended-here =
       by-test last
@@ -182,6 +210,9 @@ module _ (caps : Capacities) (L : Ledger) (t : Tables) (sound : SoundBy caps L t
         firsts = λ e j h. put-every (λ (e : ℕ) (x : Client). IsClient (t .sizes) e
             → hasFirst (x .read) j ≡ true → GoodEntry L (t .versions) j (x .read .firsts j))
             (t .client) d c′ (λ h. firsts-here j) (λ e n h. sound .firsts e j h) e h;
+        firstValues = λ e j h. put-every (λ (e : ℕ) (x : Client). IsClient (t .sizes) e
+            → FirstValue L (x .read) j) (t .client) d c′ (λ h. first-values-here j)
+            (λ e n h. sound .firstValues e j h) e h;
         one = one-after caps L t sound i
             (Got d v latest) taken ofRead d k refl refl mine c′ struck-awaited js none-for;
         fits = each-append (λ x. Fits L (t .versions) (put (t .client) d c′ (ownerOf x)) x)

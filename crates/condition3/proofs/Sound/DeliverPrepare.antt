@@ -122,6 +122,7 @@ module _ (caps : Capacities) (L : Ledger) (t : Tables) (sound : SoundBy caps L t
           writes = writes-carried caps L t sound Any (all-covered t) L vs′ carries;
           last = sound .last;
           firsts = firsts-carried caps L t sound Any (all-covered t) L vs′ carries;
+          firstValues = sound .firstValues;
           one = one;
           fits = each-append (λ x. Fits L vs′ (t .client (ownerOf x)) x) (without i (t .messages))
               (Prepared (v .item) (v .stamp) ∷ [])

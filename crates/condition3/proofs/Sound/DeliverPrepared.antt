@@ -26,7 +26,7 @@ use Rattle.protocol.proofs.FastRead.{no-first}
 use Rattle.protocol.proofs.Ranges.Values.{IsClient}
 use Rattle.protocol.proofs.Ranges.Tables.{Valid}
 use Rattle.condition3.proofs.Sound.{Ledger, GoodEntry, Writes, Last, FitsPrepared, Fits}
-use Rattle.condition3.proofs.Sound.{SoundBy}
+use Rattle.condition3.proofs.Sound.{FirstValue, SoundBy}
 use Rattle.condition3.proofs.Sound.Carry.{owner-client, recounted, last-recounted}
 use Rattle.condition3.proofs.Sound.End.{commits-for, ended-last, seen-good, commits-fit}
 use Rattle.condition3.proofs.Sound.Delivery.{Taken, one-after, likes}
@@ -132,6 +132,11 @@ module _ (caps : Capacities) (L : Ledger) (t : Tables) (sound : SoundBy caps L t
       by-test last (λ l. rw l (λ e. not-both e (no-first noRead j refl)))
       (λ f. rw f (sound .firsts d j is-client))
 
+  first-values-here : (j : ℕ) → FirstValue L (c′ .read) j
+  first-values-here j =
+      by-test last (λ l. rw l (λ e. not-both e (no-first noRead j refl)))
+      (λ f. rw f (sound .firstValues d j is-client))
+
   ended-here : Last L (put (t .client) d c′) (c′ .last)
   ended-here =
       by-test last
@@ -192,6 +197,9 @@ module _ (caps : Capacities) (L : Ledger) (t : Tables) (sound : SoundBy caps L t
         firsts = λ e j h. put-every (λ (e : ℕ) (x : Client). IsClient (t .sizes) e
             → hasFirst (x .read) j ≡ true → GoodEntry L (t .versions) j (x .read .firsts j))
             (t .client) d c′ (λ h. firsts-here j) (λ e n h. sound .firsts e j h) e h;
+        firstValues = λ e j h. put-every (λ (e : ℕ) (x : Client). IsClient (t .sizes) e
+            → FirstValue L (x .read) j) (t .client) d c′ (λ h. first-values-here j)
+            (λ e n h. sound .firstValues e j h) e h;
         one = one-after caps L t sound i
             (Prepared k s) taken ofWrite d k refl refl mine c′ struck-awaited js none-for;
         fits = each-append (λ x. Fits L (t .versions) (put (t .client) d c′ (ownerOf x)) x)

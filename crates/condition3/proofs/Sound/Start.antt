@@ -25,9 +25,10 @@ use Rattle.protocol.proofs.Ranges.Values.{IsClient}
 use Rattle.protocol.proofs.Refusals.{Idle, idle-awaits}
 use Rattle.protocol.proofs.Ranges.Tables.{Valid}
 use Rattle.condition3.proofs.Sound.{Ledger, GoodEntry, Kept, Counted, Writes, Last, Fits}
-use Rattle.condition3.proofs.Sound.{SoundBy}
+use Rattle.condition3.proofs.Sound.{FirstValue, SoundBy}
 use Rattle.condition3.proofs.Sound.Carry.{Carries, view-carried, latest-carried}
 use Rattle.condition3.proofs.Sound.Carry.{writes-carried, firsts-carried, fits-carried}
+use Rattle.condition3.proofs.Sound.Carry.{first-values-carried}
 use Rattle.condition3.proofs.Sound.Delivery.{no-message}
 use Rattle.condition3.proofs.Sound.Counts.{counted-covered}
 use Rattle.condition3.proofs.Common.{isFor, hasItem, ofSide, Like, like-self, members-once}
@@ -153,6 +154,10 @@ module _ (caps : Capacities) (L : Ledger) (t : Tables) (sound : SoundBy caps L t
             → hasFirst (x .read) k ≡ true → GoodEntry L′ (t .versions) k (x .read .firsts k))
             (t .client) d c′ (λ h f. not-both f (none k))
             (λ e n h. firsts-carried caps L t sound (Counted (t .client))
+            (counted-covered caps L t sound) L′ (t .versions) carries e k h) e h;
+        firstValues = λ e k h. put-every (λ (e : ℕ) (x : Client). IsClient (t .sizes) e
+            → FirstValue L′ (x .read) k) (t .client) d c′ (λ h f. not-both f (none k))
+            (λ e n h. first-values-carried caps L t sound (Counted (t .client))
             (counted-covered caps L t sound) L′ (t .versions) carries e k h) e h;
         one = one;
         fits = each-append (λ x. Fits L′ (t .versions) (t′ .client (ownerOf x)) x) (t .messages) ms

@@ -74,6 +74,7 @@ sound-fresh caps z ok =
       writes = λ d i m. absurd (m refl);
       last = λ d i shows. not-both shows refl;
       firsts = λ d k i e. not-both e (no-first noRead k refl);
+      firstValues = λ d k i e. not-both e (no-first noRead k refl);
       one = by-side (λ σ. (d k : ℕ) → IsClient z d → counted (isFor σ d k) [] ≡ cond
           (has (awaitedOf σ (resting 0 nothing)) k) 1 0)
           (λ d k i. rw (has-empty k) refl) (λ d k i. rw (has-empty k) refl);
@@ -117,13 +118,13 @@ module _ (caps : Capacities) (L : Ledger) (t : Tables) (sound : SoundBy caps L t
       (sound-apart caps L t sound c a)
 
   -- a write part under way has its client's stamp
-  stamped : Stamps t
-  stamped d is r w z = absurd (omega (arith, sound .writes d is w .newest, is .0))
+  pub sound-stamps : Stamps t
+  sound-stamps d is r w z = absurd (omega (arith, sound .writes d is w .newest, is .0))
 
   pub sound-accepted : (c : Call) → refusal caps t c ≡ 0
       → SoundBy caps (ledgerAfter L (effects t c .begins)) (effect t c)
   unfolding effect
-  sound-accepted c e = sort-sound (sort caps t c e) (keeps caps t c e .valid stamped)
+  sound-accepted c e = sort-sound (sort caps t c e) (keeps caps t c e .valid sound-stamps)
 
   -- accepted or refused
   pub sound-step : (c : Call) → Sound caps (step caps t c .tables)

@@ -150,7 +150,8 @@ returns-5 c =
 returns-6 : tie.Need-returns-6
 unfolding parsedLater
 returns-6 c =
-    let fourth = c .before .before in
+    let fifth = c .before .before in
+    let fourth = fifth .before .before in
     let third = fourth .before .before in
     let second = third .before .before in
     let first = second .before .before in
@@ -159,7 +160,25 @@ returns-6 c =
       sym (second .before .is-frame2 .ensures) ∙ second .if2 .left,
       sym (third .before .is-frame3 .ensures) ∙ third .if3 .left,
       sym (fourth .before .is-frame4 .ensures) ∙ fourth .if4 .left,
-      sym (c .before .is-valued .ensures) ∙ c .if5 .left,
+      sym (fifth .before .is-valued .ensures) ∙ fifth .if5 .left,
+      sym (c .before .is-frame5 .ensures) ∙ c .if6 .taken,
+    )
+
+returns-7 : tie.Need-returns-7
+unfolding parsedLater
+returns-7 c =
+    let fifth = c .before .before in
+    let fourth = fifth .before .before in
+    let third = fourth .before .before in
+    let second = third .before .before in
+    let first = second .before .before in
+    rw (
+      sym (first .before .is-frame .ensures) ∙ first .if1 .left,
+      sym (second .before .is-frame2 .ensures) ∙ second .if2 .left,
+      sym (third .before .is-frame3 .ensures) ∙ third .if3 .left,
+      sym (fourth .before .is-frame4 .ensures) ∙ fourth .if4 .left,
+      sym (fifth .before .is-valued .ensures) ∙ fifth .if5 .left,
+      sym (c .before .is-frame5 .ensures) ∙ c .if6 .left,
     )
 
 pub parse-later-spec : {M : Type 1} → statement M
@@ -185,4 +204,6 @@ parse-later-spec =
     number-at-requires-8
     number-at-requires-9
     returns-5
-    returns-6)
+    (λ c κs. search needs)
+    returns-6
+    returns-7)

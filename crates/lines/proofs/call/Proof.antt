@@ -130,6 +130,12 @@ part-start-mixed-end c = search needs
 start-mixed-requires : tie.Need-start-mixed-requires
 start-mixed-requires c κs = search needs
 
+enum-told-2 : tie.Need-enum-told-2
+enum-told-2 c = search needs
+
+check-requires : tie.Need-check-requires
+check-requires c κs = search needs
+
 same-length : tie.Need-same-length
 same-length c = search needs
 
@@ -334,6 +340,25 @@ returns-10 c =
       ),
     )
 
+same-length-12 : tie.Need-same-length-12
+same-length-12 c = search needs
+
+returns-11 : tie.Need-returns-11
+unfolding callAnswer callBlock callOutput
+returns-11 c =
+    let arm = c .before .before in
+    let a = arm .before .before .before .before .before .args in
+    let b = a .b .now in
+    let f = a .f .now in
+    let o = a .shown .now in
+    let told = arm .enum-told2 .given .1 in (
+      c .check .ensures .0 ∙ sym (ap (callAnswer b f o) told),
+      (
+        c .check .ensures .1 ∙ sym (ap (callBlock b f o) told),
+        sym (ap (callOutput b f o) told),
+      ),
+    )
+
 pub call-spec : {M : Type 1} → statement M
 call-spec =
     tie.close
@@ -364,6 +389,8 @@ call-spec =
     part-start-mixed-start
     part-start-mixed-end
     start-mixed-requires
+    enum-told-2
+    check-requires
     same-length
     returns
     same-length-2
@@ -384,4 +411,6 @@ call-spec =
     same-length-10
     returns-9
     same-length-11
-    returns-10)
+    returns-10
+    same-length-12
+    returns-11)

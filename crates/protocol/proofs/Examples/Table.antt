@@ -18,6 +18,7 @@ use Rattle.protocol.specs.declared.Message.the-variants.{FirstGet, First
 use Rattle.protocol.specs.declared.Answer.{Answer}
 use Rattle.protocol.specs.declared.Answer.the-variants.{Refused, Made, Started, Delivered}
 use Rattle.protocol.specs.declared.Answer.the-variants.{Shown, Cleared, HandedOver, Compared}
+use Rattle.protocol.specs.declared.Answer.the-variants.{Checked}
 use Rattle.protocol.specs.declared.Version.{Version}
 use Rattle.protocol.specs.declared.Entry.{Entry}
 use Rattle.protocol.specs.Tables.{Sizes, Tables, isKind, fresh, numberOf, writerOf}
@@ -29,6 +30,10 @@ use Rattle.protocol.specs.Steps.{greatestIn, choice, stored, found, deli
 use Rattle.protocol.specs.Steps.{touches}
 use Rattle.protocol.specs.Clear.{mentions, unused}
 use Rattle.protocol.specs.HandOver.{standing}
+use Rattle.protocol.specs.Check.{everyEntry, clientSets, clientsSets, setsHeld, firstSet}
+use Rattle.protocol.specs.Check.{writeSet, isWhole, allWhole, linesWritten, setsAgree}
+use Rattle.protocol.specs.Check.{distinct, answeredAgain, valuesHeld, allCounted}
+use Rattle.protocol.specs.Check.{writesStamped, writesStored, fitsClient, messagesFit, sound}
 use Rattle.protocol.specs.LogFrame.{listed, readBytes, writeBytes, frame}
 use Rattle.protocol.specs.Calls.{Call, Given, first, refusal, freshAnswer, unexpected}
 use Rattle.protocol.specs.Calls.{missing, isNothing, outcomeOf, effect, reply, written, lent}
@@ -81,7 +86,9 @@ unfolding step refusal first unexpected missing isNothing effect reply written l
     endedInRange clientInRange hasFirst readPartInRange writePartInRange load arrived total occupied
     greatestIn choice stored found delivered joined touches mentions unused standing listed
     readBytes writeBytes frame every all counted without dropped has upto insert remove setOf ones
-    onesIn bigEndian numberAt
+    onesIn bigEndian numberAt everyEntry clientSets clientsSets setsHeld firstSet writeSet isWhole
+    allWhole linesWritten setsAgree distinct answeredAgain valuesHeld allCounted writesStamped
+    writesStored fitsClient messagesFit sound
 given t c = step capacities t c
 
 unfoldable pub made : Sizes → Answer
@@ -106,6 +113,7 @@ framed (Shown n) = n
 framed (Cleared n) = 0
 framed (HandedOver giver receiver) = 0
 framed (Compared n) = 0
+framed Checked = 0
 
 -- ---- A row is right
 

@@ -88,7 +88,7 @@ pub record EndedInRange (z : Sizes) (e : Ended) : Type 0 where
   pub read : showsRead (e .kind) ≡ true → ReadPartInRange z (e .read)
   pub write : showsWrite (e .kind) ≡ true → WritePartInRange z (e .write)
 
-tells-shown : (shows b : Bool) → ((not shows || b) ≡ true) ↔ (shows ≡ true → b ≡ true)
+pub tells-shown : (shows b : Bool) → ((not shows || b) ≡ true) ↔ (shows ≡ true → b ≡ true)
 tells-shown true b = (λ e s. e, λ h. h refl)
 tells-shown false b = (λ e s. not-both s refl, λ h. refl)
 

@@ -83,6 +83,9 @@ mul-result-7 c =
     let answer = c .before .a6 .given in
     omega (arith, fits-compared (start .args .a) (answer .0 .0) (answer .1) (search needs))
 
+enum-told-3 : tie.Need-enum-told-3
+enum-told-3 c = search needs
+
 returns : tie.Need-returns
 unfolding numberOfAnswer
 returns c = rw (c .before .a .given .1) refl
@@ -115,6 +118,10 @@ returns-8 : tie.Need-returns-8
 unfolding numberOfAnswer
 returns-8 c = rw (c .before .a6 .given .1) refl
 
+returns-9 : tie.Need-returns-9
+unfolding numberOfAnswer
+returns-9 c = search needs
+
 pub number-of-spec : {M : Type 1} → statement M
 number-of-spec =
     tie.close
@@ -136,6 +143,7 @@ number-of-spec =
     enum-told-2
     enum-known-a-6
     mul-result-7
+    enum-told-3
     returns
     returns-2
     returns-3
@@ -143,4 +151,5 @@ number-of-spec =
     returns-5
     returns-6
     returns-7
-    returns-8)
+    returns-8
+    returns-9)

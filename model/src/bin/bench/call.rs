@@ -60,8 +60,15 @@ pub fn rows(cases: &[Case]) -> Vec<Row> {
 }
 
 fn contenders(case: &Case) -> [Contender<'_>; CONTENDERS] {
-    let store = quickest_way((0..BLOCKS).map(|_| on_block(Proved, case)).collect());
-    [store, on_block(Modelled::default(), case), on_tables(case), floor(case)]
+    [in_the_store(case), in_the_model(case), on_tables(case), floor(case)]
+}
+
+pub fn in_the_store(case: &Case) -> Contender<'_> {
+    quickest_way((0..BLOCKS).map(|_| on_block(Proved, case)).collect())
+}
+
+pub fn in_the_model(case: &Case) -> Contender<'_> {
+    on_block(Modelled::default(), case)
 }
 
 /// Makes the call on the lent block.
@@ -71,10 +78,10 @@ fn make(served: &impl Calls, lent: &mut Lent, call: &Call) -> u64 {
 }
 
 /// What is timed isn't refused by 1, and gives the same answer, words and output from both.
-fn assert_alike(case: &Case) {
+pub fn assert_alike(case: &Case) {
     let [mut store, mut model] = [(); 2].map(|()| Lent::new(&case.block, &case.block));
     let answer = make(&Proved, &mut store, &case.call);
-    assert!([0, 3].contains(&(answer & 0xff)), "{}", case.name);
+    assert!([0, 3, 19].contains(&(answer & 0xff)), "{}", case.name);
     assert_eq!(answer, make(&Modelled::default(), &mut model, &case.call));
     assert_eq!(store.block, model.block, "{}", case.name);
     assert_eq!(store.output, model.output, "{}", case.name);

@@ -106,6 +106,11 @@ pub fn clear(name: &'static str, block: Vec<u64>, stay: usize) -> Case {
     Case { name, block, call: Call::Clear }
 }
 
+/// A check of the block.
+pub fn check_block(name: &'static str, block: Vec<u64>) -> Case {
+    Case { name, block, call: Call::Check }
+}
+
 /// Two clients, two partitions, four items: each call where the session of a write and a read of
 /// all items makes it.
 pub fn small() -> Vec<Case> {
@@ -293,7 +298,7 @@ fn last_replies(session: Session, client: u64, gots: u32, prepared: u32) -> [Ses
 }
 
 /// With client 7's read under way too: 32 gets and 32 gots more.
-fn busy_session() -> Session {
+pub fn busy_session() -> Session {
     let mut session = session_with_room();
     session.start_read(7, first_items(64));
     session.deliver(GET, 7, 32);

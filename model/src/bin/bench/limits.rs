@@ -6,6 +6,7 @@ use crate::cases::{
     COMMIT_BESIDE_THE_LAST, COMPARE, COMPARE_ALIKE, FAST_READ_OF_4, FAST_READ_OF_64,
     FETCHING_AGAIN, HAND_OVER, LAST_FIRST_REPLY, MIXED_OF_4, READ_OF_4, READ_OF_64,
 };
+use crate::checking::Checks;
 use crate::clock::Figure;
 use crate::page::{time, Measured};
 use crate::{judges, sheet};
@@ -44,6 +45,10 @@ const FRESH_SHEET: f64 = 1.1;
 /// A clearing of the busy block, with a fast read under way or without, is at most so many floors
 /// (document 02, P5).
 const CLEARING_FLOORS: f64 = 40.0;
+/// A check of the busiest block that the store's own calls leave is at most so many floors, and a
+/// check of any block so many. Document 02's P9 has no limits: these are our own.
+const BUSIEST_FLOORS: f64 = 30.0;
+const ANY_FLOORS: f64 = 100.0;
 /// A write and a read on a fresh small sheet are so many times as fast as SQLite's, and over a life
 /// with clearings no slower.
 const FASTER: f64 = 2.0;
@@ -114,6 +119,7 @@ pub fn limits(measured: &Measured) -> Vec<Limit> {
             CLEARING_FLOORS,
         ));
     }
+    limits.extend(of_checks(&measured.checks));
     limits.push(as_fast(
         format!(
             "small sheet: a write and a read of 4 items at least {FASTER} times faster than SQLite"
@@ -213,6 +219,26 @@ fn of_mixed_transactions(measured: &Measured) -> [Limit; 4] {
     ]
 }
 
+fn of_checks(checks: &Checks) -> [Limit; 2] {
+    let of_own = checks.own.iter().map(|row| row.floors);
+    let of_any = checks.own.iter().chain(&checks.made).map(|row| row.floors);
+    [
+        at_most(
+            format!(
+                "the slowest block found of the store's own calls: a check at most \
+                 {BUSIEST_FLOORS} floors"
+            ),
+            greatest(of_own),
+            BUSIEST_FLOORS,
+        ),
+        at_most(
+            format!("the slowest block found of any: a check at most {ANY_FLOORS} floors"),
+            greatest(of_any),
+            ANY_FLOORS,
+        ),
+    ]
+}
+
 fn of_the_judge(slowest: &judges::Slowest) -> [Limit; 3] {
     let rows = slowest.all();
     let [times, models] = [rows.map(|row| row.judge), rows.map(|row| row.models)].map(greatest);
@@ -239,10 +265,12 @@ fn of_the_judge(slowest: &judges::Slowest) -> [Limit; 3] {
     ]
 }
 
-fn greatest(figures: [Figure; 3]) -> Figure {
-    let quickest = figures.map(|figure| figure.quickest).into_iter().fold(0.0, f64::max);
-    let median = figures.map(|figure| figure.median).into_iter().fold(0.0, f64::max);
-    Figure { quickest, median }
+fn greatest(figures: impl IntoIterator<Item = Figure>) -> Figure {
+    let of_both = |most: Figure, figure: Figure| Figure {
+        quickest: most.quickest.max(figure.quickest),
+        median: most.median.max(figure.median),
+    };
+    figures.into_iter().fold(Figure { quickest: 0.0, median: 0.0 }, of_both)
 }
 
 fn named<'a>(rows: &'a [Row], name: &str) -> &'a Row {

@@ -5,6 +5,7 @@
 mod block;
 mod call;
 mod cases;
+mod checking;
 mod clearing;
 mod clock;
 mod floor;
@@ -27,6 +28,7 @@ fn main() {
         busy_and_fast: call::rows(&cases::busy_and_fast()),
         busy_and_mixed: call::rows(&cases::busy_and_mixed()),
         clearings: clearing::clearings(),
+        checks: checking::checks(),
         sheets: sheet::rows(),
         slowest: judges::slowest(),
         versions: growth::versions(),

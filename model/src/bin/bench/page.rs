@@ -2,13 +2,14 @@
 
 mod cannot;
 
+use crate::checking::{self, Checks};
 use crate::clearing::Clearings;
 use crate::clock::Figure;
 use crate::growth::Point;
 use crate::limits::limits;
 use crate::sheet::CALLS;
 use crate::{call, judges, machine, sheet};
-use cannot::cannot;
+use cannot::{cannot, in_lines};
 use std::fmt::Write as _;
 use std::{fs, io};
 
@@ -26,6 +27,7 @@ pub struct Measured {
     /// On that block with a mixed transaction under way.
     pub busy_and_mixed: Vec<call::Row>,
     pub clearings: Clearings,
+    pub checks: Checks,
     /// On a fresh sheet, and over the life of one.
     pub sheets: sheet::Rows,
     pub slowest: judges::Slowest,
@@ -75,12 +77,16 @@ pub fn page(measured: &Measured) -> String {
             &measured.busy_and_mixed,
         ),
         calls_table("A clearing", measured.clearings.rows()),
+        checks_table(&measured.checks),
         sheets_table(&measured.sheets),
         judges_table(&measured.slowest),
     ];
     TEXT.replace("{machine}", &machine::class())
         .replace("{limits}", &limits_table(measured))
         .replace("{clearing}", &clearing(measured))
+        .replace("{own_blocks}", &measured.checks.tried[0].to_string())
+        .replace("{made_blocks}", &measured.checks.tried[1..].iter().sum::<usize>().to_string())
+        .replace("{checking}", &checking(&measured.checks))
         .replace("{cannot}", &cannot(measured))
         .replace("{tables}\n", &tables.join("\n"))
 }
@@ -112,6 +118,27 @@ fn clearing(measured: &Measured) -> String {
     format!("{worst} where the busy block takes {busy}, and with a fast read under way {fast}")
 }
 
+/// The slowest block of the store's own calls, and the slowest of any.
+fn checking(checks: &Checks) -> String {
+    let told = |whose: &str, row: &checking::Row| {
+        let (time, floors) = (time(row.store.quickest), row.floors.quickest);
+        let checking::Row { what, why, .. } = row;
+        format!(
+            "The slowest {whose} takes {time}, {floors:.0} floors: {what}. What makes it slow: \
+             {why}."
+        )
+    };
+    let own = told("of the store's own calls", most_floors(&checks.own));
+    let any = told("of any", most_floors(checks.own.iter().chain(&checks.made)));
+    in_lines(&format!("{own} {any}"))
+}
+
+fn most_floors<'a>(rows: impl IntoIterator<Item = &'a checking::Row>) -> &'a checking::Row {
+    let floors = |row: &checking::Row| row.floors.quickest;
+    let most = rows.into_iter().max_by(|one, other| floors(one).total_cmp(&floors(other)));
+    most.expect("a row")
+}
+
 fn calls_table<'a>(title: &str, rows: impl IntoIterator<Item = &'a call::Row>) -> String {
     let head = [
         "Call",
@@ -132,6 +159,31 @@ fn calls_table<'a>(title: &str, rows: impl IntoIterator<Item = &'a call::Row>) -
         line(
             &mut text,
             &[row.name, &store, &model, &tables, &floor, &to_model, &to_tables, &to_floor],
+        );
+    }
+    text
+}
+
+fn checks_table(checks: &Checks) -> String {
+    let head = [
+        "Block",
+        "What makes it slow",
+        "Answer",
+        "Store",
+        "Model on the block",
+        "Floor",
+        "Store / model on the block",
+        "Store / floor",
+    ];
+    let mut text = "## A check of a block: the slowest that are found\n\n".to_owned()
+        + &heading(&head, "|---|---|---|--:|--:|--:|--:|--:|");
+    for row in checks.rows() {
+        let answer = if row.is_accepted { "accepted" } else { "19" };
+        let [store, model, floor] = [row.store, row.model, row.floor].map(times);
+        let [to_model, to_floor] = [row.models, row.floors].map(ratios);
+        line(
+            &mut text,
+            &[&row.what, row.why, answer, &store, &model, &floor, &to_model, &to_floor],
         );
     }
     text

@@ -47,6 +47,10 @@ impl Session {
         accepted(self.store.start_mixed(client, read, write, &values));
     }
 
+    pub fn hand_over(&mut self, giver: u64, receiver: u64) {
+        accepted(self.store.hand_over(giver, receiver));
+    }
+
     /// A read from its start to its end.
     pub fn read(&mut self, client: u64, set: u64) {
         self.start_read(client, set);

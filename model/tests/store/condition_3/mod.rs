@@ -1,6 +1,7 @@
 //! The checker of condition 3 finds each clause broken when it is, and only then. It goes by calls,
 //! answers and outputs: what tables alone say, a client's count and views, is for tests/trials.
 
+mod accepted;
 mod answers;
 mod bounds;
 mod chosen;

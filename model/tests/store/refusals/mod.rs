@@ -2,6 +2,7 @@
 //! it was.
 
 mod capacities;
+mod checks;
 mod clearings;
 mod deliveries;
 mod fast_reads;

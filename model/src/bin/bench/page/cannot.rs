@@ -83,7 +83,7 @@ fn over_a_life(row: &Row, sqlite: InSqlite) -> String {
 }
 
 /// The words in lines of the page's width.
-fn in_lines(paragraph: &str) -> String {
+pub fn in_lines(paragraph: &str) -> String {
     let mut text = String::new();
     let mut columns = 0;
     for word in paragraph.split(' ') {

@@ -177,6 +177,11 @@ impl<Look: Fn(&[u64])> Calls for Looked<Look> {
         self.0(block);
         Proved.start_mixed(block, client, read, write, values)
     }
+
+    fn check(&self, block: &[u64]) -> u64 {
+        self.0(block);
+        Proved.check(block)
+    }
 }
 
 /// So many checks are made before each call to tell what one takes: they take several times as long

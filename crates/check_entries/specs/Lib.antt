@@ -1,0 +1,2 @@
+-- The tables that a check looks in.
+pub mod Entries

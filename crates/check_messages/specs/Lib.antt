@@ -1,0 +1,2 @@
+-- The messages of a client's part.
+pub mod Sides

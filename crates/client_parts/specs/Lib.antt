@@ -1,0 +1,1 @@
+-- The parts of a client are those of its tables: nothing more is defined here.

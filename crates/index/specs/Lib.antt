@@ -1,0 +1,2 @@
+-- The places of keys, and the links that name them.
+pub mod Index
