@@ -1,1 +1,3 @@
 // Definitions and laws that the other crates share: see specs/ and proofs/. No code.
+
+#![tactic(auto)]

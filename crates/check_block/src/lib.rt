@@ -1,5 +1,8 @@
 // A check of a valid block (document 02, P9): every place that holds a stamp, a set or a value is
 // looked at once, with the block's stamps and versions found by their links.
+
+#![tactic(auto)]
+
 ghost use Rattle.std.specs.Prelude.{true, ◌≡◌, suc, ◌≤◌, length};
 ghost use Rattle.basics.specs.Lists.{every};
 ghost use Rattle.protocol.specs.Check.{sound};

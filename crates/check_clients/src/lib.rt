@@ -1,4 +1,7 @@
 // Clients as a check sees them: the first replies that a fast read keeps, and writes under way.
+
+#![tactic(auto)]
+
 ghost use Rattle.std.specs.Prelude.{not, ◌||◌, ◌≡◌, ◌≤◌, ◌<◌};
 ghost use Rattle.basics.specs.Lists.{every};
 ghost use Rattle.itemset.specs.Set.{has};

@@ -1,6 +1,9 @@
 // The entries of views and latest, and the holders of a stamp's set, as a check sees them: stamps that
 // are whole or initial, sets that agree and have the item, numbers that are counted, and no two stored
 // versions alike.
+
+#![tactic(auto)]
+
 ghost use Rattle.std.specs.Prelude.{◌&&◌, ◌≢◌, ◌≡◌, suc, ◌≤◌, ◌<◌, eqb, length};
 ghost use Rattle.basics.specs.Lists.{table, every, all};
 ghost use Rattle.protocol.specs.Range.{each};

@@ -1,5 +1,8 @@
 // Messages as a check sees them: each awaited item of a client's part has exactly one, and each
 // passes the test of its kind.
+
+#![tactic(auto)]
+
 pub mod kinds;
 
 ghost use Rattle.std.specs.Prelude.{true, cond, ◌&&◌, ◌≡◌, ◌%◌, ◌≤◌, ◌<◌, eqb, leb, length};

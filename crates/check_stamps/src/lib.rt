@@ -1,5 +1,8 @@
 // The stamps of a valid block found by their links, and its versions by item and stamp: what a check
 // asks of a stamp or of a version is told by one look.
+
+#![tactic(auto)]
+
 ghost use Rattle.std.specs.Prelude.{true, cond, ◌≡◌, ◌≢◌, ◌≤◌, ◌<◌, eqb, length};
 ghost use Rattle.basics.specs.Lists.{table};
 ghost use Rattle.protocol.specs.Steps.{stored};

@@ -1,6 +1,9 @@
 // A clearing: drops the stored versions whose stamp is in no view, no latest, no message, no write
 // under way and no first reply that a fast read keeps. The stamps in use are gathered once and
 // marked in a table of slots, so that most versions are told by one look at it.
+
+#![tactic(auto)]
+
 ghost use Rattle.std.specs.Prelude.{true, cond, [], ◌≢◌, ◌≡◌, ◌+◌, ◌*◌, ◌≤◌, ◌<◌, length, take};
 ghost use Rattle.std.proofs.lemmas.List.Edits.{sets};
 ghost use Rattle.basics.specs.Lists.{table};

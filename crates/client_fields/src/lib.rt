@@ -1,5 +1,8 @@
 // The fields of a client (document 01: desk) but its view and its first replies: eleven of its own,
 // and four words for each item.
+
+#![tactic(auto)]
+
 ghost use Rattle.std.specs.Prelude.{◌≡◌, ◌≤◌, ◌<◌};
 ghost use Rattle.layout.specs.Layout.{at, store, scalars, asked, values, last_stamps, last_values};
 ghost use Rattle.layout.specs.Layout.{client_words, scalar_at, mode_at, count_at, set_at, awaited_at};

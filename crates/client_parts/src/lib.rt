@@ -1,5 +1,8 @@
 // The fields of a client's read part and write part, under way or last ended, in whichever words
 // its mode or kind has them; 0 where it has no such part.
+
+#![tactic(auto)]
+
 ghost use Rattle.std.specs.Prelude.{cond, ◌||◌, ◌≡◌, ◌≤◌, ◌<◌};
 ghost use Rattle.protocol.specs.Range.{has_first};
 ghost use Rattle.layout.specs.Layout.{most_clients, most_items, is_write_mode};

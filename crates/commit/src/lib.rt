@@ -1,5 +1,8 @@
 // Commits: each item of the partition with a stored version of the stamp takes it as latest, if it
 // is later. One pass over the versions.
+
+#![tactic(auto)]
+
 ghost use Rattle.std.specs.Prelude.{◌≡◌, ◌≤◌, ◌<◌, length};
 ghost use Rattle.basics.specs.Fold.{up_to};
 ghost use Rattle.commit.specs.Commit.{commit_item, commit_version, commit_delivered};

@@ -1,4 +1,7 @@
 // Deliveries on the block: the message is taken out, later ones move up, and it does its work.
+
+#![tactic(auto)]
+
 ghost use Rattle.std.specs.Prelude.{◌≡◌, ◌≤◌, ◌<◌, length};
 ghost use Rattle.layout.specs.Layout.{most_versions, most_messages, needed};
 ghost use Rattle.layout.specs.Store.{take_out};

@@ -1,4 +1,7 @@
 // A delivery with its answer. A refused one changes nothing.
+
+#![tactic(auto)]
+
 ghost use Rattle.std.specs.Prelude.{true, ◌≡◌, ◌<◌};
 ghost use Rattle.protocol.specs.Calls.{deliver};
 ghost use Rattle.layout.specs.Layout.{header, at, versions_at, messages_at};

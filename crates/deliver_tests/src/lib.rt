@@ -1,5 +1,8 @@
 // What is told of a message: before it is delivered refusal 11 or 12 and the version that answers a
 // get, and after it the outcome.
+
+#![tactic(auto)]
+
 ghost use Rattle.std.specs.Prelude.{cond, ◌≡◌, ◌≤◌, ◌<◌, length};
 ghost use Rattle.protocol.specs.Tables.{writer_of};
 ghost use Rattle.layout.specs.Layout.{most_versions, needed};

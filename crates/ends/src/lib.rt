@@ -1,4 +1,7 @@
 // Ends of transactions on the block: what the last reply does.
+
+#![tactic(auto)]
+
 ghost use Rattle.std.specs.Prelude.{◌≡◌, ◌≤◌};
 ghost use Rattle.ends.specs.Ends.{ended};
 

@@ -1,6 +1,8 @@
 // What the judge answers. The findings and the verdict on a log are definitions, in specs/; what
 // the verdict says in the words of the sources is proved in proofs/.
 
+#![tactic(auto)]
+
 #[derive(Drop)]
 pub enum Verdict {
     // Over 32,768 bytes or over 256 line ends: refusal 16.

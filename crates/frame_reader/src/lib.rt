@@ -1,4 +1,7 @@
 // A line read as the frame that it is (document 01: store frames).
+
+#![tactic(auto)]
+
 ghost use Rattle.std.specs.Prelude.{◌≡◌, ◌≤◌, length};
 ghost use Rattle.std.proofs.lemmas.List.Edits.{sets};
 ghost use Rattle.store_frames.specs.Limits.{most_frame};

@@ -1,5 +1,8 @@
 // Stamps, entries and versions in range, on plain numbers: one at a time, or all that a loop meets,
 // gathered by `|` and `&` into words that are tested once.
+
+#![tactic(auto)]
+
 ghost use Rattle.std.specs.Prelude.{◌≡◌, ◌-◌, ◌<◌, ◌≤◌, not, if◌then◌else◌, nat_lt};
 ghost use Rattle.itemset.specs.Set.{has};
 ghost use Rattle.protocol.specs.Range.{stamp_in_range, entry_in_range};

@@ -1,5 +1,8 @@
 // Handing over (document 02, P6) on the block: a client's view takes over what another's holds; and
 // how one client's view stands to another's. One pass over the two views each.
+
+#![tactic(auto)]
+
 ghost use Rattle.std.specs.Prelude.{◌≡◌, ◌≤◌, ◌<◌, length};
 ghost use Rattle.protocol.specs.HandOver.{standing_by, standing};
 ghost use Rattle.layout.specs.Layout.{needed, header, at, clients_at, items_at};

@@ -1,5 +1,8 @@
 // Bytes as lowercase hexadecimal text: two digits a byte, most significant byte first, one frame a
 // line.
+
+#![tactic(auto)]
+
 ghost use Rattle.std.specs.Prelude.{◌≡◌, ◌+◌, ◌*◌, ◌/◌, ◌≤◌, ◌<◌, length};
 ghost use Rattle.std.proofs.lemmas.List.Edits.{sets};
 ghost use Rattle.hexadecimal.specs.Decode.{decoded};

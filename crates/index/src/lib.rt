@@ -2,6 +2,9 @@
 // keys, or tells that they are absent. Where another key has the slot, the walk goes on by the
 // key's digits to base 8, lowest first. Where all keys and the sought key are below 8^d, a walk
 // meets at most d + 1 links (`walk-short`, proofs/Short.antt).
+
+#![tactic(auto)]
+
 ghost use Rattle.std.specs.Prelude.{◌≡◌, suc, ◌<◌, length};
 ghost use Rattle.index.specs.Index.{place, slot_of, Ends, Links, Indexed, Index};
 

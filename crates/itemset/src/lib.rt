@@ -1,5 +1,8 @@
 // Sets of items as 64-bit numbers: item k is the bit worth 2 to the power k. No set has an item of
 // 64 or more.
+
+#![tactic(auto)]
+
 ghost use Rattle.std.specs.Prelude.{◌≡◌, ◌-◌};
 ghost use Rattle.itemset.specs.Set.{has, count, rank, insert64, remove, all_below, least_from};
 

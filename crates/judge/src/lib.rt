@@ -1,5 +1,8 @@
 // The judge of a log (document 01: findings). It knows the published definitions and nothing of the
 // store.
+
+#![tactic(auto)]
+
 mod search;
 
 ghost use Rattle.std.specs.Prelude.{◌≡◌, ◌≤◌, false};

@@ -1,5 +1,8 @@
 // Reads a log from standard input and prints the judge's verdict as a line of hexadecimal (document
 // 01: frames). It sees only the judge's promise.
+
+#![tactic(auto)]
+
 ghost use Rattle.std.specs.Prelude.{[], ◌∷◌, ◌++◌, ◌≡◌, ◌+◌, ◌≤◌, ◌<◌, length, take};
 ghost use Rattle.std.proofs.lemmas.List.Edits.{sets};
 ghost use Rattle.hexadecimal.specs.Number.{big_endian};

@@ -1,4 +1,7 @@
 // Which frames are well-formed (document 01: log frames).
+
+#![tactic(auto)]
+
 ghost use Rattle.std.specs.Prelude.{◌≡◌, ◌≤◌};
 ghost use Rattle.log_format.specs.Log.{is_client, is_whole, entry_number, entry_writer, entries_whole};
 ghost use Rattle.log_format.specs.Log.{read_shaped, write_shaped, hand_over_shaped, shaped as shaped_as};

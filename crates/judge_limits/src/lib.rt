@@ -1,4 +1,7 @@
 // The limits of a log (document 01: refusal 16).
+
+#![tactic(auto)]
+
 ghost use Rattle.std.specs.Prelude.{cond, ◌≡◌, ◌≤◌, eqb};
 ghost use Rattle.basics.specs.Lists.{counted};
 ghost use Rattle.log_format.specs.Log.{too_long};

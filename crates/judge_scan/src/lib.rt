@@ -1,5 +1,8 @@
 // A log's lines, found once: each is decoded behind the last one, parsed, and marked by its start
 // (document 01: frames).
+
+#![tactic(auto)]
+
 ghost use Rattle.std.specs.Prelude.{◌≡◌, ◌+◌, ◌/◌, ◌≤◌, ◌<◌, length};
 ghost use Rattle.std.proofs.lemmas.List.Edits.{sets};
 ghost use Rattle.hexadecimal.specs.Decode.{decoded};

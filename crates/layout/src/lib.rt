@@ -1,5 +1,8 @@
 // Where each field of the tables lies in the lent block of 64-bit words (docs/LAYOUT.md). A word
 // past the end of a block is read as 0, and a store there changes nothing.
+
+#![tactic(auto)]
+
 ghost use Rattle.std.specs.Prelude.{◌≡◌, ◌≤◌, length, get_or, set};
 ghost use Rattle.layout.specs.Layout.{needed, at, store, header, clients_at, partitions_at};
 ghost use Rattle.layout.specs.Layout.{items_at, versions_at, messages_at};

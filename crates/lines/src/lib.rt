@@ -1,5 +1,8 @@
 // A line of the store's driver: parsed, carried out on the block, and answered by a line (document
 // 01: store frames).
+
+#![tactic(auto)]
+
 pub mod input;
 
 ghost use Rattle.std.specs.Prelude.{◌≡◌, length};

@@ -1,1 +1,3 @@
 // Logs: lines, frames, what is malformed. Definitions and laws, in specs/ and proofs/; no code.
+
+#![tactic(auto)]

@@ -1,5 +1,8 @@
 // The messages in flight (document 01: the pile): eight words each, of which a message's kind says
 // which it uses.
+
+#![tactic(auto)]
+
 ghost use Rattle.std.specs.Prelude.{◌≡◌, [], ◌∷◌, ◌+◌, ◌≤◌, ◌<◌, length, take, drop};
 ghost use Rattle.std.proofs.lemmas.List.Edits.{sets};
 ghost use Rattle.layout.specs.Layout.{most_messages, message_words, needed, at, store, base, header};

@@ -1,6 +1,9 @@
 // The values that the store's calls pass around: versions, entries, messages and answers, the kinds
 // of ended transactions and of messages, and the outcomes of deliveries. The tables, the steps and
 // the refusals are definitions, in specs/.
+
+#![tactic(auto)]
+
 ghost use Rattle.std.specs.Prelude.{◌≡◌};
 ghost use Rattle.protocol.specs.Tables.{later_of};
 ghost use Rattle.protocol.specs.Steps.{offered};

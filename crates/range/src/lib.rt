@@ -1,4 +1,7 @@
 // Which blocks are valid (refusal 1), and the load and the versions in use of a valid block.
+
+#![tactic(auto)]
+
 ghost use Rattle.std.specs.Prelude.{true, ◌&&◌, ◌≡◌, ◌≤◌, length, leb};
 ghost use Rattle.protocol.specs.Range.{sizes_in_range, load, occupied};
 ghost use Rattle.layout.specs.Layout.{most_clients, most_items, most_versions, most_messages, needed};

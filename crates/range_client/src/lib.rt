@@ -1,5 +1,8 @@
 // Clients (document 01: desks): the transaction under way and the last ended one, with the stamps
 // and values of their items.
+
+#![tactic(auto)]
+
 ghost use Rattle.std.specs.Prelude.{cond, not, ◌&&◌, ◌||◌, ◌≡◌, suc, ◌+◌, ◌≤◌, ◌<◌, length, get_or};
 ghost use Rattle.basics.specs.Lists.{every};
 ghost use Rattle.itemset.specs.Set.{has};

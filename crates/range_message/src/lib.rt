@@ -1,4 +1,7 @@
 // Stored versions, and messages in flight (document 01: the pile).
+
+#![tactic(auto)]
+
 ghost use Rattle.std.specs.Prelude.{◌≡◌, ◌&&◌, ◌≤◌, ◌<◌, length, leb};
 ghost use Rattle.basics.specs.Lists.{every};
 ghost use Rattle.protocol.specs.Message.{kinds};

@@ -1,4 +1,7 @@
 // The refusal of each call, in the refusal table's order; 0 where the call is accepted.
+
+#![tactic(auto)]
+
 ghost use Rattle.std.specs.Prelude.{true, cond, ◌&&◌, ◌||◌, not, ◌≡◌, ◌≤◌, ◌<◌, eqb};
 ghost use Rattle.itemset.specs.Set.{all_below};
 ghost use Rattle.protocol.specs.Range.{capacities, is_client};

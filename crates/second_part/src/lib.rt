@@ -1,5 +1,8 @@
 // The second part of a fast read (document 02, P7): of each item of the set the latest stamp that a
 // first reply shows, and a get for each item whose own first reply is older.
+
+#![tactic(auto)]
+
 ghost use Rattle.std.specs.Prelude.{cond, ◌&&◌, ◌≡◌, ◌≤◌, ◌<◌, ltb, length, get_or};
 ghost use Rattle.basics.specs.Fold.{up_to};
 ghost use Rattle.itemset.specs.Set.{has, insert};

@@ -1,5 +1,8 @@
 // The log frame of a client's last ended transaction, from the words of the block into a lent
 // output.
+
+#![tactic(auto)]
+
 ghost use Rattle.std.specs.Prelude.{◌++◌, ◌≡◌, ◌+◌, ◌*◌, ◌≤◌, ◌<◌, length, drop};
 ghost use Rattle.std.proofs.lemmas.List.Edits.{sets};
 ghost use Rattle.itemset.specs.Set.{count};

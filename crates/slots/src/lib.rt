@@ -1,5 +1,8 @@
 // What the stored versions and the messages in flight share: each is a run of words at the end of
 // those that are there.
+
+#![tactic(auto)]
+
 ghost use Rattle.std.specs.Prelude.{◌≡◌, [], ◌∷◌, ◌<◌};
 ghost use Rattle.std.proofs.lemmas.List.Edits.{sets};
 ghost use Rattle.layout.specs.Layout.{needed};

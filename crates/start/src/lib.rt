@@ -1,5 +1,8 @@
 // What the starts of reads, of writes and of mixed transactions on the block share (document 01:
 // Steps): a client becomes busy, and looks at its view.
+
+#![tactic(auto)]
+
 ghost use Rattle.std.specs.Prelude.{◌≡◌, ◌≤◌, ◌<◌, max, length};
 ghost use Rattle.layout.specs.Decode.{view_in};
 ghost use Rattle.layout.specs.Layout.{needed};

@@ -1,5 +1,8 @@
 // The start of a mixed transaction (document 02, P8): the stamps to ask for at the items of its
 // read set, the values of the items of its write set, and the gets, then the prepares.
+
+#![tactic(auto)]
+
 ghost use Rattle.std.specs.Prelude.{◌≡◌, ◌*◌, ◌^◌, ◌≤◌, ◌<◌, length};
 ghost use Rattle.itemset.specs.Set.{count};
 ghost use Rattle.layout.specs.Layout.{needed, header, at, items_at};

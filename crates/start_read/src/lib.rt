@@ -1,5 +1,8 @@
 // The starts of a read and of a fast read: the stamp to ask for at each item of the set, and a get
 // for each.
+
+#![tactic(auto)]
+
 ghost use Rattle.std.specs.Prelude.{cond, ◌≡◌, ◌+◌, ◌≤◌, ◌<◌, length, get_or, replicate};
 ghost use Rattle.basics.specs.Fold.{up_to};
 ghost use Rattle.protocol.specs.declared.Message.TheVariants.{Get, FirstGet};

@@ -1,5 +1,8 @@
 // The start of a write: the value of each item of the set, one stamp for all of them, and a prepare
 // for each. The loops serve a mixed transaction's write part too.
+
+#![tactic(auto)]
+
 ghost use Rattle.std.specs.Prelude.{◌≡◌, ◌*◌, ◌^◌, ◌≤◌, ◌<◌, length};
 ghost use Rattle.basics.specs.Fold.{up_to};
 ghost use Rattle.itemset.specs.Set.{count};

@@ -2,6 +2,9 @@
 // write, deliver, show; document 02: start a fast read, start a mixed transaction, clear, hand
 // over, compare, check), for C. Each returns a number: refused, the refusal; accepted, 0 in the
 // lowest byte and the answer above it (`number_of_answer`).
+
+#![tactic(auto)]
+
 ghost use Rattle.std.specs.Prelude.{◌≡◌};
 ghost use Rattle.protocol.specs.Calls.{start_read, start_fast_read, start_write, start_mixed, deliver};
 ghost use Rattle.protocol.specs.Calls.{show, clear, hand_over, compare, check, number_of_answer};

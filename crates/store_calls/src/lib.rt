@@ -1,4 +1,7 @@
 // The calls but a delivery, each with its answer. A refused one changes nothing.
+
+#![tactic(auto)]
+
 ghost use Rattle.std.specs.Prelude.{◌≡◌, ◌≤◌, length};
 ghost use Rattle.protocol.specs.Calls.{start_read, start_fast_read, start_write, start_mixed, show};
 ghost use Rattle.protocol.specs.Calls.{clear, hand_over, compare, check};

@@ -2,6 +2,9 @@
 // it waits for more (document 01: store frames). It sees only the promises of `lines`, and the
 // lengths of a block and a reply. The block starts as zeros, on which every well-formed frame but
 // an `01` is refused by 1.
+
+#![tactic(auto)]
+
 ghost use Rattle.std.specs.Prelude.{◌≡◌};
 ghost use Rattle.lines.specs.Input.{lent, fed, closed};
 ghost use Rattle.store_driver.specs.Turn.{TookOf, TurnOf, ServedBy};

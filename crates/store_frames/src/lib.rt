@@ -1,5 +1,7 @@
 // The store's frames: what a line is parsed to (document 01: store frames).
 
+#![tactic(auto)]
+
 // The most bytes: of a store frame, of its line, of the log frame that a showing writes, and of a
 // reply's line.
 pub const MOST_FRAME: usize = 18 + 4 * 64;

@@ -1,4 +1,7 @@
 // The stored versions: item, value, stamp and set of each, in four words.
+
+#![tactic(auto)]
+
 ghost use Rattle.std.specs.Prelude.{◌≡◌, ◌≤◌, ◌<◌, length};
 ghost use Rattle.basics.specs.Lists.{table};
 ghost use Rattle.layout.specs.Layout.{most_versions, version_words, needed, at, versions, version_at};
