@@ -78,6 +78,7 @@ asks-sibling t d k j l e = omega (arith, choice-ge (t.view d) k t.sizes.items j 
 pub answered-exactly : (t : Tables) (d k s : ℕ) (j : Message) → In j (joined t (Get d k s))
     → (parts_of j).stamp ≡ s
 unfolding joined
+answered-exactly t d k s j (inr x') = elim x' [ ]
 answered-exactly t d k s j (inl e) = ap (λ (m : Message). (parts_of m).stamp) e
 
 -- ---- what becomes the latest
@@ -182,14 +183,14 @@ pub ended-view-got : (t : Tables) (d : ℕ) (v : Version) (e : Entry)
     → has (t.client d).write.set j ≡ true
     → (t.client d).write.stamp ≤ ((delivered t (Got d v e)).view d j).stamp
 unfolding delivered
-ended-view-got t d v e is_last j h =
+ended-view-got t d v e is-last j h =
     let c = t.client d in
     let k = v.item in
     let grown : ℕ → Entry = put (t.view d) k (offered (t.view d k) v e) in
     let last = is_last of_read c k in
     let view : ℕ → Entry = cond last (seen grown c.write.set c.write.stamp) grown in
     let entered : c.write.stamp ≤ (view j).stamp =
-    rw is_last (seen-ge grown c.write.set c.write.stamp j h) in
+    rw is-last (seen-ge grown c.write.set c.write.stamp j h) in
     subst (λ (f : ℕ → Entry). c.write.stamp ≤ (f j).stamp) (sym (put_same t.view d view))
     entered
 

@@ -14,6 +14,7 @@ use Rattle.protocol.proofs.Ranges.Values.{StampInRange, EntriesInRange}
 pub greatest-ge : (view : ℕ → Entry) (n k : ℕ) → k < n
     → number_of (view k).stamp ≤ greatest_in view n
 unfolding greatest_in
+greatest-ge view zero k l = elim l [ ]
 greatest-ge view (suc n) k l =
     by-test (eqb k n)
     (λ e. subst (λ (i : ℕ). number_of (view i).stamp ≤ greatest_in view (suc n))

@@ -106,6 +106,7 @@ choice-own view k (suc n) = omega (arith, choice-own view k n)
 pub choice-ge : (view : ℕ → Entry) (k n j : ℕ) → j < n → has (view j).set k ≡ true
     → (view j).stamp ≤ choice view k n
 unfolding choice
+choice-ge view k zero j h e = elim h [ ]
 choice-ge view k (suc n) j h e =
     by-test (eqb j n)
     (λ t. subst (λ (i : ℕ). (view i).stamp ≤ choice view k (suc n)) (sym (eqb-true j n t))

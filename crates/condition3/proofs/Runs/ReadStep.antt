@@ -212,16 +212,16 @@ module _ (caps : Capacities) (v : World) (inv : Inv caps v) (d s stage again z :
         seen = got-seen v.tables i d u latest same;
       } in
       by-test (is_last of_read here u.item)
-      (λ is_last.
+      (λ is-last.
       let last : eqb (remove here.read.awaited u.item) 0 ≡ true =
       and_left (eqb (remove here.read.awaited u.item) 0) (eqb here.write.awaited 0)
-      is_last in
+      is-last in
       let none_written : here.write.awaited ≡ 0 =
       eqb-true here.write.awaited 0
       (and_right (eqb (remove here.read.awaited u.item) 0) (eqb here.write.awaited 0)
-      is_last) in
+      is-last) in
       let ends_now : outcome_in (step caps v.tables (deliver i)).answer ≡ outcome_at z =
-      outcome ∙ rw is_last refl in
+      outcome ∙ rw is-last refl in
       inr (
         ends_by caps v inv d i (outcome_at z) (outcome-some z) ends_now delivers-it,
         record {
@@ -234,7 +234,7 @@ module _ (caps : Capacities) (v : World) (inv : Inv caps v) (d s stage again z :
           once_each = once-each caps v inv d i u one s again left w last;
           requests = requests;
           values = put here.read.values u.item u.value;
-          client = record-after ∙ rw is_last
+          client = record-after ∙ rw is-last
               (ap (rested here) (ended-as (put here.read.values u.item u.value)
               (answered here u.item u.value) refl refl refl refl refl refl));
           picked = picked-grows v (moved v (deliver i)) brings.grows s asked r.picked;
@@ -276,15 +276,15 @@ module _ (caps : Capacities) (v : World) (inv : Inv caps v) (d s stage again z :
       let struck-count = prepared-beside caps v inv d i k n is_in is owner z left r.beside in
       let struck-once = prepared-once caps v inv d i k n is_in is owner z left r.beside in
       by-test (is_last of_write here k)
-      (λ is_last.
+      (λ is-last.
       let none : here.read.awaited ≡ 0 =
       eqb-true here.read.awaited 0 (and_left (eqb here.read.awaited 0)
-      (eqb (remove here.write.awaited k) 0) is_last) in
+      (eqb (remove here.write.awaited k) 0) is-last) in
       let all-struck : remove here.write.awaited k ≡ 0 =
       eqb-true (remove here.write.awaited k) 0
-      (and_right (eqb here.read.awaited 0) (eqb (remove here.write.awaited k) 0) is_last) in
+      (and_right (eqb here.read.awaited 0) (eqb (remove here.write.awaited k) 0) is-last) in
       let ends_now : outcome_in (step caps v.tables (deliver i)).answer ≡ outcome_at z =
-      outcome ∙ rw is_last (sym two) in
+      outcome ∙ rw is-last (sym two) in
       let read_same : (j : ℕ) → has here.read.awaited j ≡ false =
       λ j. subst (λ (x : ℕ). has x j ≡ false) (sym none) (has-empty j) in
       inr (
@@ -309,7 +309,7 @@ module _ (caps : Capacities) (v : World) (inv : Inv caps v) (d s stage again z :
               (λ x. cond (has s x) 1 0 + cond (has again x) 1 0) left none r.awaiting.once j;
           requests = requests;
           values = here.read.values;
-          client = record-after ∙ rw is_last
+          client = record-after ∙ rw is-last
               (ap (rested here) (ended-as here.read.values here refl refl refl refl refl refl));
           picked = picked-grows v v' grows s asked r.picked;
           answered = λ j e. answer-grows v v' d j (asked j) (here.read.values j) left

@@ -14,12 +14,12 @@ use Rattle.hexadecimal.specs.Text.{hex_text}
 use Rattle.hexadecimal.proofs.encode.Statement.{statement}
 use Rattle.hexadecimal.proofs.encode.Tie as tie
 
-abbrev invariant-loop : tie.invariant-loop
+abbrev invariant-loop : tie.invariant-loop-k
 invariant-loop bytes out₀ at k₀ out k =
     (sets out (at + 2 * k) (hex_text (drop k bytes)) ≡ sets out₀ at (hex_text bytes))
     × (length out ≡ length out₀)
 
-abbrev decreases-loop : tie.decreases-loop
+abbrev decreases-loop : tie.decreases-loop-k
 decreases-loop bytes out₀ at k₀ out k = length bytes - k
 
 -- nothing is left to write
@@ -37,7 +37,7 @@ turn out written bytes at k h e =
     let next : at + 2 * (k + 1) ≡ suc (suc (at + 2 * k)) = omega arith in
     rw (next, add-one, e, drop-cons bytes k 0 h)
 
-loop-holds : tie.Need-loop-init invariant-loop decreases-loop
+loop-holds : tie.Need-loop-k-init invariant-loop decreases-loop
 loop-holds c = (
   ap (λ (i : ℕ). sets c.before.before.args.out.now i
       (hex_text c.before.before.args.bytes.now))
@@ -45,43 +45,43 @@ loop-holds c = (
   refl,
 )
 
-mul-put-byte : tie.Need-overflow-mul-put-byte invariant-loop decreases-loop
+mul-put-byte : tie.Need-overflow_mul-k invariant-loop decreases-loop
 mul-put-byte c = search rules
 
-add-put-byte : tie.Need-overflow-add-put-byte invariant-loop decreases-loop
+add-put-byte : tie.Need-overflow_add-at invariant-loop decreases-loop
 add-put-byte c = search rules
 
-shared-slice-read-put-byte : tie.Need-shared-slice-read-put-byte invariant-loop decreases-loop
+shared-slice-read-put-byte : tie.Need-bounds-bytes-k invariant-loop decreases-loop
 shared-slice-read-put-byte c = search rules
 
-put-byte-requires : tie.Need-put-byte-requires invariant-loop decreases-loop
+put-byte-requires : tie.Need-put_byte-requires invariant-loop decreases-loop
 put-byte-requires c κs = search rules
 
-add-k : tie.Need-overflow-add-k invariant-loop decreases-loop
+add-k : tie.Need-overflow_add-k invariant-loop decreases-loop
 add-k c = search rules
 
-loop-less : tie.Need-loop-smaller invariant-loop decreases-loop
+loop-less : tie.Need-loop-k-smaller invariant-loop decreases-loop
 loop-less c = search rules
 
-loop-again : tie.Need-loop-preserved invariant-loop decreases-loop
+loop-again : tie.Need-loop-k-preserved invariant-loop decreases-loop
 loop-again c =
     let wrote = c.before.before in
     let in-loop = wrote.before.before.before in
     let at-loop = in-loop.before in (
-      turn _ _ _ _ _ in-loop.loop-test.true wrote.put_byte.ensures
-          ∙ at-loop.loop.invariant.0,
+      turn _ _ _ _ _ in-loop.loop-k-test.true wrote.put_byte.ensures
+          ∙ at-loop.loop-k.invariant.0,
       ap length wrote.put_byte.ensures
-          ∙ simp length-set at-loop.loop.invariant.1,
+          ∙ simp length-set at-loop.loop-k.invariant.1,
     )
 
-same_length : tie.Need-same-length invariant-loop decreases-loop
-same_length c = c.before.loop.invariant.1
+same_length : tie.Need-shape_of-out invariant-loop decreases-loop
+same_length c = c.before.loop-k.invariant.1
 
 returns : tie.Need-returns invariant-loop decreases-loop
-returns c = ends _ _ _ _ c.loop-test.false ∙ c.before.loop.invariant.0
+returns c = ends _ _ _ _ c.loop-k-test.false ∙ c.before.loop-k.invariant.0
 
-pub encode-spec : {M : Type 1} → statement M
-encode-spec =
+pub encode_spec : {M : Type 1} → statement M
+encode_spec =
     tie.close
     (tie.spec
     invariant-loop

@@ -9,39 +9,39 @@ use Rattle.hexadecimal.proofs.Line.{line_end-here, line_end-next, line_end-past}
 use Rattle.hexadecimal.proofs.line_end.Statement.{statement}
 use Rattle.hexadecimal.proofs.line_end.Tie as tie
 
-abbrev invariant-loop : tie.invariant-loop
+abbrev invariant-loop : tie.invariant-loop-i
 invariant-loop s at i₀ i = line_end s i ≡ line_end s at
 
-abbrev decreases-loop : tie.decreases-loop
+abbrev decreases-loop : tie.decreases-loop-i
 decreases-loop s at i₀ i = length s - i
 
-loop-holds : tie.Need-loop-init invariant-loop decreases-loop
+loop-holds : tie.Need-loop-i-init invariant-loop decreases-loop
 loop-holds c = refl
 
-shared-slice-read-if1 : tie.Need-shared-slice-read-if1 invariant-loop decreases-loop
+shared-slice-read-if1 : tie.Need-bounds-s-i invariant-loop decreases-loop
 shared-slice-read-if1 c = search rules
 
-returns : tie.Need-returns invariant-loop decreases-loop
+returns : tie.Need-returns-then-s-i-eq10 invariant-loop decreases-loop
 returns c =
-    sym (line_end-here _ _ c.before.before.loop-test.true c.if1.true)
-    ∙ c.before.before.before.loop.invariant
+    sym (line_end-here _ _ c.before.before.loop-i-test.true c.if-s-i-eq10.true)
+    ∙ c.before.before.before.loop-i.invariant
 
-add-i : tie.Need-overflow-add-i invariant-loop decreases-loop
+add-i : tie.Need-overflow_add-i invariant-loop decreases-loop
 add-i c = search rules
 
-loop-less : tie.Need-loop-smaller invariant-loop decreases-loop
+loop-less : tie.Need-loop-i-smaller invariant-loop decreases-loop
 loop-less c = search rules
 
-loop-again : tie.Need-loop-preserved invariant-loop decreases-loop
+loop-again : tie.Need-loop-i-preserved invariant-loop decreases-loop
 loop-again c =
-    sym (line_end-next _ _ c.before.before.loop-test.true c.if1.false)
-    ∙ c.before.before.before.loop.invariant
+    sym (line_end-next _ _ c.before.before.loop-i-test.true c.if-s-i-eq10.false)
+    ∙ c.before.before.before.loop-i.invariant
 
-returns-2 : tie.Need-returns-2 invariant-loop decreases-loop
-returns-2 c = sym (line_end-past _ _ c.loop-test.false) ∙ c.before.loop.invariant
+returns-2 : tie.Need-returns invariant-loop decreases-loop
+returns-2 c = sym (line_end-past _ _ c.loop-i-test.false) ∙ c.before.loop-i.invariant
 
-pub line-end-spec : {M : Type 1} → statement M
-line-end-spec =
+pub line_end_spec : {M : Type 1} → statement M
+line_end_spec =
     tie.close
     (tie.spec
     invariant-loop

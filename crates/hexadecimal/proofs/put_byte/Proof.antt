@@ -6,29 +6,29 @@ use borrow.Author.Rules.{rules}
 use Rattle.hexadecimal.proofs.put_byte.Statement.{statement}
 use Rattle.hexadecimal.proofs.put_byte.Tie as tie
 
-hex-digit-requires : tie.Need-hex-digit-requires
+hex-digit-requires : tie.Need-hex_digit-requires
 hex-digit-requires c κs = search rules
 
-slice-write-out : tie.Need-slice-write-out
+slice-write-out : tie.Need-bounds-out-at
 slice-write-out c = search rules
 
-hex-digit-requires-2 : tie.Need-hex-digit-requires-2
+hex-digit-requires-2 : tie.Need-hex_digit-requires-2
 hex-digit-requires-2 c κs = search rules
 
-add-out : tie.Need-overflow-add-out
+add-out : tie.Need-overflow_add-out
 add-out c = search rules
 
-slice-write-out-2 : tie.Need-slice-write-out-2
+slice-write-out-2 : tie.Need-bounds-out-at-2
 slice-write-out-2 c = simp length-set (omega arith)
 
-same_length : tie.Need-same-length
+same_length : tie.Need-shape_of-out
 same_length c = search rules
 
 returns : tie.Need-returns
-returns c = rw (add-one, c.before.hex-digit.ensures, c.hex-digit2.ensures)
+returns c = rw (add-one, c.before.hex_digit.ensures, c.hex_digit-2.ensures)
 
-pub put-byte-spec : {M : Type 1} → statement M
-put-byte-spec =
+pub put_byte_spec : {M : Type 1} → statement M
+put_byte_spec =
     tie.close
     (tie.spec
     hex-digit-requires

@@ -15,12 +15,12 @@ use Rattle.hexadecimal.proofs.Stores.{sets-append, sets-set}
 use Rattle.hexadecimal.proofs.put_bytes.Statement.{statement}
 use Rattle.hexadecimal.proofs.put_bytes.Tie as tie
 
-abbrev invariant-loop : tie.invariant-loop
+abbrev invariant-loop : tie.invariant-loop-left
 invariant-loop out₀ at n x left₀ upper₀ out left upper =
     (sets out at (big_endian left upper) ≡ sets out₀ at (big_endian n x)) × (length out ≡ length out₀)
     × (left ≤ n)
 
-abbrev decreases-loop : tie.decreases-loop
+abbrev decreases-loop : tie.decreases-loop-left
 decreases-loop out₀ at n x left₀ upper₀ out left upper = left
 
 -- nothing is left to write
@@ -43,40 +43,40 @@ turn out at (suc m) upper h =
     ∙ ap (λ (k : ℕ). set (sets out at front) (at + k) (upper % 256)) (sym long)
     ∙ sym (sets-append out at front (upper % 256 ∷ [])))
 
-loop-holds : tie.Need-loop-init invariant-loop decreases-loop
+loop-holds : tie.Need-loop-left-init invariant-loop decreases-loop
 loop-holds c = (refl, refl, le_refl _)
 
-sub-left : tie.Need-overflow-sub-left invariant-loop decreases-loop
+sub-left : tie.Need-overflow_sub-left invariant-loop decreases-loop
 sub-left c = search rules
 
-cast-out : tie.Need-overflow-cast-out invariant-loop decreases-loop
+cast-out : tie.Need-overflow_cast-out invariant-loop decreases-loop
 cast-out c = search rules
 
-add-out : tie.Need-overflow-add-out invariant-loop decreases-loop
+add-out : tie.Need-overflow_add-out invariant-loop decreases-loop
 add-out c = search rules
 
-slice-write-out : tie.Need-slice-write-out invariant-loop decreases-loop
+slice-write-out : tie.Need-bounds-out-at invariant-loop decreases-loop
 slice-write-out c = search rules
 
-loop-less : tie.Need-loop-smaller invariant-loop decreases-loop
+loop-less : tie.Need-loop-left-smaller invariant-loop decreases-loop
 loop-less c = search rules
 
-loop-again : tie.Need-loop-preserved invariant-loop decreases-loop
+loop-again : tie.Need-loop-left-preserved invariant-loop decreases-loop
 loop-again c = (
-  turn _ _ _ _ c.loop-test.true
-      ∙ c.before.loop.invariant.0,
-  simp length-set c.before.loop.invariant.1,
+  turn _ _ _ _ c.loop-left-test.true
+      ∙ c.before.loop-left.invariant.0,
+  simp length-set c.before.loop-left.invariant.1,
   omega arith,
 )
 
-same_length : tie.Need-same-length invariant-loop decreases-loop
-same_length c = c.before.loop.invariant.1
+same_length : tie.Need-shape_of-out invariant-loop decreases-loop
+same_length c = c.before.loop-left.invariant.1
 
 returns : tie.Need-returns invariant-loop decreases-loop
-returns c = ends _ _ _ _ c.loop-test.false ∙ c.before.loop.invariant.0
+returns c = ends _ _ _ _ c.loop-left-test.false ∙ c.before.loop-left.invariant.0
 
-pub put-bytes-spec : {M : Type 1} → statement M
-put-bytes-spec =
+pub put_bytes_spec : {M : Type 1} → statement M
+put_bytes_spec =
     tie.close
     (tie.spec
     invariant-loop

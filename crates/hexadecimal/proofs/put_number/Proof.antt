@@ -19,13 +19,13 @@ use Rattle.hexadecimal.proofs.Text.{hex_text-append, length-hex_text}
 use Rattle.hexadecimal.proofs.put_number.Statement.{statement}
 use Rattle.hexadecimal.proofs.put_number.Tie as tie
 
-abbrev invariant-loop : tie.invariant-loop
+abbrev invariant-loop : tie.invariant-loop-left
 invariant-loop out₀ at n x left₀ rest₀ out left rest =
     (sets out at (hex_text (big_endian left rest)) ≡ sets out₀ at (hex_text (big_endian n x)))
     × (length out ≡ length out₀)
     × (left ≤ n)
 
-abbrev decreases-loop : tie.decreases-loop
+abbrev decreases-loop : tie.decreases-loop-left
 decreases-loop out₀ at n x left₀ rest₀ out left rest = left
 
 -- nothing is left to write
@@ -52,47 +52,47 @@ turn out written at (suc m) rest h e =
     ∙ ap (λ (k : ℕ). sets (sets out at front) (at + k) (hex_byte (rest % 256))) (sym long)
     ∙ sym (sets-append out at front (hex_byte (rest % 256))))
 
-loop-holds : tie.Need-loop-init invariant-loop decreases-loop
+loop-holds : tie.Need-loop-left-init invariant-loop decreases-loop
 loop-holds c = (refl, refl, le_refl _)
 
-sub-left : tie.Need-overflow-sub-left invariant-loop decreases-loop
+sub-left : tie.Need-overflow_sub-left invariant-loop decreases-loop
 sub-left c = search rules
 
-mul-put-byte : tie.Need-overflow-mul-put-byte invariant-loop decreases-loop
+mul-put-byte : tie.Need-overflow_mul-left invariant-loop decreases-loop
 mul-put-byte c = search rules
 
-add-put-byte : tie.Need-overflow-add-put-byte invariant-loop decreases-loop
+add-put-byte : tie.Need-overflow_add-at invariant-loop decreases-loop
 add-put-byte c = search rules
 
-cast-put-byte : tie.Need-overflow-cast-put-byte invariant-loop decreases-loop
+cast-put-byte : tie.Need-overflow_cast-rest invariant-loop decreases-loop
 cast-put-byte c = search rules
 
-put-byte-requires : tie.Need-put-byte-requires invariant-loop decreases-loop
+put-byte-requires : tie.Need-put_byte-requires invariant-loop decreases-loop
 put-byte-requires c κs = search rules
 
-loop-less : tie.Need-loop-smaller invariant-loop decreases-loop
+loop-less : tie.Need-loop-left-smaller invariant-loop decreases-loop
 loop-less c = search rules
 
-loop-again : tie.Need-loop-preserved invariant-loop decreases-loop
+loop-again : tie.Need-loop-left-preserved invariant-loop decreases-loop
 loop-again c =
     let wrote = c.before.before in
     let in-loop = wrote.before.before in
     let at-loop = in-loop.before in (
-      turn _ _ _ _ _ in-loop.loop-test.true wrote.put_byte.ensures
-          ∙ at-loop.loop.invariant.0,
+      turn _ _ _ _ _ in-loop.loop-left-test.true wrote.put_byte.ensures
+          ∙ at-loop.loop-left.invariant.0,
       ap length wrote.put_byte.ensures
-          ∙ simp length-set at-loop.loop.invariant.1,
+          ∙ simp length-set at-loop.loop-left.invariant.1,
       omega arith,
     )
 
-same_length : tie.Need-same-length invariant-loop decreases-loop
-same_length c = c.before.loop.invariant.1
+same_length : tie.Need-shape_of-out invariant-loop decreases-loop
+same_length c = c.before.loop-left.invariant.1
 
 returns : tie.Need-returns invariant-loop decreases-loop
-returns c = ends _ _ _ _ c.loop-test.false ∙ c.before.loop.invariant.0
+returns c = ends _ _ _ _ c.loop-left-test.false ∙ c.before.loop-left.invariant.0
 
-pub put-number-spec : {M : Type 1} → statement M
-put-number-spec =
+pub put_number_spec : {M : Type 1} → statement M
+put_number_spec =
     tie.close
     (tie.spec
     invariant-loop

@@ -9,16 +9,19 @@ use Rattle.itemset.proofs.Bits.{all-below-shift}
 use Rattle.itemset.proofs.all_below.Statement.{statement}
 use Rattle.itemset.proofs.all_below.Tie as tie
 
-shr-result : tie.Need-overflow-shr-result
+shr-result : tie.Need-overflow_shr-result
 shr-result c = search rules
 
-returns : tie.Need-returns
+returns : tie.Need-returns-then-n-lt64
 returns c = sym (all-below-shift c.before.args.set c.before.args.n)
 
-returns-2 : tie.Need-returns-2
+returns-2 : tie.Need-returns-else-n-lt64
 returns-2 c =
     sym (lt-ltb c.before.args.set (2 ^ c.before.args.n)
     (below-le c.before.args.set 64 c.before.args.n (search rules) (search rules)))
 
-pub all-below-spec : {M : Type 1} → statement M
-all-below-spec = tie.close (tie.spec shr-result returns returns-2)
+pub all_below_spec : {M : Type 1} → statement M
+all_below_spec = tie.close (tie.spec
+    shr-result
+    returns
+    returns-2)

@@ -5,11 +5,13 @@ use Rattle.itemset.proofs.Counts.{count-le}
 use Rattle.itemset.proofs.count.Statement.{statement}
 use Rattle.itemset.proofs.count.Tie as tie
 
-cast-result : tie.Need-overflow-cast-result
+cast-result : tie.Need-overflow_cast-result
 cast-result c = omega (arith, count-le c.args.set 64 (search rules))
 
 returns : tie.Need-returns
 returns c = search rules
 
 pub count_spec : {M : Type 1} → statement M
-count_spec = tie.close (tie.spec cast-result returns)
+count_spec = tie.close (tie.spec
+    cast-result
+    returns)

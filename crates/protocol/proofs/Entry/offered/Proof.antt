@@ -6,16 +6,19 @@ use Rattle.protocol.specs.Tables.{later_of, entry_of}
 use Rattle.protocol.proofs.Entry.offered.Statement.{statement}
 use Rattle.protocol.proofs.Entry.offered.Tie as tie
 
-later-requires : tie.Need-later-requires
+later-requires : tie.Need-later-seen-requires
 later-requires c κs = search rules
 
-later-requires-2 : tie.Need-later-requires-2
+later-requires-2 : tie.Need-later-requires
 later-requires-2 c κs = search rules
 
 returns : tie.Need-returns
-returns c = c.later2.ensures
+returns c = c.later.ensures
     ∙ ap (λ (e : Entry). later_of e (entry_of c.before.before.args.version))
-    c.before.later.ensures
+    c.before.later-seen.ensures
 
-pub offered-spec : {M : Type 1} → statement M
-offered-spec = tie.close (tie.spec later-requires later-requires-2 returns)
+pub offered_spec : {M : Type 1} → statement M
+offered_spec = tie.close (tie.spec
+    later-requires
+    later-requires-2
+    returns)

@@ -8,5 +8,6 @@ returns : tie.Need-returns
 unfolding is_kind
 returns c = search rules
 
-pub is-kind-spec : {M : Type 1} → statement M
-is-kind-spec = tie.close (tie.spec returns)
+pub is_kind_spec : {M : Type 1} → statement M
+is_kind_spec = tie.close (tie.spec
+    returns)
