@@ -46,7 +46,7 @@ abbrev ◌⇒◌ : String → Parsed → Row
 line ⇒ frame = record { line = line; frame = frame; values = [] }
 
 abbrev ◌with-values◌ : Row → List ℕ → Row
-r with_values values = record { line = r.line; frame = r.frame; values = values }
+r with-values values = record { line = r.line; frame = r.frame; values = values }
 
 -- the value bytes that go on to a call
 handed_on : Parsed → List ℕ → List ℕ
@@ -86,15 +86,15 @@ rows =
     -- write: as many values as there are bytes for, whatever the set
     ∷ "03018000000000000001\n" ⇒ Frame (Write 1 0x8000000000000001) 10
     ∷ "030180000000000000010000000700000008\n" ⇒ Frame (Write 1 0x8000000000000001) 18
-    with_values (0 ∷ 0 ∷ 0 ∷ 7 ∷ 0 ∷ 0 ∷ 0 ∷ 8 ∷ [])
-    ∷ "0301000000000000000301020304\n" ⇒ Frame (Write 1 3) 14 with_values (1 ∷ 2 ∷ 3 ∷ 4 ∷ [])
+    with-values (0 ∷ 0 ∷ 0 ∷ 7 ∷ 0 ∷ 0 ∷ 0 ∷ 8 ∷ [])
+    ∷ "0301000000000000000301020304\n" ⇒ Frame (Write 1 3) 14 with-values (1 ∷ 2 ∷ 3 ∷ 4 ∷ [])
     ∷ "030100000000000000\n" ⇒ Malformed
     ∷ "0301000000000000000300\n" ⇒ Malformed
     ∷ "03010000000000000003000007\n" ⇒ Malformed
     ∷ "030100000000000000030000000700\n" ⇒ Malformed
     -- 64 values, and 65
     ∷ ("03010000000000000003" ++ times 64 "00000000" ++ "\n") ⇒ Frame (Write 1 3) 266
-    with_values big_endian 256 0
+    with-values big_endian 256 0
     ∷ ("03010000000000000003" ++ times 64 "00000000" ++ "00\n") ⇒ Malformed
     ∷ ("03010000000000000003" ++ times 65 "00000000" ++ "\n") ⇒ Malformed
     -- deliver: the greater byte first
@@ -111,12 +111,12 @@ rows =
     ∷ "0602800000000000000100\n" ⇒ Malformed
     -- mixed: the items read, then those written, then as many values as there are bytes for
     ∷ "07028000000000000001000000000000000400000007\n"
-    ⇒ Frame (Mixed 2 0x8000000000000001 4) 22 with_values (0 ∷ 0 ∷ 0 ∷ 7 ∷ [])
+    ⇒ Frame (Mixed 2 0x8000000000000001 4) 22 with-values (0 ∷ 0 ∷ 0 ∷ 7 ∷ [])
     ∷ "070200000000000000010000000000000002\n" ⇒ Frame (Mixed 2 1 2) 18
     ∷ "0702000000000000000100000000000000\n" ⇒ Malformed
     ∷ "07020000000000000001000000000000000200\n" ⇒ Malformed
     ∷ ("070200000000000000010000000000000002" ++ times 64 "00000000" ++ "\n")
-    ⇒ Frame (Mixed 2 1 2) 274 with_values big_endian 256 0
+    ⇒ Frame (Mixed 2 1 2) 274 with-values big_endian 256 0
     ∷ ("070200000000000000010000000000000002" ++ times 65 "00000000" ++ "\n") ⇒ Malformed
     -- clear
     ∷ "40\n" ⇒ Frame Clear 1
@@ -161,7 +161,7 @@ rows =
     -- document 01's session
     ∷ "01020202\n" ⇒ Frame (Fresh 2 2 2) 4
     ∷ "030100000000000000030000000700000008\n" ⇒ Frame (Write 1 3) 18
-    with_values (0 ∷ 0 ∷ 0 ∷ 7 ∷ 0 ∷ 0 ∷ 0 ∷ 8 ∷ [])
+    with-values (0 ∷ 0 ∷ 0 ∷ 7 ∷ 0 ∷ 0 ∷ 0 ∷ 8 ∷ [])
     ∷ "040001\n" ⇒ Frame (Deliver 1) 3
     ∷ "02020000000000000003\n" ⇒ Frame (Read 2 3) 10
     ∷ "0502\n" ⇒ Frame (Show 2) 2

@@ -11,5 +11,7 @@ returns : tie.Need-returns
 unfolding owns_test
 returns c = ap (λ (t : Bool). ltb c.before.args.owns (2 ^ stamp_bits) && t) c.lacks.ensures
 
-pub owns-pass-spec : {M : Type 1} → statement M
-owns-pass-spec = tie.close (tie.spec lacks-requires returns)
+pub owns_pass_spec : {M : Type 1} → statement M
+owns_pass_spec = tie.close (tie.spec
+    lacks-requires
+    returns)

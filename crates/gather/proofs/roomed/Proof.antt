@@ -3,18 +3,21 @@ use Rattle.std.proofs.Common.{ℕ, ◌+◌, ◌%◌, ◌^◌, ap, ◌∙◌, rul
 use Rattle.gather.proofs.roomed.Statement.{statement}
 use Rattle.gather.proofs.roomed.Tie as tie
 
-wrapping-add-u64-requires : tie.Need-wrapping-add-u64-requires
+wrapping-add-u64-requires : tie.Need-wrapping_add_u64-requires
 wrapping-add-u64-requires c κs = search rules
 
-returns : tie.Need-returns
+returns : tie.Need-returns-then-clients-lt8
 returns c =
     let a = c.before.before.args in
-    rw (lt-ltb a.clients 8 c.before.if1.true)
-    (c.wrapping-add-u64.ensures
+    rw (lt-ltb a.clients 8 c.before.if-clients-lt8.true)
+    (c.wrapping_add_u64.ensures
     ∙ ap (λ (x : ℕ). (a.stamp + x) % 2 ^ 64) c.before.before.requires)
 
-returns-2 : tie.Need-returns-2
-returns-2 c = rw (le-ltb c.before.args.clients 8 c.if1.false)
+returns-2 : tie.Need-returns-else-clients-lt8
+returns-2 c = rw (le-ltb c.before.args.clients 8 c.if-clients-lt8.false)
 
-pub roomed-spec : {M : Type 1} → statement M
-roomed-spec = tie.close (tie.spec wrapping-add-u64-requires returns returns-2)
+pub roomed_spec : {M : Type 1} → statement M
+roomed_spec = tie.close (tie.spec
+    wrapping-add-u64-requires
+    returns
+    returns-2)

@@ -11,16 +11,20 @@ rest-requires c κs = search rules
 owned-requires : tie.Need-owned-requires
 owned-requires c κs = search rules
 
-owns-pass-requires : tie.Need-owns-pass-requires
+owns-pass-requires : tie.Need-owns_pass-requires
 owns-pass-requires c κs = search rules
 
 returns : tie.Need-returns
 returns c =
     let a = c.before.before.before.args in
     ap (λ (x : Bool). eqb a.stamp 0 || x)
-    (c.owns-pass.ensures ∙ ap owns_test c.before.owned.ensures)
+    (c.owns_pass.ensures ∙ ap owns_test c.before.owned.ensures)
     ∙ stamp-word a.clients 0 a.stamp (omega arith) (omega arith)
 
-pub stamp-in-range-spec : {M : Type 1} → statement M
-stamp-in-range-spec =
-    tie.close (tie.spec rest-requires owned-requires owns-pass-requires returns)
+pub stamp_in_range_spec : {M : Type 1} → statement M
+stamp_in_range_spec =
+    tie.close (tie.spec
+    rest-requires
+    owned-requires
+    owns-pass-requires
+    returns)

@@ -15,7 +15,10 @@ unfolding stamps_test
 returns c =
     let a = c.before.before.args in
     ap₂ (λ (t u : Bool). ltb a.stamps (2 ^ stamp_bits) && t && (leb 8 a.clients || u))
-    c.before.lacks.ensures c.lacks2.ensures
+    c.before.lacks.ensures c.lacks-2.ensures
 
-pub stamps-pass-spec : {M : Type 1} → statement M
-stamps-pass-spec = tie.close (tie.spec lacks-requires lacks-requires-2 returns)
+pub stamps_pass_spec : {M : Type 1} → statement M
+stamps_pass_spec = tie.close (tie.spec
+    lacks-requires
+    lacks-requires-2
+    returns)

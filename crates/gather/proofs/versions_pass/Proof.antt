@@ -4,10 +4,10 @@ use Rattle.gather.specs.Words.{versions_test}
 use Rattle.gather.proofs.versions_pass.Statement.{statement}
 use Rattle.gather.proofs.versions_pass.Tie as tie
 
-owns-pass-requires : tie.Need-owns-pass-requires
+owns-pass-requires : tie.Need-owns_pass-requires
 owns-pass-requires c κs = search rules
 
-all-below-requires : tie.Need-all-below-requires
+all-below-requires : tie.Need-all_below-requires
 all-below-requires c κs = search rules
 
 has-requires : tie.Need-has-requires
@@ -19,9 +19,13 @@ returns c =
     let a = c.before.before.before.args in
     ap₂ ◌&&◌
     (ap₂ ◌&&◌ (ap (λ (t : Bool). ltb a.ks (2 ^ 6) && ltb a.values (2 ^ 32) && t)
-    c.before.before.owns-pass.ensures) c.before.all-below.ensures)
+    c.before.before.owns_pass.ensures) c.before.all_below.ensures)
     c.has.ensures
 
-pub versions-pass-spec : {M : Type 1} → statement M
-versions-pass-spec =
-    tie.close (tie.spec owns-pass-requires all-below-requires has-requires returns)
+pub versions_pass_spec : {M : Type 1} → statement M
+versions_pass_spec =
+    tie.close (tie.spec
+    owns-pass-requires
+    all-below-requires
+    has-requires
+    returns)

@@ -4,45 +4,43 @@ use Rattle.index.proofs.Places.{index-added, index_kept}
 use Rattle.index.proofs.add.Statement.{statement}
 use Rattle.index.proofs.add.Tie as tie
 
-mul-last-link : tie.Need-overflow-mul-last-link
+mul-last-link : tie.Need-offset_bounds-keys-p
 mul-last-link c = search rules
 
-shared-slice-read-last-link : tie.Need-shared-slice-read-last-link
+shared-slice-read-last-link : tie.Need-bounds-keys-p
 shared-slice-read-last-link c = search rules
 
-last-link-requires : tie.Need-last-link-requires
+last-link-requires : tie.Need-last_link-at-requires
 last-link-requires c κs = search rules
 
-mul-found : tie.Need-overflow-mul-found
+mul-found : tie.Need-offset_bounds-links-at
 mul-found c = search rules
 
-slice-read-found : tie.Need-slice-read-found
+slice-read-found : tie.Need-bounds-links-at
 slice-read-found c = search rules
 
-add-links : tie.Need-overflow-add-links
+add-links : tie.Need-overflow_add-links
 add-links c = search rules
 
-mul-links : tie.Need-overflow-mul-links
+mul-links : tie.Need-offset_bounds-links-at-then-found-eq0
 mul-links c = search rules
 
-slice-write-links : tie.Need-slice-write-links
+slice-write-links : tie.Need-bounds-links-at-then-found-eq0
 slice-write-links c = search rules
 
-same_length : tie.Need-same-length
+same_length : tie.Need-shape_of-links-then-found-eq0
 same_length c = search rules
 
-returns : tie.Need-returns
+returns : tie.Need-returns-then-found-eq0
 returns c =
-    let start = c.before.before.before.before.before.before.before in
-    index-added _ _ _ _ start.requires.0 start.requires.1 c.before.before.last-link.ensures c.if1.true
+    index-added _ _ _ _ c.requires.0 c.requires.1 c.last_link-at.ensures c.if-found-eq0.true
 
-same-length-2 : tie.Need-same-length-2
+same-length-2 : tie.Need-shape_of-links-else-found-eq0
 same-length-2 c = search rules
 
-returns-2 : tie.Need-returns-2
+returns-2 : tie.Need-returns-else-found-eq0
 returns-2 c =
-    let start = c.before.before.before.before.before.before.before in
-    index_kept _ _ _ _ start.requires.0 start.requires.1 c.before.before.last-link.ensures c.if1.false
+    index_kept _ _ _ _ c.requires.0 c.requires.1 c.last_link-at.ensures c.if-found-eq0.false
 
 pub add_spec : {M : Type 1} → statement M
 add_spec =

@@ -10,37 +10,37 @@ use Rattle.index.proofs.Places.{index-all}
 use Rattle.index.proofs.index.Statement.{statement}
 use Rattle.index.proofs.index.Tie as tie
 
-abbrev invariant-loop : tie.invariant-loop
+abbrev invariant-loop : tie.invariant-loop-p
 invariant-loop keys links₀ p₀ links p = (p ≤ length keys) × Indexed keys links p
 
-abbrev decreases-loop : tie.decreases-loop
+abbrev decreases-loop : tie.decreases-loop-p
 decreases-loop keys links₀ p₀ links p = length keys - p
 
-loop-holds : tie.Need-loop-init invariant-loop decreases-loop
+loop-holds : tie.Need-loop-p-init invariant-loop decreases-loop
 loop-holds c = search rules
 
 add-requires : tie.Need-add-requires invariant-loop decreases-loop
 add-requires c κs = search rules
 
-add-p : tie.Need-overflow-add-p invariant-loop decreases-loop
+add-p : tie.Need-overflow_add-p invariant-loop decreases-loop
 add-p c = search rules
 
-loop-less : tie.Need-loop-smaller invariant-loop decreases-loop
+loop-less : tie.Need-loop-p-smaller invariant-loop decreases-loop
 loop-less c = search rules
 
-loop-again : tie.Need-loop-preserved invariant-loop decreases-loop
+loop-again : tie.Need-loop-p-preserved invariant-loop decreases-loop
 loop-again c =
-    (omega arith, rw add-one c.before.before.add.ensures)
+    (omega arith, rw add-one c.add.ensures)
 
-same_length : tie.Need-same-length invariant-loop decreases-loop
+same_length : tie.Need-shape_of-links invariant-loop decreases-loop
 same_length c = search rules
 
 returns : tie.Need-returns invariant-loop decreases-loop
 returns c =
-    let l = c.before.loop in index-all _ _ l.p (omega arith) l.invariant.1
+    let l = c.loop-p in index-all _ _ l.p (omega arith) l.invariant.1
 
-pub index-spec : {M : Type 1} → statement M
-index-spec =
+pub index_spec : {M : Type 1} → statement M
+index_spec =
     tie.close
     (tie.spec
     invariant-loop

@@ -10,115 +10,107 @@ use Rattle.index.proofs.Places.{walk_begins, walk-goes}
 use Rattle.index.proofs.last_link.Statement.{statement}
 use Rattle.index.proofs.last_link.Tie as tie
 
-abbrev invariant-loop : tie.invariant-loop
+abbrev invariant-loop : tie.invariant-loop-at
 invariant-loop keys links key at₀ rest₀ at rest =
     (at < most_slots + base * length keys) × Walked keys links key at rest
 
-abbrev decreases-loop : tie.decreases-loop
+abbrev decreases-loop : tie.decreases-loop-at
 decreases-loop keys links key at₀ rest₀ at rest = most_links - at
 
-slot-of-requires : tie.Need-slot-of-requires invariant-loop decreases-loop
+slot-of-requires : tie.Need-slot_of-at-requires invariant-loop decreases-loop
 slot-of-requires c κs = search rules
 
-loop-holds : tie.Need-loop-init invariant-loop decreases-loop
+loop-holds : tie.Need-loop-at-init invariant-loop decreases-loop
 loop-holds c = (
-  omega (arith, c.slot_of.ensures),
-  walk_begins _ _ _ c.slot_of.ensures,
+  omega (arith, c.slot_of-at.ensures),
+  walk_begins _ _ _ c.slot_of-at.ensures,
 )
 
-mul-if1 : tie.Need-overflow-mul-if1 invariant-loop decreases-loop
+mul-if1 : tie.Need-offset_bounds-links-at invariant-loop decreases-loop
 mul-if1 c = search rules
 
-shared-slice-read-if1 : tie.Need-shared-slice-read-if1 invariant-loop decreases-loop
+shared-slice-read-if1 : tie.Need-bounds-links-at invariant-loop decreases-loop
 shared-slice-read-if1 c = search rules
 
-mul-p : tie.Need-overflow-mul-p invariant-loop decreases-loop
+mul-p : tie.Need-offset_bounds-links-at-in-loop-at invariant-loop decreases-loop
 mul-p c = search rules
 
-shared-slice-read-p : tie.Need-shared-slice-read-p invariant-loop decreases-loop
+shared-slice-read-p : tie.Need-bounds-links-at-in-loop-at invariant-loop decreases-loop
 shared-slice-read-p c = search rules
 
-sub-p : tie.Need-overflow-sub-p invariant-loop decreases-loop
+sub-p : tie.Need-overflow_sub-p invariant-loop decreases-loop
 sub-p c = search rules
 
-mul-if2 : tie.Need-overflow-mul-if2 invariant-loop decreases-loop
+mul-if2 : tie.Need-offset_bounds-keys-p invariant-loop decreases-loop
 mul-if2 c =
-    let start = c.before.before.before.before.before.before.before in
-    let at = c.before.before.before.loop.at in
-    omega (arith, start.requires.within at, start.requires.rising at c.before.if1.true)
+    let at = c.loop-at.at in
+    omega (arith, c.requires.within at, c.requires.rising at c.loop-at-test.true)
 
-shared-slice-read-if2 : tie.Need-shared-slice-read-if2 invariant-loop decreases-loop
+shared-slice-read-if2 : tie.Need-bounds-keys-p invariant-loop decreases-loop
 shared-slice-read-if2 c =
-    let start = c.before.before.before.before.before.before.before.before in
-    let at = c.before.before.before.before.loop.at in
-    omega (arith, start.requires.within at, start.requires.rising at c.before.before.if1.true)
+    let at = c.loop-at.at in
+    omega (arith, c.requires.within at, c.requires.rising at c.loop-at-test.true)
 
-returns : tie.Need-returns invariant-loop decreases-loop
+returns : tie.Need-returns-then-keys-p invariant-loop decreases-loop
 returns c =
-    let l = c.before.before.before.before.before.loop in
-    let start = c.before.before.before.before.before.before.before.before.before in
+    let l = c.loop-at in
     record {
       rest = l.rest;
       walked = l.invariant.1;
       inside = omega arith;
-      ends = λ n. c.if2.true;
+      ends = λ n. c.if-keys-p.true;
     }
 
-mul_at : tie.Need-overflow-mul-at invariant-loop decreases-loop
+mul_at : tie.Need-overflow_mul-at invariant-loop decreases-loop
 mul_at c =
-    let start = c.before.before.before.before.before.before.before.before.before in
-    let at = c.before.before.before.before.before.loop.at in
-    omega (arith, start.requires.within at, start.requires.rising at c.before.before.before.if1.true)
+    let at = c.loop-at.at in
+    omega (arith, c.requires.within at, c.requires.rising at c.loop-at-test.true)
 
-add_at : tie.Need-overflow-add-at invariant-loop decreases-loop
+add_at : tie.Need-overflow_add-at invariant-loop decreases-loop
 add_at c =
-    let start = c.before.before.before.before.before.before.before.before.before in
-    let at = c.before.before.before.before.before.loop.at in
-    omega (arith, start.requires.within at, start.requires.rising at c.before.before.before.if1.true)
+    let at = c.loop-at.at in
+    omega (arith, c.requires.within at, c.requires.rising at c.loop-at-test.true)
 
-rem-at : tie.Need-nonzero-rem-at invariant-loop decreases-loop
+rem-at : tie.Need-nonzero_rem-at invariant-loop decreases-loop
 rem-at c = search rules
 
-add-at-2 : tie.Need-overflow-add-at-2 invariant-loop decreases-loop
+add-at-2 : tie.Need-overflow_add-at-in-loop-at invariant-loop decreases-loop
 add-at-2 c =
-    let start = c.before.before.before.before.before.before.before.before.before in
-    let at = c.before.before.before.before.before.loop.at in
-    omega (arith, start.requires.within at, start.requires.rising at c.before.before.before.if1.true)
+    let at = c.loop-at.at in
+    omega (arith, c.requires.within at, c.requires.rising at c.loop-at-test.true)
 
-div-rest : tie.Need-nonzero-div-rest invariant-loop decreases-loop
+div-rest : tie.Need-nonzero_div-rest invariant-loop decreases-loop
 div-rest c = search rules
 
-loop-less : tie.Need-loop-smaller invariant-loop decreases-loop
+loop-less : tie.Need-loop-at-smaller invariant-loop decreases-loop
 loop-less c =
-    let start = c.before.before.before.before.before.before.before.before.before in
-    let at = c.before.before.before.before.before.loop.at in
-    omega (arith, start.requires.within at, start.requires.rising at c.before.before.before.if1.true)
+    let at = c.loop-at.at in
+    omega (arith, c.requires.within at, c.requires.rising at c.loop-at-test.true)
 
-loop-again : tie.Need-loop-preserved invariant-loop decreases-loop
+loop-again : tie.Need-loop-at-preserved invariant-loop decreases-loop
 loop-again c =
-    let l = c.before.before.before.before.before.loop in
-    let start = c.before.before.before.before.before.before.before.before.before in (
+    let l = c.loop-at in
+    (
       omega (
         arith,
-        start.requires.within l.at,
-        start.requires.rising l.at c.before.before.before.if1.true,
+        c.requires.within l.at,
+        c.requires.rising l.at c.loop-at-test.true,
       ),
-      walk-goes _ _ _ l.invariant.1 c.before.before.before.if1.true c.if2.false refl,
+      walk-goes _ _ _ l.invariant.1 c.loop-at-test.true c.if-keys-p.false refl,
     )
 
-returns-2 : tie.Need-returns-2 invariant-loop decreases-loop
+returns-2 : tie.Need-returns invariant-loop decreases-loop
 returns-2 c =
-    let l = c.before.before.loop in
-    let start = c.before.before.before.before.before.before in
+    let l = c.loop-at in
     record {
       rest = l.rest;
       walked = l.invariant.1;
       inside = omega arith;
-      ends = λ n. absurd (n c.if1.false);
+      ends = λ n. absurd (n c.loop-at-test.false);
     }
 
-pub last-link-spec : {M : Type 1} → statement M
-last-link-spec =
+pub last_link_spec : {M : Type 1} → statement M
+last_link_spec =
     tie.close
     (tie.spec
     invariant-loop

@@ -11,7 +11,7 @@ use Rattle.judge_form.proofs.is_write_of.Tie as tie
 client-requires : tie.Need-client-requires
 client-requires c κs = search rules
 
-write-number-requires : tie.Need-write-number-requires
+write-number-requires : tie.Need-write_number-requires
 write-number-requires c κs = search rules
 
 returns : tie.Need-returns
@@ -19,7 +19,10 @@ unfolding is_write_of
 returns c =
     let a = c.before.before.before.args in
     ap₂ (λ (d n : ℕ). eqb d a.of && leb 1 n) c.before.client.ensures.0
-    c.write-number.ensures.0
+    c.write_number.ensures.0
 
-pub is-write-of-spec : {M : Type 1} → statement M
-is-write-of-spec = tie.close (tie.spec client-requires write-number-requires returns)
+pub is_write_of_spec : {M : Type 1} → statement M
+is_write_of_spec = tie.close (tie.spec
+    client-requires
+    write-number-requires
+    returns)

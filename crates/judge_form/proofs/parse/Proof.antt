@@ -12,19 +12,24 @@ shaped-requires c κs = search rules
 client-requires : tie.Need-client-requires
 client-requires c κs = search rules
 
-write-number-requires : tie.Need-write-number-requires
+write-number-requires : tie.Need-write_number-requires
 write-number-requires c κs = search rules
 
-returns : tie.Need-returns
+returns : tie.Need-returns-then-shaped
 unfolding parsed
 returns c =
-    rw (sym c.before.before.before.shaped.ensures ∙ c.before.before.if1.true)
-    (ap₂ Frame c.before.client.ensures.0 c.write-number.ensures.0)
+    rw (sym c.before.before.before.shaped.ensures ∙ c.before.before.if-shaped.true)
+    (ap₂ Frame c.before.client.ensures.0 c.write_number.ensures.0)
 
-returns-2 : tie.Need-returns-2
+returns-2 : tie.Need-returns-else-shaped
 unfolding parsed
-returns-2 c = rw (sym c.before.shaped.ensures ∙ c.if1.false)
+returns-2 c = rw (sym c.before.shaped.ensures ∙ c.if-shaped.false)
 
-pub parse-spec : {M : Type 1} → statement M
-parse-spec =
-    tie.close (tie.spec shaped-requires client-requires write-number-requires returns returns-2)
+pub parse_spec : {M : Type 1} → statement M
+parse_spec =
+    tie.close (tie.spec
+    shaped-requires
+    client-requires
+    write-number-requires
+    returns
+    returns-2)

@@ -8,26 +8,31 @@ use borrow.Author.Rules.{rules}
 use Rattle.judge_form.proofs.read_shaped.Statement.{statement}
 use Rattle.judge_form.proofs.read_shaped.Tie as tie
 
-has-read-requires : tie.Need-has-read-requires
+has-read-requires : tie.Need-has_read-requires
 has-read-requires c κs = search rules
 
 shown-requires : tie.Need-shown-requires
 shown-requires c κs = search rules
 
-entries-whole-requires : tie.Need-entries-whole-requires
+entries-whole-requires : tie.Need-entries_whole-requires
 entries-whole-requires c κs = search rules
 
-returns : tie.Need-returns
+returns : tie.Need-returns-then-has_read
 unfolding read_shaped
 returns c =
-    rw (sym c.before.before.before.has-read.ensures ∙ c.before.before.if1.true)
+    rw (sym c.before.before.before.has_read.ensures ∙ c.before.before.if-has_read.true)
     (ap₂ (λ (s : ℕ) (b : Bool). leb 1 s && b) c.before.shown.ensures
-    c.entries-whole.ensures)
+    c.entries_whole.ensures)
 
-returns-2 : tie.Need-returns-2
+returns-2 : tie.Need-returns-else-has_read
 unfolding read_shaped
-returns-2 c = rw (sym c.before.has-read.ensures ∙ c.if1.false)
+returns-2 c = rw (sym c.before.has_read.ensures ∙ c.if-has_read.false)
 
-pub read-shaped-spec : {M : Type 1} → statement M
-read-shaped-spec =
-    tie.close (tie.spec has-read-requires shown-requires entries-whole-requires returns returns-2)
+pub read_shaped_spec : {M : Type 1} → statement M
+read_shaped_spec =
+    tie.close (tie.spec
+    has-read-requires
+    shown-requires
+    entries-whole-requires
+    returns
+    returns-2)

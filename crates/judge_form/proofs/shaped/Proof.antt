@@ -21,46 +21,46 @@ unfolding shaped
 whole f read write over client end reads writes overs r w o d e p q s =
     rw (r, w, o, d, e, p, q, s)
 
-frame-end-requires : tie.Need-frame-end-requires
+frame-end-requires : tie.Need-frame_end-end-requires
 frame-end-requires c κs = search rules
 
-has-read-requires : tie.Need-has-read-requires
+has-read-requires : tie.Need-has_read-requires
 has-read-requires c κs = search rules
 
-has-write-requires : tie.Need-has-write-requires
+has-write-requires : tie.Need-has_write-requires
 has-write-requires c κs = search rules
 
-hands-over-requires : tie.Need-hands-over-requires
+hands-over-requires : tie.Need-hands_over-requires
 hands-over-requires c κs = search rules
 
 client-requires : tie.Need-client-requires
 client-requires c κs = search rules
 
-is-client-requires : tie.Need-is-client-requires
+is-client-requires : tie.Need-is_client-requires
 is-client-requires c κs = search rules
 
-read-shaped-requires : tie.Need-read-shaped-requires
+read-shaped-requires : tie.Need-read_shaped-requires
 read-shaped-requires c κs = search rules
 
-write-shaped-requires : tie.Need-write-shaped-requires
+write-shaped-requires : tie.Need-write_shaped-requires
 write-shaped-requires c κs = search rules
 
-hand-over-shaped-requires : tie.Need-hand-over-shaped-requires
+hand-over-shaped-requires : tie.Need-hand_over_shaped-requires
 hand-over-shaped-requires c κs = search rules
 
 returns : tie.Need-returns
 returns c =
     let k = c.before.before.before.before.before in
-    whole _ _ _ _ _ _ _ _ _ k.before.before.has-read.ensures
-    k.before.has-write.ensures k.hands-over.ensures
-    (c.before.before.before.is-client.ensures
+    whole _ _ _ _ _ _ _ _ _ k.before.before.has_read.ensures
+    k.before.has_write.ensures k.hands_over.ensures
+    (c.before.before.before.is_client.ensures
     ∙ ap is_client c.before.before.before.before.client.ensures.0)
-    k.before.before.before.frame-end.ensures
-    c.before.before.read-shaped.ensures c.before.write-shaped.ensures
-    c.hand-over-shaped.ensures
+    k.before.before.before.frame_end-end.ensures
+    c.before.before.read_shaped.ensures c.before.write_shaped.ensures
+    c.hand_over_shaped.ensures
 
-pub shaped-spec : {M : Type 1} → statement M
-shaped-spec =
+pub shaped_spec : {M : Type 1} → statement M
+shaped_spec =
     tie.close
     (tie.spec
     frame-end-requires

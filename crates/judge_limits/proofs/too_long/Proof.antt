@@ -18,5 +18,7 @@ returns c =
     let log = c.before.before.args.log.now in
     ap (λ (n : ℕ). ltb 32768 (length log) || ltb 256 n) c.ends.ensures
 
-pub too-long-spec : {M : Type 1} → statement M
-too-long-spec = tie.close (tie.spec ends-requires returns)
+pub too_long_spec : {M : Type 1} → statement M
+too_long_spec = tie.close (tie.spec
+    ends-requires
+    returns)

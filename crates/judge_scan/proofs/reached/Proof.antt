@@ -15,17 +15,17 @@ use Rattle.log_format.specs.Some.{some, some_from}
 use Rattle.judge_scan.proofs.reached.Statement.{statement}
 use Rattle.judge_scan.proofs.reached.Tie as tie
 
-abbrev invariant-loop : tie.invariant-loop
+abbrev invariant-loop : tie.invariant-loop-j
 invariant-loop bytes starts n of number j₀ j =
     (some_from j 0 (λ k. reaches of number (frame_in bytes starts k))
     ≡ some (reaches of number) (frames_in bytes starts n)) × (j ≤ n)
 
-abbrev decreases-loop : tie.decreases-loop
+abbrev decreases-loop : tie.decreases-loop-j
 decreases-loop bytes starts n of number j₀ j = j
 
 -- ---- a line
 
-module _ (c : tie.After-is-write-of invariant-loop decreases-loop) where
+module _ (c : tie.After-is_write_of invariant-loop decreases-loop) where
   abbrev start : tie.Start invariant-loop decreases-loop
   start = c.before.before.before.before.before.before
 
@@ -45,75 +45,74 @@ module _ (c : tie.After-is-write-of invariant-loop decreases-loop) where
   number = start.args.number
 
   abbrev line : ℕ
-  line = c.before.before.before.loop.j - 1
+  line = c.loop-j.j - 1
 
   below : line < n
   below =
-      omega (arith, c.before.before.before.loop.invariant.1, c.before.before.loop-test.true)
+      omega (arith, c.loop-j.invariant.1, c.loop-j-test.true)
 
-  tested : is_write_of of (frame_in bytes starts line) ≡ c.is-write-of.result
-  tested = ap (is_write_of of) (sym c.before.frame.ensures) ∙ sym c.is-write-of.ensures
+  tested : is_write_of of (frame_in bytes starts line) ≡ c.is_write_of.result
+  tested = ap (is_write_of of) (sym c.frame-w.ensures) ∙ sym c.is_write_of.ensures
 
   -- the frames up to the line decide as all do
   up_to_lem : some_from (line + 1) 0 (λ k. reaches of number (frame_in bytes starts k))
       ≡ some (reaches of number) (frames_in bytes starts n)
   up_to_lem =
-      let same : line + 1 ≡ c.before.before.before.loop.j =
-      omega (arith, c.before.before.loop-test.true) in
+      let same : line + 1 ≡ c.loop-j.j =
+      omega (arith, c.loop-j-test.true) in
       ap (λ (j : ℕ). some_from j 0 (λ k. reaches of number (frame_in bytes starts k))) same
-      ∙ c.before.before.before.loop.invariant.0
+      ∙ c.loop-j.invariant.0
 
 -- ---- the needs
 
-loop-holds : tie.Need-loop-init invariant-loop decreases-loop
+loop-holds : tie.Need-loop-j-init invariant-loop decreases-loop
 loop-holds c =
-    let a = c.before.before.args in (
+    let a = c.args in (
       frames-some a.bytes.now a.starts.now (reaches a.of a.number) a.n,
       omega arith,
     )
 
-sub-j : tie.Need-overflow-sub-j invariant-loop decreases-loop
+sub-j : tie.Need-overflow_sub-j invariant-loop decreases-loop
 sub-j c = search rules
 
-frame-requires : tie.Need-frame-requires invariant-loop decreases-loop
+frame-requires : tie.Need-frame-w-requires invariant-loop decreases-loop
 frame-requires c κs = search rules
 
-is-write-of-requires : tie.Need-is-write-of-requires invariant-loop decreases-loop
+is-write-of-requires : tie.Need-is_write_of-requires invariant-loop decreases-loop
 is-write-of-requires c κs = search rules
 
-write-number-requires : tie.Need-write-number-requires invariant-loop decreases-loop
+write-number-requires : tie.Need-write_number-requires invariant-loop decreases-loop
 write-number-requires c κs = search rules
 
-returns : tie.Need-returns invariant-loop decreases-loop
+returns : tie.Need-returns-then-is_write_of invariant-loop decreases-loop
 returns c =
-    let l = c.before.before in
-    ap (leb (number l)) (c.write-number.ensures.0 ∙ ap number_of l.before.frame.ensures)
-    ∙ last-write (bytes l) (starts l) (n l) (start l).requires.2 (of l) (number l) (line l) (below l)
-    (tested l ∙ c.before.if1.true)
-    ∙ up_to_lem l
+    ap (leb (number c.before.before)) (c.write_number.ensures.0 ∙ ap number_of c.frame-w.ensures)
+    ∙ last-write (bytes c.before.before) (starts c.before.before) (n c.before.before) (start c.before.before).requires.2 (of c.before.before) (number c.before.before) (line c.before.before) (below c.before.before)
+    (tested c.before.before ∙ c.if-is_write_of.true)
+    ∙ up_to_lem c.before.before
 
-loop-less : tie.Need-loop-smaller invariant-loop decreases-loop
+loop-less : tie.Need-loop-j-smaller invariant-loop decreases-loop
 loop-less c = search rules
 
-loop-again : tie.Need-loop-preserved invariant-loop decreases-loop
+loop-again : tie.Need-loop-j-preserved invariant-loop decreases-loop
 loop-again c =
-    let l = c.before in (
-      sym (other-line (bytes l) (starts l) (n l) (start l).requires.2 (of l) (number l) (line l)
-          (below l) (start l).requires.1 (tested l ∙ c.if1.false)) ∙ up_to_lem l,
-      omega (arith, below l),
+    (
+      sym (other-line (bytes c.before) (starts c.before) (n c.before) (start c.before).requires.2 (of c.before) (number c.before) (line c.before)
+          (below c.before) (start c.before).requires.1 (tested c.before ∙ c.if-is_write_of.false)) ∙ up_to_lem c.before,
+      omega (arith, below c.before),
     )
 
-returns-2 : tie.Need-returns-2 invariant-loop decreases-loop
+returns-2 : tie.Need-returns invariant-loop decreases-loop
 unfolding some_from
 returns-2 c =
-    let a = c.before.before.before.before.args in
-    let none : 0 ≡ c.before.loop.j = omega (arith, c.loop-test.false) in
+    let a = c.args in
+    let none : 0 ≡ c.loop-j.j = omega (arith, c.loop-j-test.false) in
     ap (λ (j : ℕ). some_from j 0
     (λ k. reaches a.of a.number (frame_in a.bytes.now a.starts.now k))) none
-    ∙ c.before.loop.invariant.0
+    ∙ c.loop-j.invariant.0
 
-pub reached-spec : {M : Type 1} → statement M
-reached-spec =
+pub reached_spec : {M : Type 1} → statement M
+reached_spec =
     tie.close
     (tie.spec
     invariant-loop

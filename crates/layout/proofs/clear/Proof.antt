@@ -12,42 +12,42 @@ use Rattle.layout.proofs.Blank.{blank_none, blank-more}
 use Rattle.layout.proofs.clear.Statement.{statement}
 use Rattle.layout.proofs.clear.Tie as tie
 
-abbrev invariant-loop : tie.invariant-loop
+abbrev invariant-loop : tie.invariant-loop-i
 invariant-loop b₀ n i₀ b i = (b ≡ blank i b₀) × (i ≤ n) × (length b ≡ length b₀)
 
-abbrev decreases-loop : tie.decreases-loop
+abbrev decreases-loop : tie.decreases-loop-i
 decreases-loop b₀ n i₀ b i = n - i
 
-loop-holds : tie.Need-loop-init invariant-loop decreases-loop
+loop-holds : tie.Need-loop-i-init invariant-loop decreases-loop
 loop-holds c = (blank_none _, search rules, search rules)
 
-mul-b : tie.Need-overflow-mul-b invariant-loop decreases-loop
+mul-b : tie.Need-offset_bounds-b-i invariant-loop decreases-loop
 mul-b c = search rules
 
-slice-write-b : tie.Need-slice-write-b invariant-loop decreases-loop
+slice-write-b : tie.Need-bounds-b-i invariant-loop decreases-loop
 slice-write-b c = search rules
 
-add-i : tie.Need-overflow-add-i invariant-loop decreases-loop
+add-i : tie.Need-overflow_add-i invariant-loop decreases-loop
 add-i c = search rules
 
-loop-less : tie.Need-loop-smaller invariant-loop decreases-loop
+loop-less : tie.Need-loop-i-smaller invariant-loop decreases-loop
 loop-less c = search rules
 
-loop-again : tie.Need-loop-preserved invariant-loop decreases-loop
+loop-again : tie.Need-loop-i-preserved invariant-loop decreases-loop
 loop-again c =
-    let at = c.before.loop in (
+    let at = c.loop-i in (
       ap (λ (l : List ℕ). set l at.i 0) at.invariant.0
           ∙ blank-more at.i _ (omega arith),
       search rules,
       simp length-set at.invariant.2,
     )
 
-same_length : tie.Need-same-length invariant-loop decreases-loop
+same_length : tie.Need-shape_of-b invariant-loop decreases-loop
 same_length c = search rules
 
 returns : tie.Need-returns invariant-loop decreases-loop
-returns c = rw (le_antisymm c.before.loop.invariant.1 c.loop-test.false) at
-    c.before.loop.invariant.0
+returns c = rw (le_antisymm c.loop-i.invariant.1 c.loop-i-test.false) at
+    c.loop-i.invariant.0
 
 pub clear_spec : {M : Type 1} → statement M
 clear_spec =

@@ -16,22 +16,25 @@ clear-requires : tie.Need-clear-requires
 clear-requires c κs = search rules
 
 -- src/lib.rt:102:5
-put-sizes-requires : tie.Need-put-sizes-requires
+put-sizes-requires : tie.Need-put_sizes-requires
 put-sizes-requires c κs = search rules
 
 -- src/lib.rt:97:1
-same_length : tie.Need-same-length
+same_length : tie.Need-shape_of-b
 same_length c = search rules
 
 -- src/lib.rt:97:1
 returns : tie.Need-returns
 unfolding fresh_block
 returns c =
-    let cleared = c.before.before.before.before.before.before in
-    let a = cleared.before.before.before.args in
-    c.before.before.put-sizes.ensures
+    let a = c.args in
+    c.put_sizes.ensures
     ∙ ap (λ (b : List ℕ). store_sizes b a.clients a.partitions a.items)
-    cleared.clear.ensures
+    c.clear.ensures
 
-pub make-fresh-spec : {M : Type 1} → statement M
-make-fresh-spec = tie.close (tie.spec clear-requires put-sizes-requires same_length returns)
+pub make_fresh_spec : {M : Type 1} → statement M
+make_fresh_spec = tie.close (tie.spec
+    clear-requires
+    put-sizes-requires
+    same_length
+    returns)

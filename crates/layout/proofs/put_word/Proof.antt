@@ -5,20 +5,25 @@ use lib.Seq.{set_out}
 use Rattle.layout.proofs.put_word.Statement.{statement}
 use Rattle.layout.proofs.put_word.Tie as tie
 
-mul-b : tie.Need-overflow-mul-b
+mul-b : tie.Need-offset_bounds-b-place
 mul-b c = search rules
 
-slice-write-b : tie.Need-slice-write-b
+slice-write-b : tie.Need-bounds-b-place
 slice-write-b c = search rules
 
-same_length : tie.Need-same-length
+same_length : tie.Need-shape_of-b
 same_length c = search rules
 
-returns : tie.Need-returns
+returns : tie.Need-returns-then-place-b
 returns c = search rules
 
-returns-2 : tie.Need-returns-2
-returns-2 c = sym (set_out _ _ _ c.if1.false)
+returns-2 : tie.Need-returns-else-place-b
+returns-2 c = sym (set_out _ _ _ c.if-place-b.false)
 
-pub put-word-spec : {M : Type 1} → statement M
-put-word-spec = tie.close (tie.spec mul-b slice-write-b same_length returns returns-2)
+pub put_word_spec : {M : Type 1} → statement M
+put_word_spec = tie.close (tie.spec
+    mul-b
+    slice-write-b
+    same_length
+    returns
+    returns-2)

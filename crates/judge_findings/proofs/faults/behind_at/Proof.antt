@@ -14,24 +14,29 @@ has-requires c κs = search rules
 has-requires-2 : tie.Need-has-requires-2
 has-requires-2 c κs = search rules
 
-shown-stamp-requires : tie.Need-shown-stamp-requires
+shown-stamp-requires : tie.Need-shown_stamp-requires
 shown-stamp-requires c κs = search rules
 
-returns : tie.Need-returns
+returns : tie.Need-returns-then-has
 returns c =
-    let a = c.before.before.before.before.before.args in
-    ap (λ (s : ℕ). ltb s a.stamp) c.shown-stamp.ensures
+    let a = c.args in
+    ap (λ (s : ℕ). ltb s a.stamp) c.shown_stamp.ensures
     ∙ sym (behind_at-shown a.r.now a.items a.written a.stamp a.item
-    (ap₂ ◌&&◌ (sym c.before.before.before.has.ensures)
-    (sym c.before.before.has2.ensures) ∙ c.before.if1.true))
+    (ap₂ ◌&&◌ (sym c.has.ensures)
+    (sym c.has-2.ensures) ∙ c.if-has.true))
 
-returns-2 : tie.Need-returns-2
+returns-2 : tie.Need-returns-else-has
 returns-2 c =
-    let a = c.before.before.before.before.args in
+    let a = c.args in
     sym (behind_at-not a.r.now a.items a.written a.stamp a.item
-    (ap₂ ◌&&◌ (sym c.before.before.has.ensures) (sym c.before.has2.ensures)
-    ∙ c.if1.false))
+    (ap₂ ◌&&◌ (sym c.has.ensures) (sym c.has-2.ensures)
+    ∙ c.if-has.false))
 
-pub behind-at-spec : {M : Type 1} → statement M
-behind-at-spec =
-    tie.close (tie.spec has-requires has-requires-2 shown-stamp-requires returns returns-2)
+pub behind_at_spec : {M : Type 1} → statement M
+behind_at_spec =
+    tie.close (tie.spec
+    has-requires
+    has-requires-2
+    shown-stamp-requires
+    returns
+    returns-2)

@@ -7,10 +7,10 @@ use borrow.Author.Rules.{rules}
 use Rattle.judge_findings.proofs.faults.fractures_at.Statement.{statement}
 use Rattle.judge_findings.proofs.faults.fractures_at.Tie as tie
 
-items-of-requires : tie.Need-items-of-requires
+items-of-requires : tie.Need-items_of-written-requires
 items-of-requires c κs = search rules
 
-stamp-of-requires : tie.Need-stamp-of-requires
+stamp-of-requires : tie.Need-stamp_of-stamp-requires
 stamp-of-requires c κs = search rules
 
 has-requires : tie.Need-has-requires
@@ -19,23 +19,27 @@ has-requires c κs = search rules
 behind-requires : tie.Need-behind-requires
 behind-requires c κs = search rules
 
-returns : tie.Need-returns
+returns : tie.Need-returns-then-stamp-seen
 returns c =
-    let s = c.before.before.before in
-    let i = s.before in
-    let a = i.before.before.before.args in
-    fractures-same a.r.now _ _ a.item a.seen _ _ c.before.before.if1.true
-    c.before.has.ensures c.behind.ensures
-    ∙ ap₂ (λ (n t : ℕ). fractures_by a.r.now n t a.item a.seen) i.items_of.ensures
-    s.stamp-of.ensures
+    let a = c.args in
+    fractures-same a.r.now _ _ a.item a.seen _ _ c.if-stamp-seen.true
+    c.has.ensures c.behind.ensures
+    ∙ ap₂ (λ (n t : ℕ). fractures_by a.r.now n t a.item a.seen) c.items_of-written.ensures
+    c.stamp_of-stamp.ensures
 
-returns-2 : tie.Need-returns-2
+returns-2 : tie.Need-returns-else-stamp-seen
 returns-2 c =
-    let a = c.before.before.before.before.before.args in
+    let a = c.args in
     fractures-other a.r.now _ _ a.item a.seen
-    (λ e. c.if1.false (c.before.stamp-of.ensures ∙ e))
+    (λ e. c.if-stamp-seen.false (c.stamp_of-stamp.ensures ∙ e))
 
-pub fractures-at-spec : {M : Type 1} → statement M
-fractures-at-spec =
+pub fractures_at_spec : {M : Type 1} → statement M
+fractures_at_spec =
     tie.close
-    (tie.spec items-of-requires stamp-of-requires has-requires behind-requires returns returns-2)
+    (tie.spec
+    items-of-requires
+    stamp-of-requires
+    has-requires
+    behind-requires
+    returns
+    returns-2)

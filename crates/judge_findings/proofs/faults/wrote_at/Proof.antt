@@ -12,58 +12,55 @@ use Rattle.judge_findings.proofs.faults.wrote_at.Statement.{statement}
 use Rattle.judge_findings.proofs.faults.wrote_at.Tie as tie
 
 -- the frame is the write's, and so are the items
-module _ (c : tie.After-items-of) where
+module _ (c : tie.After-items_of-items) where
   abbrev start : tie.Start
   start = c.before.before.before.before.before.before.before.before
 
-  here : c.before.frame.result.now
+  here : c.frame-f.result.now
       ≡ frame_in start.args.bytes.now start.args.starts.now
       (line_of start.args.writes.now start.args.w)
-  here = c.before.frame.ensures
+  here = c.frame-f.ensures
       ∙ ap (frame_in start.args.bytes.now start.args.starts.now)
-      c.before.before.Line-of.ensures
+      c.line_of.ensures
 
-  wrote-these : c.items_of.result ≡ written c.before.frame.result.now
-  wrote-these = c.items_of.ensures ∙ start.pre.1.items ∙ ap written (sym here)
+  wrote-these : c.items_of-items.result ≡ written c.frame-f.result.now
+  wrote-these = c.items_of-items.ensures ∙ start.requires.1.items ∙ ap written (sym here)
 
-stamp-of-requires : tie.Need-stamp-of-requires
+stamp-of-requires : tie.Need-stamp_of-requires
 stamp-of-requires c κs = search rules
 
-line-of-requires : tie.Need-line-of-requires
+line-of-requires : tie.Need-line_of-requires
 line-of-requires c κs = search rules
 
-frame-requires : tie.Need-frame-requires
+frame-requires : tie.Need-frame-f-requires
 frame-requires c κs = search rules
 
-items-of-requires : tie.Need-items-of-requires
+items-of-requires : tie.Need-items_of-items-requires
 items-of-requires c κs = search rules
 
 has-requires : tie.Need-has-requires
 has-requires c κs = search rules
 
-written-value-requires : tie.Need-written-value-requires
+written-value-requires : tie.Need-written_value-requires
 written-value-requires c κs = wrote-these c.before
 
-returns : tie.Need-returns
+returns : tie.Need-returns-then-stamp_of-stamp
 returns c =
-    let i = c.before.before in
-    let t = i.before.before.before in
-    let a = (start i).args in
+    let a = (start c.before.before).args in
     wrote-same _ a.item a.stamp a.value _ _
-    (sym (start i).requires.1.stamp ∙ sym t.before.stamp-of.ensures ∙ t.if1.true)
-    (c.before.has.ensures
-    ∙ ap (λ (n : ℕ). has n a.item) (i.items_of.ensures ∙ (start i).requires.1.items))
-    (c.written-value.ensures ∙ ap (λ (f : List ℕ). written_value f a.item) (here i))
+    (sym (start c.before.before).requires.1.stamp ∙ sym c.stamp_of.ensures ∙ c.if-stamp_of-stamp.true)
+    (c.has.ensures
+    ∙ ap (λ (n : ℕ). has n a.item) (c.items_of-items.ensures ∙ (start c.before.before).requires.1.items))
+    (c.written_value.ensures ∙ ap (λ (f : List ℕ). written_value f a.item) (here c.before.before))
 
-returns-2 : tie.Need-returns-2
+returns-2 : tie.Need-returns-else-stamp_of-stamp
 returns-2 c =
-    let s = c.before.before.before.before.before in
-    let a = s.args in
+    let a = c.args in
     wrote-other _ a.item a.stamp a.value
-    (λ e. c.if1.false (c.before.stamp-of.ensures ∙ s.requires.1.stamp ∙ e))
+    (λ e. c.if-stamp_of-stamp.false (c.stamp_of.ensures ∙ c.requires.1.stamp ∙ e))
 
-pub wrote-at-spec : {M : Type 1} → statement M
-wrote-at-spec =
+pub wrote_at_spec : {M : Type 1} → statement M
+wrote_at_spec =
     tie.close
     (tie.spec
     stamp-of-requires

@@ -5,14 +5,17 @@ use borrow.Author.Rules.{rules}
 use Rattle.judge_findings.proofs.owners.handed.Statement.{statement}
 use Rattle.judge_findings.proofs.owners.handed.Tie as tie
 
-hands-over-requires : tie.Need-hands-over-requires
+hands-over-requires : tie.Need-hands_over-requires
 hands-over-requires c κs = search rules
 
-returns : tie.Need-returns
-returns c = (rw (sym c.before.hands-over.ensures ∙ c.if1.true), omega arith)
+returns : tie.Need-returns-then-hands_over
+returns c = (rw (sym c.hands_over.ensures ∙ c.if-hands_over.true), omega arith)
 
-returns-2 : tie.Need-returns-2
-returns-2 c = (rw (sym c.before.hands-over.ensures ∙ c.if1.false), omega arith)
+returns-2 : tie.Need-returns-else-hands_over
+returns-2 c = (rw (sym c.hands_over.ensures ∙ c.if-hands_over.false), omega arith)
 
-pub handed-spec : {M : Type 1} → statement M
-handed-spec = tie.close (tie.spec hands-over-requires returns returns-2)
+pub handed_spec : {M : Type 1} → statement M
+handed_spec = tie.close (tie.spec
+    hands-over-requires
+    returns
+    returns-2)

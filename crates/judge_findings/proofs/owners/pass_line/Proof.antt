@@ -16,15 +16,15 @@ use borrow.Author.Rules.{rules}
 use Rattle.judge_findings.proofs.owners.pass_line.Statement.{statement}
 use Rattle.judge_findings.proofs.owners.pass_line.Tie as tie
 
-abbrev invariant-loop : tie.invariant-loop
+abbrev invariant-loop : tie.invariant-loop-j
 invariant-loop owners₀ line f giver to above j₀ owners j =
     Handed owners₀ f j owners × (length owners ≡ length owners₀) × (j ≤ above)
 
-abbrev decreases-loop : tie.decreases-loop
+abbrev decreases-loop : tie.decreases-loop-j
 decreases-loop owners₀ line f giver to above j₀ owners j = above - j
 
 -- what the start knows of the frame
-module _ (c : tie.After-handed invariant-loop decreases-loop) where
+module _ (c : tie.After-handed-above invariant-loop decreases-loop) where
   abbrev start : tie.Start invariant-loop decreases-loop
   start = c.before.before.before.before.before
 
@@ -32,58 +32,57 @@ module _ (c : tie.After-handed invariant-loop decreases-loop) where
   f = start.args.f.now
 
 -- a line that is handed over
-module _ (c : tie.In-loop invariant-loop decreases-loop) where
-  abbrev top : tie.After-handed invariant-loop decreases-loop
+module _ (c : tie.In-loop-j invariant-loop decreases-loop) where
+  abbrev top : tie.After-handed-above invariant-loop decreases-loop
   top = c.before.before
 
   over : hands_over (kind_of (f top)) ≡ true
-  over = hands (f top) _ _ _ top.handed.ensures.0 c.loop-test.true
+  over = hands (f top) _ _ _ top.handed-above.ensures.0 c.loop-j-test.true
 
-client-requires : tie.Need-client-requires invariant-loop decreases-loop
+client-requires : tie.Need-client-giver-requires invariant-loop decreases-loop
 client-requires c κs = search rules
 
-receiver-requires : tie.Need-receiver-requires invariant-loop decreases-loop
+receiver-requires : tie.Need-receiver-to-requires invariant-loop decreases-loop
 receiver-requires c κs = search rules
 
-handed-requires : tie.Need-handed-requires invariant-loop decreases-loop
+handed-requires : tie.Need-handed-above-requires invariant-loop decreases-loop
 handed-requires c κs = search rules
 
-loop-holds : tie.Need-loop-init invariant-loop decreases-loop
+loop-holds : tie.Need-loop-j-init invariant-loop decreases-loop
 loop-holds c = (handed-first (start c).args.owners.now (f c), refl, omega arith)
 
-mul-clients : tie.Need-overflow-mul-clients invariant-loop decreases-loop
+mul-clients : tie.Need-offset_bounds-owners-j invariant-loop decreases-loop
 mul-clients c = search rules
 
-slice-read-clients : tie.Need-slice-read-clients invariant-loop decreases-loop
+slice-read-clients : tie.Need-bounds-owners-j invariant-loop decreases-loop
 slice-read-clients c = search rules
 
-with-heir-requires : tie.Need-with-heir-requires invariant-loop decreases-loop
+with-heir-requires : tie.Need-with_heir-requires invariant-loop decreases-loop
 with-heir-requires c κs =
     let t = top c.before in
-    omega (arith, t.before.receiver.ensures.0, (start t).pre.1.receiver (over c.before))
+    omega (arith, t.receiver-to.ensures.0, (start t).requires.1.receiver (over c.before))
 
-mul-owners : tie.Need-overflow-mul-owners invariant-loop decreases-loop
+mul-owners : tie.Need-offset_bounds-owners-j-in-loop-j invariant-loop decreases-loop
 mul-owners c = search rules
 
-slice-write-owners : tie.Need-slice-write-owners invariant-loop decreases-loop
+slice-write-owners : tie.Need-bounds-owners-j-in-loop-j invariant-loop decreases-loop
 slice-write-owners c = search rules
 
-add-j : tie.Need-overflow-add-j invariant-loop decreases-loop
+add-j : tie.Need-overflow_add-j invariant-loop decreases-loop
 add-j c = search rules
 
-loop-less : tie.Need-loop-smaller invariant-loop decreases-loop
+loop-less : tie.Need-loop-j-smaller invariant-loop decreases-loop
 loop-less c = search rules
 
-loop-again : tie.Need-loop-preserved invariant-loop decreases-loop
+loop-again : tie.Need-loop-j-preserved invariant-loop decreases-loop
 loop-again c =
-    let i = c.before.before in
-    let t = top i in
-    let l = i.before.loop in (
+    let t = top c.before.before in
+    let l = c.loop-j in (
       handed-next (start t).args.owners.now (f t) l.owners l.j _ l.invariant.0
           (omega arith)
-          (c.with-heir.ensures
-          ∙ heir-over (f t) _ _ _ (over i) t.before.before.client.ensures.0
-          t.before.receiver.ensures.0),
+          (c.with_heir.ensures
+          ∙ heir-over (f t) _ _ _ (over c.before.before) t.client-giver.ensures.0
+          t.receiver-to.ensures.0),
       length-set l.owners l.j _ ∙ l.invariant.1,
       omega arith,
     )
@@ -91,29 +90,28 @@ loop-again c =
 insert-requires : tie.Need-insert-requires invariant-loop decreases-loop
 insert-requires c κs = search rules
 
-mul-owners-2 : tie.Need-overflow-mul-owners-2 invariant-loop decreases-loop
+mul-owners-2 : tie.Need-offset_bounds-owners-line invariant-loop decreases-loop
 mul-owners-2 c = search rules
 
-slice-write-owners-2 : tie.Need-slice-write-owners-2 invariant-loop decreases-loop
+slice-write-owners-2 : tie.Need-bounds-owners-line invariant-loop decreases-loop
 slice-write-owners-2 c = search rules
 
-same_length : tie.Need-same-length invariant-loop decreases-loop
+same_length : tie.Need-shape_of-owners invariant-loop decreases-loop
 same_length c = search rules
 
 returns : tie.Need-returns invariant-loop decreases-loop
 returns c =
-    let l = c.before.before.loop in
-    let t = c.before.before.before in
-    let s = start t in
-    passed s.args.owners.now (f t) l.owners s.args.line t.handed.result _
-    (subst (λ (j : ℕ). Handed s.args.owners.now (f t) j l.owners)
-    (le_antisymm l.invariant.2 c.before.loop-test.false) l.invariant.0)
-    t.handed.ensures.0 l.invariant.1 (omega arith)
-    (c.insert.ensures ∙ ap (insert64 0) t.before.before.client.ensures.0
-    ∙ insert64-lt 0 (client_of (f t)) s.pre.1.client)
+    let l = c.loop-j in
+    let s = start c.before.before.before in
+    passed s.args.owners.now (f c.before.before.before) l.owners s.args.line c.handed-above.result _
+    (subst (λ (j : ℕ). Handed s.args.owners.now (f c.before.before.before) j l.owners)
+    (le_antisymm l.invariant.2 c.loop-j-test.false) l.invariant.0)
+    c.handed-above.ensures.0 l.invariant.1 (omega arith)
+    (c.insert.ensures ∙ ap (insert64 0) c.client-giver.ensures.0
+    ∙ insert64-lt 0 (client_of (f c.before.before.before)) s.requires.1.client)
 
-pub pass-line-spec : {M : Type 1} → statement M
-pass-line-spec =
+pub pass_line_spec : {M : Type 1} → statement M
+pass_line_spec =
     tie.close
     (tie.spec
     invariant-loop

@@ -11,14 +11,17 @@ has-requires c κs = search rules
 insert-requires : tie.Need-insert-requires
 insert-requires c κs = search rules
 
-returns : tie.Need-returns
+returns : tie.Need-returns-then-has
 returns c =
-    let s = c.before.before.before in
-    rw (sym c.before.before.has.ensures ∙ c.before.if1.true)
-    (c.insert.ensures ∙ insert64-lt s.args.clients s.args.to s.requires)
+    rw (sym c.has.ensures ∙ c.if-has.true)
+    (c.insert.ensures ∙ insert64-lt c.args.clients c.args.to c.requires)
 
-returns-2 : tie.Need-returns-2
-returns-2 c = rw (sym c.before.has.ensures ∙ c.if1.false)
+returns-2 : tie.Need-returns-else-has
+returns-2 c = rw (sym c.has.ensures ∙ c.if-has.false)
 
-pub with-heir-spec : {M : Type 1} → statement M
-with-heir-spec = tie.close (tie.spec has-requires insert-requires returns returns-2)
+pub with_heir_spec : {M : Type 1} → statement M
+with_heir_spec = tie.close (tie.spec
+    has-requires
+    insert-requires
+    returns
+    returns-2)

@@ -12,74 +12,69 @@ use Rattle.judge_findings.proofs.Gathering.{gathered-first, gathered_next, put-l
 use Rattle.judge_findings.proofs.writes.gather.Statement.{statement}
 use Rattle.judge_findings.proofs.writes.gather.Tie as tie
 
-abbrev invariant-loop : tie.invariant-loop
+abbrev invariant-loop : tie.invariant-loop-j
 invariant-loop bytes starts n writes₀ m₀ j₀ writes m j =
     Gathered bytes starts j writes m × (length writes ≡ length writes₀) × (j ≤ n)
 
-abbrev decreases-loop : tie.decreases-loop
+abbrev decreases-loop : tie.decreases-loop-j
 decreases-loop bytes starts n writes₀ m₀ j₀ writes m j = n - j
 
-loop-holds : tie.Need-loop-init invariant-loop decreases-loop
+loop-holds : tie.Need-loop-j-init invariant-loop decreases-loop
 loop-holds c = (gathered-first _ _ _, refl, omega arith)
 
-frame-requires : tie.Need-frame-requires invariant-loop decreases-loop
+frame-requires : tie.Need-frame-f-requires invariant-loop decreases-loop
 frame-requires c κs = search rules
 
-written-requires : tie.Need-written-requires invariant-loop decreases-loop
+written-requires : tie.Need-written-items-requires invariant-loop decreases-loop
 written-requires c κs = search rules
 
-written-stamp-requires : tie.Need-written-stamp-requires invariant-loop decreases-loop
+written-stamp-requires : tie.Need-written_stamp-requires invariant-loop decreases-loop
 written-stamp-requires c κs = search rules
 
 put-requires : tie.Need-put-requires invariant-loop decreases-loop
 put-requires c κs =
-    let l = c.before.before.before.before.before.loop in
+    let l = c.loop-j in
     omega (arith, l.invariant.0.few, l.invariant.1)
 
-counted-requires : tie.Need-counted-requires invariant-loop decreases-loop
+counted-requires : tie.Need-counted-m-requires invariant-loop decreases-loop
 counted-requires c κs = search rules
 
-add-j : tie.Need-overflow-add-j invariant-loop decreases-loop
+add-j : tie.Need-overflow_add-j invariant-loop decreases-loop
 add-j c = search rules
 
-loop-less : tie.Need-loop-smaller invariant-loop decreases-loop
+loop-less : tie.Need-loop-j-smaller invariant-loop decreases-loop
 loop-less c = search rules
 
-loop-again : tie.Need-loop-preserved invariant-loop decreases-loop
+loop-again : tie.Need-loop-j-preserved invariant-loop decreases-loop
 loop-again c =
-    let p = c.before.before.before in
-    let s = p.before in
-    let w = s.before.before in
-    let f = w.before in
-    let l = f.before.before.loop in
-    let e = f.before.before.before.before.before.before in
-    let a = e.args in
+    let l = c.loop-j in
+    let a = c.args in
     let room : 3 * l.m + 2 < length l.writes =
-    omega (arith, l.invariant.0.few, l.invariant.1, f.before.loop-test.true, e.requires.1) in (
-      subst₂ (Gathered a.bytes.now a.starts.now (l.j + 1)) (sym p.put.ensures)
-          (sym c.counted.ensures)
-          (gathered_next l.writes l.m l.j s.written-stamp.result w.written.result
+    omega (arith, l.invariant.0.few, l.invariant.1, c.loop-j-test.true, c.requires.1) in (
+      subst₂ (Gathered a.bytes.now a.starts.now (l.j + 1)) (sym c.put.ensures)
+          (sym c.counted-m.ensures)
+          (gathered_next l.writes l.m l.j c.written_stamp.result c.written-items.result
           room a.bytes.now a.starts.now l.invariant.0 (omega arith)
-          (s.written-stamp.ensures ∙ ap written_stamp f.frame.ensures)
-          (w.written.ensures ∙ ap written f.frame.ensures)),
-      ap length p.put.ensures
-          ∙ put-length l.writes l.m l.j s.written-stamp.result w.written.result
+          (c.written_stamp.ensures ∙ ap written_stamp c.frame-f.ensures)
+          (c.written-items.ensures ∙ ap written c.frame-f.ensures)),
+      ap length c.put.ensures
+          ∙ put-length l.writes l.m l.j c.written_stamp.result c.written-items.result
           room ∙ l.invariant.1,
       omega arith,
     )
 
-same_length : tie.Need-same-length invariant-loop decreases-loop
+same_length : tie.Need-shape_of-writes invariant-loop decreases-loop
 same_length c = search rules
 
 returns : tie.Need-returns invariant-loop decreases-loop
 returns c =
-    let a = c.before.before.before.before.before.args in
-    let l = c.before.loop in
+    let a = c.args in
+    let l = c.loop-j in
     subst (λ (k : ℕ). Gathered a.bytes.now a.starts.now k l.writes l.m)
-    (le_antisymm l.invariant.2 c.loop-test.false) l.invariant.0
+    (le_antisymm l.invariant.2 c.loop-j-test.false) l.invariant.0
 
-pub gather-spec : {M : Type 1} → statement M
-gather-spec =
+pub gather_spec : {M : Type 1} → statement M
+gather_spec =
     tie.close
     (tie.spec
     invariant-loop

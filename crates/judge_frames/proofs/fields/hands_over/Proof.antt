@@ -11,5 +11,7 @@ byte-requires c κs = search rules
 returns : tie.Need-returns
 returns c = ap hands_over c.byte.ensures.0
 
-pub hands-over-spec : {M : Type 1} → statement M
-hands-over-spec = tie.close (tie.spec byte-requires returns)
+pub hands_over_spec : {M : Type 1} → statement M
+hands_over_spec = tie.close (tie.spec
+    byte-requires
+    returns)

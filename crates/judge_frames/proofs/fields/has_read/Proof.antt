@@ -5,11 +5,13 @@ use borrow.Author.Rules.{rules}
 use Rattle.judge_frames.proofs.fields.has_read.Statement.{statement}
 use Rattle.judge_frames.proofs.fields.has_read.Tie as tie
 
-byte-requires : tie.Need-byte-requires
+byte-requires : tie.Need-byte-kind-requires
 byte-requires c κs = search rules
 
 returns : tie.Need-returns
-returns c = ap has_read c.byte.ensures.0
+returns c = ap has_read c.byte-kind.ensures.0
 
-pub has-read-spec : {M : Type 1} → statement M
-has-read-spec = tie.close (tie.spec byte-requires returns)
+pub has_read_spec : {M : Type 1} → statement M
+has_read_spec = tie.close (tie.spec
+    byte-requires
+    returns)

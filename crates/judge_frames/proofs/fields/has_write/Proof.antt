@@ -5,11 +5,13 @@ use borrow.Author.Rules.{rules}
 use Rattle.judge_frames.proofs.fields.has_write.Statement.{statement}
 use Rattle.judge_frames.proofs.fields.has_write.Tie as tie
 
-byte-requires : tie.Need-byte-requires
+byte-requires : tie.Need-byte-kind-requires
 byte-requires c κs = search rules
 
 returns : tie.Need-returns
-returns c = ap has_write c.byte.ensures.0
+returns c = ap has_write c.byte-kind.ensures.0
 
-pub has-write-spec : {M : Type 1} → statement M
-has-write-spec = tie.close (tie.spec byte-requires returns)
+pub has_write_spec : {M : Type 1} → statement M
+has_write_spec = tie.close (tie.spec
+    byte-requires
+    returns)

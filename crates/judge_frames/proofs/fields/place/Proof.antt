@@ -20,5 +20,7 @@ returns c =
       ),
     )
 
-pub place-spec : {M : Type 1} → statement M
-place-spec = tie.close (tie.spec rank-requires returns)
+pub place_spec : {M : Type 1} → statement M
+place_spec = tie.close (tie.spec
+    rank-requires
+    returns)

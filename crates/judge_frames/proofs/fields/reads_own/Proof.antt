@@ -5,11 +5,13 @@ use borrow.Author.Rules.{rules}
 use Rattle.judge_frames.proofs.fields.reads_own.Statement.{statement}
 use Rattle.judge_frames.proofs.fields.reads_own.Tie as tie
 
-byte-requires : tie.Need-byte-requires
+byte-requires : tie.Need-byte-kind-requires
 byte-requires c κs = search rules
 
 returns : tie.Need-returns
-returns c = ap reads_own c.byte.ensures.0
+returns c = ap reads_own c.byte-kind.ensures.0
 
-pub reads-own-spec : {M : Type 1} → statement M
-reads-own-spec = tie.close (tie.spec byte-requires returns)
+pub reads_own_spec : {M : Type 1} → statement M
+reads_own_spec = tie.close (tie.spec
+    byte-requires
+    returns)

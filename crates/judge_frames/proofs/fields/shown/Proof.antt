@@ -6,20 +6,24 @@ use borrow.Author.Rules.{rules}
 use Rattle.judge_frames.proofs.fields.shown.Statement.{statement}
 use Rattle.judge_frames.proofs.fields.shown.Tie as tie
 
-has-read-requires : tie.Need-has-read-requires
+has-read-requires : tie.Need-has_read-requires
 has-read-requires c κs = search rules
 
 number-requires : tie.Need-number-requires
 number-requires c κs = search rules
 
-returns : tie.Need-returns
+returns : tie.Need-returns-then-has_read
 unfolding shown
-returns c = rw (sym c.before.before.has-read.ensures ∙ c.before.if1.true)
+returns c = rw (sym c.before.before.has_read.ensures ∙ c.before.if-has_read.true)
     c.number.ensures
 
-returns-2 : tie.Need-returns-2
+returns-2 : tie.Need-returns-else-has_read
 unfolding shown
-returns-2 c = rw (sym c.before.has-read.ensures ∙ c.if1.false)
+returns-2 c = rw (sym c.before.has_read.ensures ∙ c.if-has_read.false)
 
-pub shown-spec : {M : Type 1} → statement M
-shown-spec = tie.close (tie.spec has-read-requires number-requires returns returns-2)
+pub shown_spec : {M : Type 1} → statement M
+shown_spec = tie.close (tie.spec
+    has-read-requires
+    number-requires
+    returns
+    returns-2)

@@ -18,8 +18,11 @@ returns : tie.Need-returns
 returns c =
     let f = c.before.before.before.args.f.now in
     let e = c.count.ensures ∙ ap (λ (s : ℕ). count s) c.before.shown.ensures
-    ∙ shown-count f (λ i. (c.before.before.shared-slice-known.given i).fits) in
+    ∙ shown-count f (λ i. (c.before.before.shared_slice_known-1.given i).fits) in
     (e, omega (arith, e, shown-few f))
 
-pub shown-count-spec : {M : Type 1} → statement M
-shown-count-spec = tie.close (tie.spec shown-requires count-requires returns)
+pub shown_count_spec : {M : Type 1} → statement M
+shown_count_spec = tie.close (tie.spec
+    shown-requires
+    count-requires
+    returns)

@@ -12,25 +12,25 @@ use Rattle.judge_frames.proofs.fields.shown_stamp.Tie as tie
 place-requires : tie.Need-place-requires
 place-requires c κs = search rules
 
-mul_at : tie.Need-overflow-mul-at
+mul_at : tie.Need-overflow_mul-at
 mul_at c = search rules
 
-add_at : tie.Need-overflow-add-at
+add_at : tie.Need-overflow_add-at
 add_at c = search rules
 
 word-requires : tie.Need-word-requires
 word-requires c κs = search rules
 
-mul-result : tie.Need-overflow-mul-result
+mul-result : tie.Need-overflow_mul-result
 mul-result c = search rules
 
-add-byte : tie.Need-overflow-add-byte
+add-byte : tie.Need-overflow_add-at-2
 add-byte c = search rules
 
 byte-requires : tie.Need-byte-requires
 byte-requires c κs = search rules
 
-add-result : tie.Need-overflow-add-result
+add-result : tie.Need-overflow_add-result
 add-result c = search rules
 
 returns : tie.Need-returns
@@ -43,8 +43,8 @@ returns c =
     ∙ ap (λ (i : ℕ). number_at 4 f (10 + 9 * i) * 16 + get_or f (10 + 9 * i + 4) 0)
     (c.before.before.place.ensures.0 ∙ ap (λ (items : ℕ). rank items s.args.item) s.requires)
 
-pub shown-stamp-spec : {M : Type 1} → statement M
-shown-stamp-spec =
+pub shown_stamp_spec : {M : Type 1} → statement M
+shown_stamp_spec =
     tie.close
     (tie.spec
     place-requires

@@ -11,13 +11,13 @@ use Rattle.judge_frames.proofs.fields.shown_value.Tie as tie
 place-requires : tie.Need-place-requires
 place-requires c κs = search rules
 
-mul-word : tie.Need-overflow-mul-word
+mul-word : tie.Need-overflow_mul-place
 mul-word c = search rules
 
-add-word : tie.Need-overflow-add-word
+add-word : tie.Need-overflow_add-place
 add-word c = search rules
 
-add-word-2 : tie.Need-overflow-add-word-2
+add-word-2 : tie.Need-overflow_add-place-2
 add-word-2 c = search rules
 
 word-requires : tie.Need-word-requires
@@ -31,6 +31,12 @@ returns c =
     ∙ ap (λ (i : ℕ). number_at 4 s.args.f.now (10 + 9 * i + 5))
     (c.before.place.ensures.0 ∙ ap (λ (items : ℕ). rank items s.args.item) s.requires)
 
-pub shown-value-spec : {M : Type 1} → statement M
-shown-value-spec =
-    tie.close (tie.spec place-requires mul-word add-word add-word-2 word-requires returns)
+pub shown_value_spec : {M : Type 1} → statement M
+shown_value_spec =
+    tie.close (tie.spec
+    place-requires
+    mul-word
+    add-word
+    add-word-2
+    word-requires
+    returns)

@@ -16,9 +16,11 @@ returns c = (
     c.number.ensures,
     number_at-lt 4
         c.before.before.args.f.now c.before.before.args.at
-        (λ i. (c.before.shared-slice-known.given i).fits),
+        (λ i. (c.before.shared_slice_known-1.given i).fits),
   ),
 )
 
-pub word-spec : {M : Type 1} → statement M
-word-spec = tie.close (tie.spec number-requires returns)
+pub word_spec : {M : Type 1} → statement M
+word_spec = tie.close (tie.spec
+    number-requires
+    returns)

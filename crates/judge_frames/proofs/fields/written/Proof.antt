@@ -8,26 +8,31 @@ use borrow.Author.Rules.{rules}
 use Rattle.judge_frames.proofs.fields.written.Statement.{statement}
 use Rattle.judge_frames.proofs.fields.written.Tie as tie
 
-has-write-requires : tie.Need-has-write-requires
+has-write-requires : tie.Need-has_write-requires
 has-write-requires c κs = search rules
 
-write-at-requires : tie.Need-write-at-requires
+write-at-requires : tie.Need-write_at-requires
 write-at-requires c κs = search rules
 
 number-requires : tie.Need-number-requires
 number-requires c κs = search rules
 
-returns : tie.Need-returns
+returns : tie.Need-returns-then-has_write
 unfolding written
 returns c =
     let f = c.before.before.before.before.before.args.f.now in
-    rw (sym c.before.before.before.has-write.ensures ∙ c.before.before.if1.true)
-    (c.number.ensures ∙ ap (λ (at : ℕ). number_at 8 f at) c.before.write-at.ensures.0)
+    rw (sym c.before.before.before.has_write.ensures ∙ c.before.before.if-has_write.true)
+    (c.number.ensures ∙ ap (λ (at : ℕ). number_at 8 f at) c.before.write_at.ensures.0)
 
-returns-2 : tie.Need-returns-2
+returns-2 : tie.Need-returns-else-has_write
 unfolding written
-returns-2 c = rw (sym c.before.has-write.ensures ∙ c.if1.false)
+returns-2 c = rw (sym c.before.has_write.ensures ∙ c.if-has_write.false)
 
-pub written-spec : {M : Type 1} → statement M
-written-spec =
-    tie.close (tie.spec has-write-requires write-at-requires number-requires returns returns-2)
+pub written_spec : {M : Type 1} → statement M
+written_spec =
+    tie.close (tie.spec
+    has-write-requires
+    write-at-requires
+    number-requires
+    returns
+    returns-2)

@@ -19,8 +19,11 @@ returns : tie.Need-returns
 returns c =
     let f = c.before.before.before.args.f.now in
     let e = c.count.ensures ∙ ap (λ (s : ℕ). count s) c.before.written.ensures
-    ∙ written_count f (λ i. (c.before.before.shared-slice-known.given i).fits) in
+    ∙ written_count f (λ i. (c.before.before.shared_slice_known-1.given i).fits) in
     (e, omega (arith, e, written-few f))
 
-pub written-count-spec : {M : Type 1} → statement M
-written-count-spec = tie.close (tie.spec written-requires count-requires returns)
+pub written_count_spec : {M : Type 1} → statement M
+written_count_spec = tie.close (tie.spec
+    written-requires
+    count-requires
+    returns)

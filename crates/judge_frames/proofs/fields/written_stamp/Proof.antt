@@ -4,22 +4,27 @@ use borrow.Author.Rules.{rules}
 use Rattle.judge_frames.proofs.fields.written_stamp.Statement.{statement}
 use Rattle.judge_frames.proofs.fields.written_stamp.Tie as tie
 
-write-number-requires : tie.Need-write-number-requires
+write-number-requires : tie.Need-write_number-requires
 write-number-requires c κs = search rules
 
-mul-result : tie.Need-overflow-mul-result
+mul-result : tie.Need-overflow_mul-result
 mul-result c = search rules
 
 client-requires : tie.Need-client-requires
 client-requires c κs = search rules
 
-add-result : tie.Need-overflow-add-result
+add-result : tie.Need-overflow_add-result
 add-result c = search rules
 
 returns : tie.Need-returns
 unfolding written_stamp
 returns c = search rules
 
-pub written-stamp-spec : {M : Type 1} → statement M
-written-stamp-spec =
-    tie.close (tie.spec write-number-requires mul-result client-requires add-result returns)
+pub written_stamp_spec : {M : Type 1} → statement M
+written_stamp_spec =
+    tie.close (tie.spec
+    write-number-requires
+    mul-result
+    client-requires
+    add-result
+    returns)

@@ -8,19 +8,19 @@ use borrow.Author.Rules.{rules}
 use Rattle.judge_frames.proofs.fields.written_value.Statement.{statement}
 use Rattle.judge_frames.proofs.fields.written_value.Tie as tie
 
-write-at-requires : tie.Need-write-at-requires
+write-at-requires : tie.Need-write_at-requires
 write-at-requires c κs = search rules
 
-add-word : tie.Need-overflow-add-word
+add-word : tie.Need-overflow_add-write_at
 add-word c = search rules
 
 place-requires : tie.Need-place-requires
 place-requires c κs = search rules
 
-mul-word : tie.Need-overflow-mul-word
+mul-word : tie.Need-overflow_mul-place
 mul-word c = search rules
 
-add-word-2 : tie.Need-overflow-add-word-2
+add-word-2 : tie.Need-overflow_add-write_at-2
 add-word-2 c = search rules
 
 word-requires : tie.Need-word-requires
@@ -32,11 +32,11 @@ returns c =
     let s = c.before.before.before.before in
     let f = s.args.f.now in
     c.word.ensures.0
-    ∙ ap₂ (λ (at i : ℕ). number_at 4 f (at + 12 + 4 * i)) c.before.before.write-at.ensures.0
+    ∙ ap₂ (λ (at i : ℕ). number_at 4 f (at + 12 + 4 * i)) c.before.before.write_at.ensures.0
     (c.before.place.ensures.0 ∙ ap (λ (items : ℕ). rank items s.args.item) s.requires)
 
-pub written-value-spec : {M : Type 1} → statement M
-written-value-spec =
+pub written_value_spec : {M : Type 1} → statement M
+written_value_spec =
     tie.close
     (tie.spec
     write-at-requires

@@ -7,34 +7,32 @@ use borrow.Author.Rules.{rules}
 use Rattle.layout.proofs.entry.put_entry_at.Statement.{statement}
 use Rattle.layout.proofs.entry.put_entry_at.Tie as tie
 
-add-put-word : tie.Need-overflow-add-put-word
+add-put-word : tie.Need-overflow_add-base
 add-put-word c = search rules
 
-put-word-requires : tie.Need-put-word-requires
+put-word-requires : tie.Need-put_word-requires
 put-word-requires c κs = search rules
 
-add-put-word-2 : tie.Need-overflow-add-put-word-2
+add-put-word-2 : tie.Need-overflow_add-i
 add-put-word-2 c = search rules
 
-add-put-word-3 : tie.Need-overflow-add-put-word-3
+add-put-word-3 : tie.Need-overflow_add-base-2
 add-put-word-3 c = search rules
 
-put-word-requires-2 : tie.Need-put-word-requires-2
+put-word-requires-2 : tie.Need-put_word-requires-2
 put-word-requires-2 c κs = search rules
 
-same_length : tie.Need-same-length
+same_length : tie.Need-shape_of-b
 same_length c = search rules
 
 returns : tie.Need-returns
 returns c =
-    let second = c.before.before in
-    let first = second.before.before.before.before in
-    let a = first.before.before.before.args in
-    second.put-word2.ensures
-    ∙ ap (λ (w : List ℕ). set w (a.base + (a.i + 1)) a.e.set) first.put_word.ensures
+    let a = c.args in
+    c.put_word-2.ensures
+    ∙ ap (λ (w : List ℕ). set w (a.base + (a.i + 1)) a.e.set) c.put_word.ensures
 
-pub put-entry-at-spec : {M : Type 1} → statement M
-put-entry-at-spec =
+pub put_entry_at_spec : {M : Type 1} → statement M
+put_entry_at_spec =
     tie.close
     (tie.spec
     add-put-word

@@ -2,5 +2,7 @@
 use Rattle.layout.proofs.values.read_value.Statement.{statement}
 use Rattle.layout.proofs.values.read_value.Tie as tie
 
-pub read-value-spec : {M : Type 1} → statement M
-read-value-spec = tie.close (tie.spec (λ c. rw c.if1.true) (λ c. rw c.if1.false))
+pub read_value_spec : {M : Type 1} → statement M
+read_value_spec = tie.close (tie.spec
+    (λ c. rw c.if-mixed.true)
+    (λ c. rw c.if-mixed.false))
