@@ -147,7 +147,7 @@ module _ (client : ℕ → Client)
   unfolding dropped
   last-ended d =
       by-test (shows_write (client d).last.kind) (λ e. rw e refl)
-      (λ e. rw (e, shown d e) refl)
+      (λ e. rw e (sym (ap (λ (w : Entry). some (w ∷ [])) (shown d e))))
 
   even-side : (n : ℕ) → side_of client (2 * n) ≡ under_way (client (suc n))
   unfolding side_of

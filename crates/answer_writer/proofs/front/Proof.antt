@@ -9,36 +9,36 @@ use lib.Seq.{take_all}
 use Rattle.answer_writer.proofs.front.Statement.{statement}
 use Rattle.answer_writer.proofs.front.Tie as tie
 
-sub-result : tie.Need-overflow-sub-result
+sub-result : tie.Need-slice_bounds-result-count
 sub-result c = search rules
 
-part-result-start : tie.Need-slice-bounds-result-start
+part-result-start : tie.Need-slice_bounds-result-start
 part-result-start c = search rules
 
-part-result-end : tie.Need-slice-bounds-result-end
+part-result-end : tie.Need-slice_bounds-result-end
 part-result-end c = search rules
 
-sub-result-2 : tie.Need-overflow-sub-result-2
+sub-result-2 : tie.Need-slice_bounds-result-count-else-n-s
 sub-result-2 c = search rules
 
-part-result-start-2 : tie.Need-slice-bounds-result-start-2
+part-result-start-2 : tie.Need-slice_bounds-result-start-else-n-s
 part-result-start-2 c = search rules
 
-part-result-end-2 : tie.Need-slice-bounds-result-end-2
+part-result-end-2 : tie.Need-slice_bounds-result-end-else-n-s
 part-result-end-2 c = search rules
 
-returns : tie.Need-returns
-returns c = ap (λ (k : ℕ). take k c.before.before.args.s.now)
-    (sub-zero c.before.before.args.n)
+returns : tie.Need-returns-then-n-s
+returns c = ap (λ (k : ℕ). take k c.args.s.now)
+    (sub-zero c.args.n)
 
-returns-2 : tie.Need-returns-2
+returns-2 : tie.Need-returns-else-n-s
 returns-2 c =
-    let s = c.before.before.args.s.now in
+    let s = c.args.s.now in
     take_all (length s - 0) s (omega arith)
-    ∙ sym (take_all c.before.before.args.n s (omega arith))
+    ∙ sym (take_all c.args.n s (omega arith))
 
-pub front-spec : {M : Type 1} → statement M
-front-spec =
+pub front_spec : {M : Type 1} → statement M
+front_spec =
     tie.close
     (tie.spec
     sub-result

@@ -6,52 +6,52 @@ use Rattle.check_stamps.proofs.Read.{client-none, client-even, client-odd}
 use Rattle.check_stamps.proofs.client_held.Statement.{statement}
 use Rattle.check_stamps.proofs.client_held.Tie as tie
 
-clients-requires : tie.Need-clients-requires
+clients-requires : tie.Need-clients-clients-requires
 clients-requires c κs = search rules
 
-returns : tie.Need-returns
-returns c = client-none _ _ c.before.clients.ensures c.if1.true
+returns : tie.Need-returns-then-clients-i
+returns c = client-none _ _ c.clients-clients.ensures c.if-clients-i.true
 
-add-under-way : tie.Need-overflow-add-under-way
+add-under-way : tie.Need-overflow_add-i
 add-under-way c = search rules
 
-under-way-requires : tie.Need-under-way-requires
-under-way-requires c κs = let start = c.before.before.before.before in (
+under-way-requires : tie.Need-under_way-requires
+under-way-requires c κs = (
   omega arith,
   omega (
     arith,
-    c.before.before.clients.ensures,
+    c.clients-clients.ensures,
     few-clients
-        start.args.b.now start.requires,
+        c.args.b.now c.requires,
   ),
 )
 
-returns-2 : tie.Need-returns-2
-returns-2 c = client-even _ _ c.before.before.before.clients.ensures (omega arith)
-    c.before.if2.true
-    c.under-way.ensures
+returns-2 : tie.Need-returns-then-q-eq0
+returns-2 c = client-even _ _ c.clients-clients.ensures (omega arith)
+    c.if-q-eq0.true
+    c.under_way.ensures
 
-add-last-ended : tie.Need-overflow-add-last-ended
+add-last-ended : tie.Need-overflow_add-i-2
 add-last-ended c = search rules
 
-last-ended-requires : tie.Need-last-ended-requires
-last-ended-requires c κs = let start = c.before.before.before.before in (
+last-ended-requires : tie.Need-last_ended-requires
+last-ended-requires c κs = (
   omega arith,
   omega (
     arith,
-    c.before.before.clients.ensures,
+    c.clients-clients.ensures,
     few-clients
-        start.args.b.now start.requires,
+        c.args.b.now c.requires,
   ),
 )
 
-returns-3 : tie.Need-returns-3
-returns-3 c = client-odd _ _ c.before.before.before.clients.ensures (omega arith)
-    c.before.if2.false
-    c.last-ended.ensures
+returns-3 : tie.Need-returns
+returns-3 c = client-odd _ _ c.clients-clients.ensures (omega arith)
+    c.if-q-eq0.false
+    c.last_ended.ensures
 
-pub client-held-spec : {M : Type 1} → statement M
-client-held-spec =
+pub client_held_spec : {M : Type 1} → statement M
+client_held_spec =
     tie.close
     (tie.spec
     clients-requires

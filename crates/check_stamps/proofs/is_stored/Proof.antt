@@ -4,12 +4,13 @@ use Rattle.check_stamps.proofs.Read.{look-stored}
 use Rattle.check_stamps.proofs.is_stored.Statement.{statement}
 use Rattle.check_stamps.proofs.is_stored.Tie as tie
 
-place-of-requires : tie.Need-place-of-requires
+place-of-requires : tie.Need-place_of-requires
 place-of-requires c κs = search rules
 
 returns : tie.Need-returns
-returns c = let start = c.before.before.before.before in
-    look-stored _ _ _ start.requires.0 _ _ c.place_of.ensures start.requires.1
+returns c = look-stored _ _ _ c.requires.0 _ _ c.place_of.ensures c.requires.1
 
-pub is-stored-spec : {M : Type 1} → statement M
-is-stored-spec = tie.close (tie.spec place-of-requires returns)
+pub is_stored_spec : {M : Type 1} → statement M
+is_stored_spec = tie.close (tie.spec
+    place-of-requires
+    returns)

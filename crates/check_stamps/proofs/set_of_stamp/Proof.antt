@@ -4,15 +4,17 @@ use Rattle.check_stamps.proofs.Read.{look-set}
 use Rattle.check_stamps.proofs.set_of_stamp.Statement.{statement}
 use Rattle.check_stamps.proofs.set_of_stamp.Tie as tie
 
-find-requires : tie.Need-find-requires
+find-requires : tie.Need-find-place-requires
 find-requires c κs = search rules
 
-held-requires : tie.Need-held-requires
+held-requires : tie.Need-held-e-requires
 held-requires c κs = search rules
 
 returns : tie.Need-returns
-returns c = let start = c.before.before.before.before.before in
-    look-set _ _ _ start.requires.0 _ start.requires.1 c.before.find.ensures c.held.ensures
+returns c = look-set _ _ _ c.requires.0 _ c.requires.1 c.find-place.ensures c.held-e.ensures
 
-pub set-of-stamp-spec : {M : Type 1} → statement M
-set-of-stamp-spec = tie.close (tie.spec find-requires held-requires returns)
+pub set_of_stamp_spec : {M : Type 1} → statement M
+set_of_stamp_spec = tie.close (tie.spec
+    find-requires
+    held-requires
+    returns)

@@ -16,66 +16,56 @@ use Rattle.clear.proofs.clear_by.Tie as tie
 
 gather-requires : tie.Need-gather-requires
 gather-requires c κs =
-    let start = c.before.before.before.before in
-    let b = start.args.b.now in (
-      omega (arith, start.requires.1, count-least b),
-      omega (arith, start.requires.1, count_most b),
-      long b start.requires.0,
+    let b = c.args.b.now in (
+      omega (arith, c.requires.1, count-least b),
+      omega (arith, c.requires.1, count_most b),
+      long b c.requires.0,
     )
 
-slice-aggregate-mark-all : tie.Need-slice-aggregate-mark-all
+slice-aggregate-mark-all : tie.Need-slice_bounds-mark_all-end
 slice-aggregate-mark-all c = search rules
 
-mark-all-requires : tie.Need-mark-all-requires
+mark-all-requires : tie.Need-mark_all-requires
 mark-all-requires c κs = marks-none
 
-version-count-requires : tie.Need-version-count-requires
+version-count-requires : tie.Need-version_count-n-requires
 version-count-requires c κs = search rules
 
-slice-aggregate-keep-all : tie.Need-slice-aggregate-keep-all
+slice-aggregate-keep-all : tie.Need-slice_bounds-keep_all-end
 slice-aggregate-keep-all c = search rules
 
-keep-all-requires : tie.Need-keep-all-requires
+keep-all-requires : tie.Need-keep_all-kept-requires
 keep-all-requires c κs =
-    let counted = c.before.before.before in
-    let marked = counted.before.before.before in
-    let gathered = marked.before.before.before.before.before in
-    let start = gathered.before.before.before.before.before in
-    let b = start.args.b.now in (
-      omega (arith, counted.version-count.ensures, few b start.requires.0),
-      long b start.requires.0,
-      marked.mark-all.ensures,
-      none-initial b start.requires.0 counted.version-count.ensures,
+    let b = c.args.b.now in (
+      omega (arith, c.version_count-n.ensures, few b c.requires.0),
+      long b c.requires.0,
+      c.mark_all.ensures,
+      none-initial b c.requires.0 c.version_count-n.ensures,
     )
 
-put-version-count-requires : tie.Need-put-version-count-requires
+put-version-count-requires : tie.Need-put_version_count-requires
 put-version-count-requires c κs = search rules
 
-sub-result : tie.Need-overflow-sub-result
+sub-result : tie.Need-overflow_sub-result
 sub-result c =
-    let kept = c.before.before.before.before.before.before in
-    staying-below _ _ _ _ kept.keep_all.ensures.0
+    staying-below _ _ _ _ c.keep_all-kept.ensures.0
 
-same_length : tie.Need-same-length
+same_length : tie.Need-shape_of-b
 same_length c = search rules
 
-same-length-2 : tie.Need-same-length-2
+same-length-2 : tie.Need-shape_of-stamps
 same-length-2 c = search rules
 
 returns : tie.Need-returns
 returns c =
-    let kept = c.before.before.before.before.before.before in
-    let counted = kept.before.before.before.before in
-    let gathered = counted.before.before.before.before.before.before.before.before in
-    let start = gathered.before.before.before.before.before in
-    let b : List ℕ = start.args.b.now in
-    cleared-given b start.requires.0
-    (gathered.gather.ensures ∙ ap (λ (n : ℕ). table n (stamp_in b)) start.requires.1)
-    counted.version-count.ensures kept.keep_all.ensures.0 kept.keep_all.ensures.1
-    c.before.before.put-version-count.ensures
+    let b : List ℕ = c.args.b.now in
+    cleared-given b c.requires.0
+    (c.gather.ensures ∙ ap (λ (n : ℕ). table n (stamp_in b)) c.requires.1)
+    c.version_count-n.ensures c.keep_all-kept.ensures.0 c.keep_all-kept.ensures.1
+    c.put_version_count.ensures
 
-pub clear-by-spec : {M : Type 1} → statement M
-clear-by-spec =
+pub clear_by_spec : {M : Type 1} → statement M
+clear_by_spec =
     tie.close
     (tie.spec
     gather-requires

@@ -4,13 +4,13 @@ use Rattle.clear.proofs.Read.{come-read}
 use Rattle.clear.proofs.has_first.Statement.{statement}
 use Rattle.clear.proofs.has_first.Tie as tie
 
-mode-requires : tie.Need-mode-requires
+mode-requires : tie.Need-mode-mode-requires
 mode-requires c κs = search rules
 
-set-of-requires : tie.Need-set-of-requires
+set-of-requires : tie.Need-set_of-set-requires
 set-of-requires c κs = search rules
 
-awaited-requires : tie.Need-awaited-requires
+awaited-requires : tie.Need-awaited-awaited-requires
 awaited-requires c κs = search rules
 
 has-requires : tie.Need-has-requires
@@ -21,13 +21,18 @@ lacks-requires c κs = search rules
 
 returns : tie.Need-returns
 returns c =
-    let left = c.before.before in
-    let a = left.before.before.before.before.args in
-    come-read a.b.now a.d a.k left.before.before.mode.ensures
-    left.before.set-of.ensures left.awaited.ensures c.before.has.ensures
+    let a = c.args in
+    come-read a.b.now a.d a.k c.mode-mode.ensures
+    c.set_of-set.ensures c.awaited-awaited.ensures c.has.ensures
     c.lacks.ensures
 
-pub has-first-spec : {M : Type 1} → statement M
-has-first-spec =
+pub has_first_spec : {M : Type 1} → statement M
+has_first_spec =
     tie.close
-    (tie.spec mode-requires set-of-requires awaited-requires has-requires lacks-requires returns)
+    (tie.spec
+    mode-requires
+    set-of-requires
+    awaited-requires
+    has-requires
+    lacks-requires
+    returns)

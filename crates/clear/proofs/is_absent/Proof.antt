@@ -11,43 +11,43 @@ use Rattle.clear.proofs.Slots.{absent-found, absent-next, absent-end}
 use Rattle.clear.proofs.is_absent.Statement.{statement}
 use Rattle.clear.proofs.is_absent.Tie as tie
 
-abbrev invariant-loop : tie.invariant-loop
+abbrev invariant-loop : tie.invariant-loop-p
 invariant-loop stamps stamp p₀ p =
     (p ≤ length stamps) × (absent (drop p stamps) stamp ≡ absent stamps stamp)
 
-abbrev decreases-loop : tie.decreases-loop
+abbrev decreases-loop : tie.decreases-loop-p
 decreases-loop stamps stamp p₀ p = length stamps - p
 
-loop-holds : tie.Need-loop-init invariant-loop decreases-loop
+loop-holds : tie.Need-loop-p-init invariant-loop decreases-loop
 loop-holds c = search rules
 
-mul-if1 : tie.Need-overflow-mul-if1 invariant-loop decreases-loop
+mul-if1 : tie.Need-offset_bounds-stamps-p invariant-loop decreases-loop
 mul-if1 c = search rules
 
-shared-slice-read-if1 : tie.Need-shared-slice-read-if1 invariant-loop decreases-loop
+shared-slice-read-if1 : tie.Need-bounds-stamps-p invariant-loop decreases-loop
 shared-slice-read-if1 c = search rules
 
-returns : tie.Need-returns invariant-loop decreases-loop
+returns : tie.Need-returns-then-stamps-p invariant-loop decreases-loop
 returns c =
-    let l = c.before.before.before.loop in
-    absent-found _ _ l.p (omega arith) c.if1.true
+    let l = c.loop-p in
+    absent-found _ _ l.p (omega arith) c.if-stamps-p.true
 
-add-p : tie.Need-overflow-add-p invariant-loop decreases-loop
+add-p : tie.Need-overflow_add-p invariant-loop decreases-loop
 add-p c = search rules
 
-loop-less : tie.Need-loop-smaller invariant-loop decreases-loop
+loop-less : tie.Need-loop-p-smaller invariant-loop decreases-loop
 loop-less c = search rules
 
-loop-again : tie.Need-loop-preserved invariant-loop decreases-loop
+loop-again : tie.Need-loop-p-preserved invariant-loop decreases-loop
 loop-again c =
-    let l = c.before.before.before.loop in
-    (omega arith, rw add-one (absent-next _ _ l.p l.invariant.1 (omega arith) c.if1.false))
+    let l = c.loop-p in
+    (omega arith, rw add-one (absent-next _ _ l.p l.invariant.1 (omega arith) c.if-stamps-p.false))
 
-returns-2 : tie.Need-returns-2 invariant-loop decreases-loop
-returns-2 c = let l = c.before.loop in absent-end _ _ l.p l.invariant.1 (omega arith)
+returns-2 : tie.Need-returns invariant-loop decreases-loop
+returns-2 c = let l = c.loop-p in absent-end _ _ l.p l.invariant.1 (omega arith)
 
-pub is-absent-spec : {M : Type 1} → statement M
-is-absent-spec =
+pub is_absent_spec : {M : Type 1} → statement M
+is_absent_spec =
     tie.close
     (tie.spec
     invariant-loop

@@ -6,43 +6,38 @@ use Rattle.clear.proofs.Staying.{keep-gone, keep-stays}
 use Rattle.clear.proofs.keep.Statement.{statement}
 use Rattle.clear.proofs.keep.Tie as tie
 
-version-requires : tie.Need-version-requires
+version-requires : tie.Need-version-v-requires
 version-requires c κs = search rules
 
-is-unused-requires : tie.Need-is-unused-requires
+is-unused-requires : tie.Need-is_unused-requires
 is-unused-requires c κs =
-    let start = c.before.before.before.before.before in (
-      start.requires.3,
-      λ e. start.requires.4 (ap (λ (v : Version). v.stamp) (sym c.version.ensures) ∙ e),
+    (
+      c.requires.3,
+      λ e. c.requires.4 (ap (λ (v : Version). v.stamp) (sym c.version-v.ensures) ∙ e),
     )
 
 put-requires : tie.Need-put-requires
 put-requires c κs = search rules
 
-add-result : tie.Need-overflow-add-result
+add-result : tie.Need-overflow_add-result
 add-result c = search rules
 
-same_length : tie.Need-same-length
+same_length : tie.Need-shape_of-b-then-is_unused
 same_length c = search rules
 
-returns : tie.Need-returns
+returns : tie.Need-returns-then-is_unused
 returns c =
-    let told = c.before in
-    let start = told.before.before.before.before.before.before in
-    keep-gone start.args.stamps.now start.args.b.now start.args.i start.args.kept
-    told.before.version.ensures told.is-unused.ensures c.if1.true
+    keep-gone c.args.stamps.now c.args.b.now c.args.i c.args.kept
+    c.version-v.ensures c.is_unused.ensures c.if-is_unused.true
 
-same-length-2 : tie.Need-same-length-2
+same-length-2 : tie.Need-shape_of-b-else-is_unused
 same-length-2 c = search rules
 
-returns-2 : tie.Need-returns-2
+returns-2 : tie.Need-returns-else-is_unused
 returns-2 c =
-    let left = c.before.before.before.before in
-    let told = left.before in
-    let start = told.before.before.before.before.before.before in
-    keep-stays start.args.stamps.now start.args.b.now start.args.i start.args.kept
-    told.before.version.ensures told.is-unused.ensures _ left.if1.false
-    c.before.before.put.ensures
+    keep-stays c.args.stamps.now c.args.b.now c.args.i c.args.kept
+    c.version-v.ensures c.is_unused.ensures _ c.if-is_unused.false
+    c.put.ensures
 
 pub keep_spec : {M : Type 1} → statement M
 keep_spec =

@@ -4,30 +4,30 @@ use Rattle.clear.proofs.Read.{message-some, message-none}
 use Rattle.clear.proofs.message_stamp.Statement.{statement}
 use Rattle.clear.proofs.message_stamp.Tie as tie
 
-message-count-requires : tie.Need-message-count-requires
+message-count-requires : tie.Need-message_count-messages-requires
 message-count-requires c κs = search rules
 
-message-word-requires : tie.Need-message-word-requires
+message-word-requires : tie.Need-message_word-own-requires
 message-word-requires c κs = search rules
 
-message-word-requires-2 : tie.Need-message-word-requires-2
+message-word-requires-2 : tie.Need-message_word-requires
 message-word-requires-2 c κs = search rules
 
-returns : tie.Need-returns
+returns : tie.Need-returns-then-i-messages
 returns c =
-    let a = c.before.before.before.before.before.args in
+    let a = c.args in
     message-some a.b.now a.kind a.f a.i
-    c.before.before.before.message-count.ensures c.before.before.message-word.ensures
-    c.before.if1.true c.message-word2.ensures
+    c.message_count-messages.ensures c.message_word-own.ensures
+    c.if-i-messages.true c.message_word.ensures
 
-returns-2 : tie.Need-returns-2
+returns-2 : tie.Need-returns-else-i-messages
 returns-2 c =
-    let a = c.before.before.before.before.args in
-    message-none a.b.now a.kind a.f a.i c.before.before.message-count.ensures
-    c.before.message-word.ensures c.if1.false
+    let a = c.args in
+    message-none a.b.now a.kind a.f a.i c.message_count-messages.ensures
+    c.message_word-own.ensures c.if-i-messages.false
 
-pub message-stamp-spec : {M : Type 1} → statement M
-message-stamp-spec =
+pub message_stamp_spec : {M : Type 1} → statement M
+message_stamp_spec =
     tie.close
     (tie.spec
     message-count-requires

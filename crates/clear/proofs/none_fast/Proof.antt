@@ -13,51 +13,49 @@ use Rattle.clear.proofs.Cleared.{clients-few}
 use Rattle.clear.proofs.none_fast.Statement.{statement}
 use Rattle.clear.proofs.none_fast.Tie as tie
 
-abbrev invariant-loop : tie.invariant-loop
+abbrev invariant-loop : tie.invariant-loop-i
 invariant-loop b clients ok₀ i₀ ok i =
     SoFar clients (λ i. eqb (stage_of (at b scalars (mode_at (i + 1)))) 0) i ok
 
-abbrev decreases-loop : tie.decreases-loop
+abbrev decreases-loop : tie.decreases-loop-i
 decreases-loop b clients ok₀ i₀ ok i = clients - i
 
-clients-requires : tie.Need-clients-requires invariant-loop decreases-loop
+clients-requires : tie.Need-clients-clients-requires invariant-loop decreases-loop
 clients-requires c κs = search rules
 
-loop-holds : tie.Need-loop-init invariant-loop decreases-loop
+loop-holds : tie.Need-loop-i-init invariant-loop decreases-loop
 loop-holds c = tested-none
 
-add-mode : tie.Need-overflow-add-mode invariant-loop decreases-loop
+add-mode : tie.Need-overflow_add-i invariant-loop decreases-loop
 add-mode c = search rules
 
-mode-requires : tie.Need-mode-requires invariant-loop decreases-loop
+mode-requires : tie.Need-mode-mode-requires invariant-loop decreases-loop
 mode-requires c κs =
-    let counted = c.before.before in
-    let start = counted.before.before in (
+    (
       omega arith,
-      omega (arith, counted.clients.ensures, clients-few start.args.b.now start.requires),
+      omega (arith, c.clients-clients.ensures, clients-few c.args.b.now c.requires),
     )
 
-add-i : tie.Need-overflow-add-i invariant-loop decreases-loop
+add-i : tie.Need-overflow_add-i-in-loop-i invariant-loop decreases-loop
 add-i c = search rules
 
-loop-less : tie.Need-loop-smaller invariant-loop decreases-loop
+loop-less : tie.Need-loop-i-smaller invariant-loop decreases-loop
 loop-less c = search rules
 
-loop-again : tie.Need-loop-preserved invariant-loop decreases-loop
+loop-again : tie.Need-loop-i-preserved invariant-loop decreases-loop
 loop-again c =
-    tested-next c.before.before.loop.invariant c.before.loop-test.true
-    (stage-none c.mode.result ∙ ap (λ (n : ℕ). eqb (stage_of n) 0) c.mode.ensures)
+    tested-next c.loop-i.invariant c.loop-i-test.true
+    (stage-none c.mode-mode.result ∙ ap (λ (n : ℕ). eqb (stage_of n) 0) c.mode-mode.ensures)
 
 returns : tie.Need-returns invariant-loop decreases-loop
 unfolding none_fast
 returns c =
-    let l = c.before in
-    tested-all l.loop.invariant c.loop-test.false
-    ∙ ap (λ (n : ℕ). every n (λ i. eqb (stage_of (at l.before.before.before.args.b.now
-    scalars (mode_at (i + 1)))) 0)) l.before.clients.ensures
+    tested-all c.loop-i.invariant c.loop-i-test.false
+    ∙ ap (λ (n : ℕ). every n (λ i. eqb (stage_of (at c.args.b.now
+    scalars (mode_at (i + 1)))) 0)) c.clients-clients.ensures
 
-pub none-fast-spec : {M : Type 1} → statement M
-none-fast-spec =
+pub none_fast_spec : {M : Type 1} → statement M
+none_fast_spec =
     tie.close
     (tie.spec
     invariant-loop

@@ -5,11 +5,11 @@ use Rattle.layout.specs.Layout.{mixing}
 use Rattle.clear.proofs.written_by.Statement.{statement}
 use Rattle.clear.proofs.written_by.Tie as tie
 
-pub written-by-spec : {M : Type 1} → statement M
-written-by-spec =
+pub written_by_spec : {M : Type 1} → statement M
+written_by_spec =
     tie.close
     (tie.spec
     (λ c κs. search rules)
     (λ c κs. search rules)
-    (λ c. rw (eq-eqb _ mixing c.before.if1.true) c.write-set.ensures)
-    (λ c. rw (ne_eqb _ mixing c.before.if1.false) c.set-of.ensures))
+    (λ c. rw (eq-eqb _ mixing c.if-mode-eq-MIXING.true) c.write_set.ensures)
+    (λ c. rw (ne_eqb _ mixing c.if-mode-eq-MIXING.false) c.set_of.ensures))

@@ -4,8 +4,8 @@ use Rattle.client_parts.proofs.Words.{test_of, answer-some, answer-none}
 use Rattle.client_parts.proofs.answer.Statement.{statement}
 use Rattle.client_parts.proofs.answer.Tie as tie
 
-pub answer-spec : {M : Type 1} → statement M
-answer-spec =
+pub answer_spec : {M : Type 1} → statement M
+answer_spec =
     tie.close
     (tie.spec
     (λ c κs. search rules)
@@ -13,10 +13,10 @@ answer-spec =
     (λ c κs. search rules)
     (λ c κs. search rules)
     (λ c κs. search rules)
-    (λ c. answer-some _ _ _ (test_of _ _ _ c.before.before.before.before.has.ensures
-    c.before.before.before.before.before.read_set.ensures
-    c.before.before.before.if1.true)
-    c.read-value.ensures c.before.before.mode.ensures
-    c.before.value.ensures)
-    (λ c. answer-none _ _ _ (test_of _ _ _ c.before.has.ensures c.before.before.read_set.ensures
-    c.if1.false)))
+    (λ c. answer-some _ _ _ (test_of _ _ _ c.has.ensures
+    c.read_set-set.ensures
+    c.if-has.true)
+    c.read_value.ensures c.mode-mixed.ensures
+    c.value.ensures)
+    (λ c. answer-none _ _ _ (test_of _ _ _ c.has.ensures c.read_set-set.ensures
+    c.if-has.false)))

@@ -5,7 +5,7 @@ use Rattle.client_parts.proofs.Words.{test_of, asked-some, asked-none}
 use Rattle.client_parts.proofs.asked.Statement.{statement}
 use Rattle.client_parts.proofs.asked.Tie as tie
 
-read-set-requires : tie.Need-read-set-requires
+read-set-requires : tie.Need-read_set-set-requires
 read-set-requires c κs = search rules
 
 has-requires : tie.Need-has-requires
@@ -14,14 +14,19 @@ has-requires c κs = search rules
 asked-requires : tie.Need-asked-requires
 asked-requires c κs = search rules
 
-returns : tie.Need-returns
-returns c = let h = test_of _ _ _ c.before.before.has.ensures
-    c.before.before.before.read_set.ensures c.before.if1.true
+returns : tie.Need-returns-then-has
+returns c = let h = test_of _ _ _ c.has.ensures
+    c.read_set-set.ensures c.if-has.true
     in c.asked.ensures ∙ asked-some _ _ _ h
 
-returns-2 : tie.Need-returns-2
+returns-2 : tie.Need-returns-else-has
 returns-2 c = asked-none _ _ _
-    (test_of _ _ _ c.before.has.ensures c.before.before.read_set.ensures c.if1.false)
+    (test_of _ _ _ c.has.ensures c.read_set-set.ensures c.if-has.false)
 
-pub asked-spec : {M : Type 1} → statement M
-asked-spec = tie.close (tie.spec read-set-requires has-requires asked-requires returns returns-2)
+pub asked_spec : {M : Type 1} → statement M
+asked_spec = tie.close (tie.spec
+    read-set-requires
+    has-requires
+    asked-requires
+    returns
+    returns-2)

@@ -6,8 +6,8 @@ use Rattle.client_parts.proofs.Words.{last-field}
 use Rattle.client_parts.proofs.last_write_set.Statement.{statement}
 use Rattle.client_parts.proofs.last_write_set.Tie as tie
 
-pub last-write-set-spec : {M : Type 1} → statement M
-last-write-set-spec =
+pub last_write_set_spec : {M : Type 1} → statement M
+last_write_set_spec =
     tie.close
     (tie.spec
     (λ c κs. search rules)
@@ -15,5 +15,5 @@ last-write-set-spec =
     (λ c κs. search rules)
     (λ c κs. search rules)
     (λ c. last-field _ _ (λ (p : WritePart). p.set) refl c.written.ensures
-    c.before.before.before.last-kind.ensures
-    c.before.before.last_set.ensures c.before.last-write-set.ensures refl))
+    c.last_kind-kind.ensures
+    c.last_set-word.ensures c.last_write_set-other.ensures refl))

@@ -8,5 +8,5 @@ pub read_spec : {M : Type 1} → statement M
 read_spec =
     tie.close
     (tie.spec
-    (λ c. rw (eq-eqb _ writing c.if1.true))
-    (λ c. rw (ne_eqb _ writing c.if1.false)))
+    (λ c. rw (eq-eqb _ writing c.if-mode-eq-WRITING.true))
+    (λ c. rw (ne_eqb _ writing c.if-mode-eq-WRITING.false)))

@@ -6,12 +6,12 @@ use Rattle.client_parts.proofs.Words.{read-field}
 use Rattle.client_parts.proofs.read_awaited.Statement.{statement}
 use Rattle.client_parts.proofs.read_awaited.Tie as tie
 
-pub read-awaited-spec : {M : Type 1} → statement M
-read-awaited-spec =
+pub read_awaited_spec : {M : Type 1} → statement M
+read_awaited_spec =
     tie.close
     (tie.spec
     (λ c κs. search rules)
     (λ c κs. search rules)
     (λ c κs. search rules)
     (λ c. read-field _ _ (λ (p : ReadPart). p.awaited) refl c.read.ensures
-    c.before.before.mode.ensures c.before.awaited.ensures))
+    c.mode.ensures c.awaited.ensures))

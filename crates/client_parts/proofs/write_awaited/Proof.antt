@@ -6,8 +6,8 @@ use Rattle.client_parts.proofs.Words.{write-field}
 use Rattle.client_parts.proofs.write_awaited.Statement.{statement}
 use Rattle.client_parts.proofs.write_awaited.Tie as tie
 
-pub write-awaited-spec : {M : Type 1} → statement M
-write-awaited-spec =
+pub write_awaited_spec : {M : Type 1} → statement M
+write_awaited_spec =
     tie.close
     (tie.spec
     (λ c κs. search rules)
@@ -15,5 +15,5 @@ write-awaited-spec =
     (λ c κs. search rules)
     (λ c κs. search rules)
     (λ c. write-field _ _ (λ (p : WritePart). p.awaited) refl c.written.ensures
-    c.before.before.before.mode.ensures
-    c.before.before.awaited.ensures c.before.write-awaited.ensures refl))
+    c.mode-mode.ensures
+    c.awaited-word.ensures c.write_awaited-other.ensures refl))

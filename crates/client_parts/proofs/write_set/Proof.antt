@@ -6,8 +6,8 @@ use Rattle.client_parts.proofs.Words.{write-field}
 use Rattle.client_parts.proofs.write_set.Statement.{statement}
 use Rattle.client_parts.proofs.write_set.Tie as tie
 
-pub write-set-spec : {M : Type 1} → statement M
-write-set-spec =
+pub write_set_spec : {M : Type 1} → statement M
+write_set_spec =
     tie.close
     (tie.spec
     (λ c κs. search rules)
@@ -15,5 +15,5 @@ write-set-spec =
     (λ c κs. search rules)
     (λ c κs. search rules)
     (λ c. write-field _ _ (λ (p : WritePart). p.set) refl c.written.ensures
-    c.before.before.before.mode.ensures
-    c.before.before.set-of.ensures c.before.write-set.ensures refl))
+    c.mode-mode.ensures
+    c.set_of-word.ensures c.write_set-other.ensures refl))

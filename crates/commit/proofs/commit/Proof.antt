@@ -11,41 +11,41 @@ use Rattle.commit.specs.Commit.{commit_version, commit_delivered}
 use Rattle.commit.proofs.commit.Statement.{statement}
 use Rattle.commit.proofs.commit.Tie as tie
 
-abbrev invariant-loop : tie.invariant-loop
+abbrev invariant-loop : tie.invariant-loop-i
 invariant-loop b₀ partitions versions p stamp i₀ b i =
     (i ≤ versions) × (b ≡ up_to (commit_version partitions p stamp) b₀ i) × (length b ≡ length b₀)
 
-abbrev decreases-loop : tie.decreases-loop
+abbrev decreases-loop : tie.decreases-loop-i
 decreases-loop b₀ partitions versions p stamp i₀ b i = versions - i
 
-loop-holds : tie.Need-loop-init invariant-loop decreases-loop
+loop-holds : tie.Need-loop-i-init invariant-loop decreases-loop
 loop-holds c = (omega arith, turn-first _ _, refl)
 
-commit-version-requires : tie.Need-commit-version-requires invariant-loop decreases-loop
+commit-version-requires : tie.Need-commit_version-requires invariant-loop decreases-loop
 commit-version-requires c κs = search rules
 
-add-i : tie.Need-overflow-add-i invariant-loop decreases-loop
+add-i : tie.Need-overflow_add-i invariant-loop decreases-loop
 add-i c = search rules
 
-loop-less : tie.Need-loop-smaller invariant-loop decreases-loop
+loop-less : tie.Need-loop-i-smaller invariant-loop decreases-loop
 loop-less c = search rules
 
-loop-again : tie.Need-loop-preserved invariant-loop decreases-loop
+loop-again : tie.Need-loop-i-preserved invariant-loop decreases-loop
 loop-again c =
-    let at = c.before.before.before.before.before.loop in
-    let call = c.before.before.commit-version in
-    (omega arith, turn-next _ _ _ _ _ at.invariant.1 call.ensures, call.auto.0 ∙ at.invariant.2)
+    let at = c.loop-i in
+    let call = c.commit_version in
+    (omega arith, turn-next _ _ _ _ _ at.invariant.1 call.ensures, call.auto.b ∙ at.invariant.2)
 
-same_length : tie.Need-same-length invariant-loop decreases-loop
+same_length : tie.Need-shape_of-b invariant-loop decreases-loop
 same_length c = search rules
 
 returns : tie.Need-returns invariant-loop decreases-loop
 unfolding commit_delivered
-returns c = let at = c.before.loop in
-    turn_last _ _ _ _ _ at.invariant.1 at.invariant.0 c.loop-test.false
+returns c = let at = c.loop-i in
+    turn_last _ _ _ _ _ at.invariant.1 at.invariant.0 c.loop-i-test.false
 
-pub commit-spec : {M : Type 1} → statement M
-commit-spec =
+pub commit_spec : {M : Type 1} → statement M
+commit_spec =
     tie.close
     (tie.spec
     invariant-loop

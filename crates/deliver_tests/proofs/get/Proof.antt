@@ -15,34 +15,34 @@ use native.Mathlib.Omega.{arith}
 use Rattle.deliver_tests.proofs.get.Statement.{statement}
 use Rattle.deliver_tests.proofs.get.Tie as tie
 
-find-requires : tie.Need-find-requires
+find-requires : tie.Need-find-place-requires
 find-requires c κs = search rules
 
-enum-known-place : tie.Need-enum-known-place
+enum-known-place : tie.Need-enum_known-place
 enum-known-place c = search rules
 
 version-requires : tie.Need-version-requires
 version-requires c κs =
-    let a = c.before.before.before.before.before.args in
-    let i = c.before.place.given.0.0 in
+    let a = c.args in
+    let i = c.in-At.i in
     let e : first_alike a.b.now a.n a.item a.stamp ≡ At i =
-    sym c.before.before.before.find.ensures ∙ c.before.place.given.1 in
+    sym c.find-place.ensures ∙ c.in-At.is in
     let l = first_below (λ j. alike a.item a.stamp (version_in a.b.now j)) a.n i e in
     (omega (arith, l), search rules)
 
-enum_told : tie.Need-enum-told
+enum_told : tie.Need-enum_told-1
 enum_told c = search rules
 
 pick-requires : tie.Need-pick-requires
 pick-requires c κs = search rules
 
-returns : tie.Need-returns
+returns : tie.Need-returns-in-At
 returns c =
-    let a = c.before.before.before.before.before.before.args in
-    let i = c.before.before.place.given.0.0 in
+    let a = c.args in
+    let i = c.in-At.i in
     let f = version_in a.b.now in
     let e : first_alike a.b.now a.n a.item a.stamp ≡ At i =
-    sym c.before.before.before.before.find.ensures ∙ c.before.before.place.given.1 in
+    sym c.find-place.ensures ∙ c.in-At.is in
     let s : stored (table a.n f) a.item a.stamp ≡ true =
     stored-first a.n f a.item a.stamp ∙ ap is_at e in
     let v : found (table a.n f) a.item a.stamp ≡ f i =
@@ -50,12 +50,12 @@ returns c =
     in
     rw (or_right _ _ s) (ap (told 0) (c.version.ensures ∙ sym v))
 
-returns-2 : tie.Need-returns-2
+returns-2 : tie.Need-returns-in-Nothing
 returns-2 c =
-    let a = c.before.before.before.before.before.args in
+    let a = c.args in
     let f = version_in a.b.now in
     let e : first_alike a.b.now a.n a.item a.stamp ≡ Nothing =
-    sym c.before.before.before.find.ensures ∙ c.before.enum_told.given.1 in
+    sym c.find-place.ensures ∙ c.in-Nothing.is in
     let s : stored (table a.n f) a.item a.stamp ≡ false =
     stored-first a.n f a.item a.stamp ∙ ap is_at e in
     let v : found (table a.n f) a.item a.stamp ≡ version a.item 0 a.stamp 0 =

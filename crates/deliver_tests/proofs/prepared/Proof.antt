@@ -6,14 +6,14 @@ use Rattle.deliver_tests.proofs.prepared.Tie as tie
 returns : tie.Need-returns
 returns c =
     rw (
-      ← c.before.before.before.prepared-awaited.ensures,
-      ← c.before.before.has.ensures,
-      ← c.before.is-right-prepared.ensures,
+      ← c.prepared_awaited.ensures,
+      ← c.has.ensures,
+      ← c.is_right_prepared.ensures,
       ← c.pick.ensures,
     )
 
-pub prepared-spec : {M : Type 1} → statement M
-prepared-spec =
+pub prepared_spec : {M : Type 1} → statement M
+prepared_spec =
     tie.close
     (tie.spec
     (λ c κs. search rules)

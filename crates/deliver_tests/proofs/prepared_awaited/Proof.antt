@@ -6,14 +6,14 @@ use Rattle.deliver_tests.proofs.prepared_awaited.Tie as tie
 returns : tie.Need-returns
 returns c =
     rw (
-      ← c.before.before.before.mode.ensures,
-      ← c.before.before.write-awaited.ensures,
-      ← c.before.awaited.ensures,
+      ← c.mode-mixed.ensures,
+      ← c.write_awaited.ensures,
+      ← c.awaited.ensures,
     )
     c.pick.ensures
 
-pub prepared-awaited-spec : {M : Type 1} → statement M
-prepared-awaited-spec =
+pub prepared_awaited_spec : {M : Type 1} → statement M
+prepared_awaited_spec =
     tie.close
     (tie.spec
     (λ c κs. search rules)

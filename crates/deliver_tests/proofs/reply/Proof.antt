@@ -5,9 +5,13 @@ use Rattle.deliver_tests.proofs.reply.Tie as tie
 
 returns : tie.Need-returns
 returns c =
-    rw (← c.before.before.awaited.ensures, ← c.before.has.ensures, ← c.pick.ensures)
+    rw (← c.awaited.ensures, ← c.has.ensures, ← c.pick.ensures)
 
-pub reply-spec : {M : Type 1} → statement M
-reply-spec =
+pub reply_spec : {M : Type 1} → statement M
+reply_spec =
     tie.close
-    (tie.spec (λ c κs. search rules) (λ c κs. search rules) (λ c κs. search rules) returns)
+    (tie.spec
+    (λ c κs. search rules)
+    (λ c κs. search rules)
+    (λ c κs. search rules)
+    returns)

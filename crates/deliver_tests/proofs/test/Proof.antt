@@ -10,75 +10,72 @@ use Rattle.deliver_tests.proofs.test.Statement.{statement}
 use Rattle.deliver_tests.proofs.test.Tie as tie
 
 prepared-requires : tie.Need-prepared-requires
-prepared-requires c κs = let x = subst Bounded c.before.m2.given.1
-    c.before.before.before.before.requires.1 in (x.0, x.1)
+prepared-requires c κs = let x = subst Bounded c.in-Prepared.is
+    c.requires.1 in (x.0, x.1)
 
-is-asked-requires : tie.Need-is-asked-requires
-is-asked-requires c κs = subst Bounded c.before.m4.given.1
-    c.before.before.before.before.requires.1
+is-asked-requires : tie.Need-is_asked-requires
+is-asked-requires c κs = subst Bounded c.in-Got.is
+    c.requires.1
 
 reply-requires : tie.Need-reply-requires
-reply-requires c κs = let x = subst Bounded c.before.before.m4.given.1
-    c.before.before.before.before.before.requires.1 in (x.0, x.1)
+reply-requires c κs = let x = subst Bounded c.in-Got.is
+    c.requires.1 in (x.0, x.1)
 
 latest-requires : tie.Need-latest-requires
-latest-requires c κs = (subst Bounded c.before.m5.given.1
-    c.before.before.before.before.requires.1).2
+latest-requires c κs = (subst Bounded c.in-FirstGet.is
+    c.requires.1).2
 
 mode-requires : tie.Need-mode-requires
-mode-requires c κs = let x = subst Bounded c.before.m6.given.1
-    c.before.before.before.before.requires.1 in (x.0, x.1)
+mode-requires c κs = let x = subst Bounded c.in-FirstReply.is
+    c.requires.1 in (x.0, x.1)
 
-reply-requires-2 : tie.Need-reply-requires-2
-reply-requires-2 c κs = let x = subst Bounded c.before.before.m6.given.1
-    c.before.before.before.before.before.requires.1 in (x.0, x.1)
+reply-requires-2 : tie.Need-reply-requires-in-FirstReply
+reply-requires-2 c κs = let x = subst Bounded c.in-FirstReply.is
+    c.requires.1 in (x.0, x.1)
 
-returns : tie.Need-returns
+returns : tie.Need-returns-in-Prepare
 unfolding tested_in
 returns c =
-    rw c.before.before.before.m.given.1 (ap (λ (x : ℕ). told x none)
-    (c.pick.ensures ∙ ap (λ (t : Bool). cond t 11 0) c.before.is-stored.ensures))
+    rw c.in-Prepare.is (ap (λ (x : ℕ). told x none)
+    (c.pick.ensures ∙ ap (λ (t : Bool). cond t 11 0) c.is_stored.ensures))
 
-returns-2 : tie.Need-returns-2
+returns-2 : tie.Need-returns-in-Prepared
 unfolding tested_in
-returns-2 c = rw c.before.before.m2.given.1 c.prepared.ensures
+returns-2 c = rw c.in-Prepared.is c.prepared.ensures
 
-returns-3 : tie.Need-returns-3
+returns-3 : tie.Need-returns-in-Commit
 unfolding tested_in
-returns-3 c = rw c.enum_told.given.1 refl
+returns-3 c = rw c.in-Commit.is refl
 
-returns-4 : tie.Need-returns-4
+returns-4 : tie.Need-returns-in-Get
 unfolding tested_in
-returns-4 c = rw c.before.before.m3.given.1 c.get.ensures
+returns-4 c = rw c.in-Get.is c.get.ensures
 
-returns-5 : tie.Need-returns-5
+returns-5 : tie.Need-returns-in-Got
 unfolding tested_in
 returns-5 c =
-    let a = c.before.before.before.before.before.before.args in
-    let m = c.before.before.before.m4.given in
-    rw m.1 (c.reply.ensures
-    ∙ ap (reply_tested a.b.now m.0.0 m.0.1.0.item) c.before.is-asked.ensures)
+    let a = c.args in
+    rw c.in-Got.is (c.reply.ensures
+    ∙ ap (reply_tested a.b.now c.in-Got.client c.in-Got.v.item) c.is_asked.ensures)
 
-returns-6 : tie.Need-returns-6
+returns-6 : tie.Need-returns-in-FirstGet
 unfolding tested_in
 returns-6 c =
-    let a = c.before.before.before.before.before.before.args in
-    let m = c.before.before.before.m5.given in
-    rw m.1 (c.get2.ensures
-    ∙ ap (λ (e : Entry). get_tested a.b.now a.n m.0.1.0 e.stamp)
-    c.before.latest.ensures)
+    let a = c.args in
+    rw c.in-FirstGet.is (c.get-in-FirstGet.ensures
+    ∙ ap (λ (e : Entry). get_tested a.b.now a.n c.in-FirstGet.item e.stamp)
+    c.latest.ensures)
 
-returns-7 : tie.Need-returns-7
+returns-7 : tie.Need-returns-in-FirstReply
 unfolding tested_in
 returns-7 c =
-    let a = c.before.before.before.before.before.before.args in
-    let m = c.before.before.before.m6.given in
-    rw m.1 (c.reply2.ensures
-    ∙ ap (λ (x : ℕ). reply_tested a.b.now m.0.0 m.0.1.0.item (eqb x 3))
-    c.before.mode.ensures)
+    let a = c.args in
+    rw c.in-FirstReply.is (c.reply-in-FirstReply.ensures
+    ∙ ap (λ (x : ℕ). reply_tested a.b.now c.in-FirstReply.client c.in-FirstReply.v.item (eqb x 3))
+    c.mode.ensures)
 
-pub test-spec : {M : Type 1} → statement M
-test-spec =
+pub test_spec : {M : Type 1} → statement M
+test_spec =
     tie.close
     (tie.spec
     (λ c. search rules)

@@ -16,62 +16,62 @@ use Rattle.store_frames.proofs.Reading.{stored_bytes-text, stored_bytes-none}
 use Rattle.frame_reader.proofs.decode_line.Statement.{statement}
 use Rattle.frame_reader.proofs.decode_line.Tie as tie
 
-is-decoded-requires : tie.Need-is-decoded-requires
+is-decoded-requires : tie.Need-is_decoded-requires
 is-decoded-requires c κs = search rules
 
-sub-end : tie.Need-overflow-sub-end
+sub-end : tie.Need-overflow_sub-end
 sub-end c = omega (
   arith,
-  is_decoded-length c.before.before.before.before.args.line.now
-      (sym c.before.is-decoded.ensures ∙ c.if1.true),
+  is_decoded-length c.args.line.now
+      (sym c.is_decoded.ensures ∙ c.if-is_decoded.true),
 )
 
-sub-decode : tie.Need-overflow-sub-decode
+sub-decode : tie.Need-slice_bounds-decode-count
 sub-decode c = search rules
 
-part-decode-start : tie.Need-slice-bounds-decode-start
+part-decode-start : tie.Need-slice_bounds-decode-start
 part-decode-start c = search rules
 
-part-decode-end : tie.Need-slice-bounds-decode-end
+part-decode-end : tie.Need-slice_bounds-decode-end
 part-decode-end c = search rules
 
 decode-requires : tie.Need-decode-requires
 decode-requires c κs =
-    let line = c.before.before.before.before.before.before.args.line.now in
+    let line = c.args.line.now in
     omega (
       arith,
       length-take-le (length line - 1 - 0) line (omega arith),
       is_decoded-length line
-          (sym c.before.before.before.is-decoded.ensures ∙ c.before.before.if1.true),
+          (sym c.is_decoded.ensures ∙ c.if-is_decoded.true),
     )
 
-same_length : tie.Need-same-length
+same_length : tie.Need-shape_of-bytes
 same_length c = search rules
 
-returns : tie.Need-returns
+returns : tie.Need-returns-then-is_decoded
 returns c =
-    let a = c.before.before.before.before.before.before.before.before.before.args in
+    let a = c.args in
     let line = a.line.now in
-    let d = sym c.before.before.before.before.before.before.is-decoded.ensures
-    ∙ c.before.before.before.before.before.if1.true in
+    let d = sym c.is_decoded.ensures
+    ∙ c.if-is_decoded.true in
     let text : take (length line - 1 - 0) line ≡ text_of line =
     ap (λ (k : ℕ). take k line) (sub-zero (length line - 1)) in (
-      c.before.before.decode.ensures.0 ∙ ap decoded text ∙ sym (decoded_line-text line d),
-      c.before.before.decode.ensures.1
+      c.decode.ensures.0 ∙ ap decoded text ∙ sym (decoded_line-text line d),
+      c.decode.ensures.1
           ∙ ap (λ (t : List ℕ). sets a.bytes.now 0 t)
           (ap bytes_of text ∙ sym (stored_bytes-text line d)),
     )
 
-returns-2 : tie.Need-returns-2
+returns-2 : tie.Need-returns-else-is_decoded
 returns-2 c =
-    let a = c.before.before.before.before.args in
-    let d = sym c.before.is-decoded.ensures ∙ c.if1.false in (
+    let a = c.args in
+    let d = sym c.is_decoded.ensures ∙ c.if-is_decoded.false in (
       sym (decoded_line-none a.line.now d),
       ap (λ (t : List ℕ). sets a.bytes.now 0 t) (sym (stored_bytes-none a.line.now d)),
     )
 
-pub decode-line-spec : {M : Type 1} → statement M
-decode-line-spec =
+pub decode_line_spec : {M : Type 1} → statement M
+decode_line_spec =
     tie.close
     (tie.spec
     is-decoded-requires

@@ -9,12 +9,14 @@ use Rattle.store_frames.specs.StoreFrames.{is_decoded}
 use Rattle.frame_reader.proofs.is_decoded.Statement.{statement}
 use Rattle.frame_reader.proofs.is_decoded.Tie as tie
 
-is-ended-requires : tie.Need-is-ended-requires
+is-ended-requires : tie.Need-is_ended-requires
 is-ended-requires c κs = search rules
 
 returns : tie.Need-returns
 unfolding is_decoded
-returns c = ap (λ (e : Bool). leb (length c.before.before.args.line.now) most_line && e) c.is-ended.ensures
+returns c = ap (λ (e : Bool). leb (length c.args.line.now) most_line && e) c.is_ended.ensures
 
-pub is-decoded-spec : {M : Type 1} → statement M
-is-decoded-spec = tie.close (tie.spec is-ended-requires returns)
+pub is_decoded_spec : {M : Type 1} → statement M
+is_decoded_spec = tie.close (tie.spec
+    is-ended-requires
+    returns)

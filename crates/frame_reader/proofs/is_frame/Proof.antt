@@ -13,8 +13,10 @@ kind-requires c κs = search rules
 
 returns : tie.Need-returns
 returns c =
-    let a = c.before.before.args in
+    let a = c.args in
     ap (λ (k : ℕ). eqb k a.k && eqb (length a.f.now) a.n) c.kind.ensures
 
-pub is-frame-spec : {M : Type 1} → statement M
-is-frame-spec = tie.close (tie.spec kind-requires returns)
+pub is_frame_spec : {M : Type 1} → statement M
+is_frame_spec = tie.close (tie.spec
+    kind-requires
+    returns)

@@ -5,14 +5,17 @@ use lib.ListN.{get_or-eq_default}
 use Rattle.frame_reader.proofs.kind.Statement.{statement}
 use Rattle.frame_reader.proofs.kind.Tie as tie
 
-shared-slice-read-result : tie.Need-shared-slice-read-result
+shared-slice-read-result : tie.Need-bounds-f-0
 shared-slice-read-result c = search rules
 
-returns : tie.Need-returns
+returns : tie.Need-returns-then-f-gt0
 returns c = search rules
 
-returns-2 : tie.Need-returns-2
-returns-2 c = sym (get_or-eq_default c.before.args.f.now 0 c.if1.false)
+returns-2 : tie.Need-returns-else-f-gt0
+returns-2 c = sym (get_or-eq_default c.args.f.now 0 c.if-f-gt0.false)
 
-pub kind-spec : {M : Type 1} → statement M
-kind-spec = tie.close (tie.spec shared-slice-read-result returns returns-2)
+pub kind_spec : {M : Type 1} → statement M
+kind_spec = tie.close (tie.spec
+    shared-slice-read-result
+    returns
+    returns-2)

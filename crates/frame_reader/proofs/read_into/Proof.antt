@@ -12,70 +12,65 @@ use Rattle.store_frames.proofs.Reading.{store_frame_of-malformed, stored_bytes_l
 use Rattle.frame_reader.proofs.read_into.Statement.{statement}
 use Rattle.frame_reader.proofs.read_into.Tie as tie
 
-decode-line-requires : tie.Need-decode-line-requires
+decode-line-requires : tie.Need-decode_line-text-requires
 decode-line-requires c κs = search rules
 
-enum-known-text : tie.Need-enum-known-text
+enum-known-text : tie.Need-enum_known-text
 enum-known-text c = search rules
 
-enum_told : tie.Need-enum-told
+enum_told : tie.Need-enum_told-1
 enum_told c = search rules
 
-same_length : tie.Need-same-length
+same_length : tie.Need-shape_of-bytes-in_default
 same_length c = search rules
 
-returns : tie.Need-returns
+returns : tie.Need-returns-in_default
 returns c =
-    let decoded = c.before.before.before.before in
-    let line = decoded.before.before.before.before.args.line.now in (
-      sym (store_frame_of-malformed line (sym c.enum_told.given.1
-          ∙ decoded.decode-line.ensures.0)),
-      decoded.decode-line.ensures.1,
+    let line = c.args.line.now in (
+      sym (store_frame_of-malformed line (sym c.in_default.is
+          ∙ c.decode_line-text.ensures.0)),
+      c.decode_line-text.ensures.1,
     )
 
-sub-parse : tie.Need-overflow-sub-parse
+sub-parse : tie.Need-slice_bounds-parse-count
 sub-parse c = search rules
 
-part-parse-start : tie.Need-slice-bounds-parse-start
+part-parse-start : tie.Need-slice_bounds-parse-start
 part-parse-start c = search rules
 
-part-parse-end : tie.Need-slice-bounds-parse-end
+part-parse-end : tie.Need-slice_bounds-parse-end
 part-parse-end c =
-    let decoded = c.before.before.before.before.before.before in
-    let a = decoded.before.before.before.before.args in
-    let text = c.before.before.text.given in
-    let s = stored_bytes_lem a.line.now text.0.0
-    (sym text.1 ∙ decoded.decode-line.ensures.0) in
+    let a = c.args in
+    let s = stored_bytes_lem a.line.now c.in-Bytes.n
+    (sym c.in-Bytes.is ∙ c.decode_line-text.ensures.0) in
     omega (
       arith,
       s.fits,
-      ap length decoded.decode-line.ensures.1,
+      ap length c.decode_line-text.ensures.1,
       length-sets a.bytes.now 0 (stored_bytes a.line.now),
     )
 
 parse-requires : tie.Need-parse-requires
 parse-requires c κs = search rules
 
-same-length-2 : tie.Need-same-length-2
+same-length-2 : tie.Need-shape_of-bytes
 same-length-2 c = search rules
 
-returns-2 : tie.Need-returns-2
+returns-2 : tie.Need-returns
 returns-2 c =
-    let decoded = c.before.before.before.before.before.before.before.before in
-    let a = decoded.before.before.before.before.args in
+    let a = c.args in
     let line = a.line.now in
-    let text = c.before.before.before.before.text.given in
-    let n = text.0.0 in
-    let s = stored_bytes_lem line n (sym text.1 ∙ decoded.decode-line.ensures.0) in
-    let bytes = decoded.decode-line.ensures.1 in (
+    let n = c.in-Bytes.n in
+    let s = stored_bytes_lem line n (sym c.in-Bytes.is ∙ c.decode_line-text.ensures.0) in
+    let bytes = c.decode_line-text.ensures.1 in (
       c.parse.ensures ∙ ap parsed
-          (ap (λ (k : ℕ). take k decoded.decode-line.new.1.0) (sub-zero n)
+          (ap (λ (k : ℕ). take k c.decode_line-text.new.bytes) (sub-zero n)
           ∙ stored-front line a.bytes.now n s bytes (omega arith)),
       bytes,
     )
 
-pub read-into-spec : {M : Type 1} → statement M
-read-into-spec =
+pub read_into_spec : {M : Type 1} → statement M
+read_into_spec =
     tie.close
     (tie.spec
     decode-line-requires

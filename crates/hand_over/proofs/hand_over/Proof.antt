@@ -6,25 +6,23 @@ use Rattle.hand_over.specs.HandOver.{take_item, handed_over_block}
 use Rattle.hand_over.proofs.hand_over.Statement.{statement}
 use Rattle.hand_over.proofs.hand_over.Tie as tie
 
-abbrev invariant-loop : tie.invariant-loop
+abbrev invariant-loop : tie.invariant-loop-k
 invariant-loop b₀ giver receiver items k₀ b k = Turns (take_item giver receiver) items b₀ b k
 
-abbrev decreases-loop : tie.decreases-loop
+abbrev decreases-loop : tie.decreases-loop-k
 decreases-loop b₀ giver receiver items k₀ b k = items - k
 
-loop-again : tie.Need-loop-preserved invariant-loop decreases-loop
+loop-again : tie.Need-loop-k-preserved invariant-loop decreases-loop
 loop-again c =
-    let turn = c.before.before in
-    let test = turn.before.before in
-    turns_next test.before.loop.invariant test.loop-test.true turn.take-item.ensures
-    turn.take-item.auto.0
+    turns_next c.loop-k.invariant c.loop-k-test.true c.take_item.ensures
+    c.take_item.auto.b
 
 returns : tie.Need-returns invariant-loop decreases-loop
 unfolding handed_over_block
-returns c = turns-last c.before.loop.invariant c.loop-test.false
+returns c = turns-last c.loop-k.invariant c.loop-k-test.false
 
-pub hand-over-spec : {M : Type 1} → statement M
-hand-over-spec =
+pub hand_over_spec : {M : Type 1} → statement M
+hand_over_spec =
     tie.close
     (tie.spec
     invariant-loop

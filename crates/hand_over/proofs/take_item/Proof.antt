@@ -8,17 +8,13 @@ use Rattle.hand_over.proofs.take_item.Tie as tie
 
 returns : tie.Need-returns
 returns c =
-    let put = c.before.before in
-    let later = put.before.before in
-    let own = later.before in
-    let given = own.before.before in
-    let a = given.before.before.before.args in
-    put.put_view.ensures
+    let a = c.args in
+    c.put_view.ensures
     ∙ ap (store_view a.b.now a.receiver a.k)
-    (later.later.ensures ∙ ap₂ later_of own.view2.ensures given.view.ensures)
+    (c.later-entry.ensures ∙ ap₂ later_of c.view.ensures c.view-given.ensures)
 
-pub take-item-spec : {M : Type 1} → statement M
-take-item-spec =
+pub take_item_spec : {M : Type 1} → statement M
+take_item_spec =
     tie.close
     (tie.spec
     (λ c κs. search rules)

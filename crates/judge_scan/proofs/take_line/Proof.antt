@@ -152,7 +152,7 @@ module _ (c : tie.After-repeats) where
       parsed-line of-parse
       ∙ ap₂ refused
       (sym (same-frames of-parse))
-      c.frame-1.given.1
+      c.in-Frame.is
       ∙ sym c.repeats.ensures
 
 -- ---- the needs

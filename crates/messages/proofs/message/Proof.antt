@@ -29,24 +29,24 @@ part-requires-7 c κs = search rules
 part-requires-8 : tie.Need-part-requires-8
 part-requires-8 c κs = search rules
 
-of-kind-requires : tie.Need-of-kind-requires
+of-kind-requires : tie.Need-of_kind-requires
 of-kind-requires c κs = search rules
 
 returns : tie.Need-returns
 unfolding message_in
 returns c =
-    same-message c.before.before.before.before.before.before.before.before.part.ensures
-    c.before.before.before.before.before.before.before.part2.ensures
-    c.before.before.before.before.before.before.part3.ensures
-    c.before.before.before.before.before.part4.ensures
-    c.before.before.before.before.part5.ensures
-    c.before.before.before.part6.ensures
-    c.before.before.part7.ensures
-    c.before.part8.ensures
-    c.of-kind.ensures
+    same-message c.part.ensures
+    c.part-2.ensures
+    c.part-3.ensures
+    c.part-4.ensures
+    c.part-5.ensures
+    c.part-6.ensures
+    c.part-7.ensures
+    c.part-8.ensures
+    c.of_kind.ensures
 
-pub message-spec : {M : Type 1} → statement M
-message-spec =
+pub message_spec : {M : Type 1} → statement M
+message_spec =
     tie.close
     (tie.spec
     part-requires

@@ -11,35 +11,35 @@ use native.Mathlib.Omega.{arith}
 use Rattle.messages.proofs.send.Statement.{statement}
 use Rattle.messages.proofs.send.Tie as tie
 
-message-count-requires : tie.Need-message-count-requires
+message-count-requires : tie.Need-message_count-n-requires
 message-count-requires c κs = search rules
 
 append-requires : tie.Need-append-requires
 append-requires c κs = search rules
 
-same_length : tie.Need-same-length
+same_length : tie.Need-shape_of-b-then-n-lt-MOST_MESSAGES
 same_length c = search rules
 
-returns : tie.Need-returns
+returns : tie.Need-returns-then-n-lt-MOST_MESSAGES
 unfolding send
 returns c =
-    let a = c.before.before.before.before.before.before.before.before.args in
+    let a = c.args in
     when _ _ _ _ (lt-ltb (at a.b.now header messages_at) most_messages (omega arith))
-    (c.before.before.append.ensures
+    (c.append.ensures
     ∙ ap (λ (n : ℕ). append_message a.b.now n a.m)
-    c.before.before.before.before.before.message-count.ensures)
+    c.message_count-n.ensures)
 
-same-length-2 : tie.Need-same-length-2
+same-length-2 : tie.Need-shape_of-b-else-n-lt-MOST_MESSAGES
 same-length-2 c = search rules
 
-returns-2 : tie.Need-returns-2
+returns-2 : tie.Need-returns-else-n-lt-MOST_MESSAGES
 unfolding send
 returns-2 c =
-    let a = c.before.before.before.before.args in
+    let a = c.args in
     unless _ _ _ _ (le-ltb (at a.b.now header messages_at) most_messages (omega arith)) refl
 
-pub send-spec : {M : Type 1} → statement M
-send-spec =
+pub send_spec : {M : Type 1} → statement M
+send_spec =
     tie.close
     (tie.spec
     message-count-requires

@@ -9,47 +9,45 @@ use Rattle.layout.specs.Store.{take_out}
 use Rattle.messages.proofs.take_out.Statement.{statement}
 use Rattle.messages.proofs.take_out.Tie as tie
 
-mul-move-up : tie.Need-overflow-mul-move-up
+mul-move-up : tie.Need-overflow_mul-i
 mul-move-up c = search rules
 
-add-move-up : tie.Need-overflow-add-move-up
+add-move-up : tie.Need-overflow_add-i
 add-move-up c = search rules
 
-add-move-up-2 : tie.Need-overflow-add-move-up-2
+add-move-up-2 : tie.Need-overflow_add-i-2
 add-move-up-2 c = search rules
 
-add-move-up-3 : tie.Need-overflow-add-move-up-3
+add-move-up-3 : tie.Need-overflow_add-i-3
 add-move-up-3 c = search rules
 
-sub-move-up : tie.Need-overflow-sub-move-up
+sub-move-up : tie.Need-overflow_sub-n
 sub-move-up c = search rules
 
-mul-move-up-2 : tie.Need-overflow-mul-move-up-2
+mul-move-up-2 : tie.Need-overflow_mul-n
 mul-move-up-2 c = search rules
 
-move-up-requires : tie.Need-move-up-requires
+move-up-requires : tie.Need-move_up-requires
 move-up-requires c κs = search rules
 
-sub-put-message-count : tie.Need-overflow-sub-put-message-count
+sub-put-message-count : tie.Need-overflow_sub-n-2
 sub-put-message-count c = search rules
 
-put-message-count-requires : tie.Need-put-message-count-requires
+put-message-count-requires : tie.Need-put_message_count-requires
 put-message-count-requires c κs = search rules
 
-same_length : tie.Need-same-length
+same_length : tie.Need-shape_of-b
 same_length c = search rules
 
 returns : tie.Need-returns
 unfolding take_out
 returns c =
-    let counted = c.before.before in
-    let moved = counted.before.before.before.before in
-    let n = moved.before.before.before.args.n in
-    counted.put-message-count.ensures
-    ∙ ap (λ (w : List ℕ). store w header messages_at (n - 1)) moved.move_up.ensures
+    let n = c.args.n in
+    c.put_message_count.ensures
+    ∙ ap (λ (w : List ℕ). store w header messages_at (n - 1)) c.move_up.ensures
 
-pub take-out-spec : {M : Type 1} → statement M
-take-out-spec =
+pub take_out_spec : {M : Type 1} → statement M
+take_out_spec =
     tie.close
     (tie.spec
     mul-move-up

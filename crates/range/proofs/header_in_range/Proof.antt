@@ -8,5 +8,6 @@ returns : tie.Need-returns
 unfolding sizes_in_range
 returns c = refl
 
-pub header-in-range-spec : {M : Type 1} → statement M
-header-in-range-spec = tie.close (tie.spec returns)
+pub header_in_range_spec : {M : Type 1} → statement M
+header_in_range_spec = tie.close (tie.spec
+    returns)

@@ -11,28 +11,30 @@ use Rattle.range.proofs.load.Tie as tie
 clients-requires : tie.Need-clients-requires
 clients-requires c κs = search rules
 
-message-count-requires : tie.Need-message-count-requires
+message-count-requires : tie.Need-message_count-requires
 message-count-requires c κs = search rules
 
-load-of-requires : tie.Need-load-of-requires
+load-of-requires : tie.Need-load_of-requires
 load-of-requires c κs =
-    let start = c.before.before.before in
-    let words : WellFormed start.args.b.now =
-    ((tells-valid-block start.args.b.now).0 (search rules)).well_formed in (
-      omega (arith, c.before.clients.ensures, words.sizes.clients),
+    let words : WellFormed c.args.b.now =
+    ((tells-valid-block c.args.b.now).0 (search rules)).well_formed in (
+      omega (arith, c.clients.ensures, words.sizes.clients),
       omega
-          (arith, c.message-count.ensures, words.message_count),
+          (arith, c.message_count.ensures, words.message_count),
     )
 
 returns : tie.Need-returns
 returns c =
-    let start = c.before.before.before.before in
-    let words : WellFormed start.args.b.now =
-    ((tells-valid-block start.args.b.now).0 (search rules)).well_formed in
+    let words : WellFormed c.args.b.now =
+    ((tells-valid-block c.args.b.now).0 (search rules)).well_formed in
     c.load_of.ensures
-    ∙ load-valid start.args.b.now _ _ c.before.before.clients.ensures
-    c.before.message-count.ensures
-    (omega (arith, c.before.message-count.ensures, words.message_count))
+    ∙ load-valid c.args.b.now _ _ c.clients.ensures
+    c.message_count.ensures
+    (omega (arith, c.message_count.ensures, words.message_count))
 
 pub load_spec : {M : Type 1} → statement M
-load_spec = tie.close (tie.spec clients-requires message-count-requires load-of-requires returns)
+load_spec = tie.close (tie.spec
+    clients-requires
+    message-count-requires
+    load-of-requires
+    returns)

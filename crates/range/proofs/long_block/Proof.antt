@@ -4,56 +4,56 @@ use Rattle.range.proofs.BlockTests.{header-bounds, long-tests, long-header}
 use Rattle.range.proofs.long_block.Statement.{statement}
 use Rattle.range.proofs.long_block.Tie as tie
 
-clients-requires : tie.Need-clients-requires
+clients-requires : tie.Need-clients-clients-requires
 clients-requires c κs = search rules
 
-partitions-requires : tie.Need-partitions-requires
+partitions-requires : tie.Need-partitions-partitions-requires
 partitions-requires c κs = search rules
 
-items-requires : tie.Need-items-requires
+items-requires : tie.Need-items-items-requires
 items-requires c κs = search rules
 
-version-count-requires : tie.Need-version-count-requires
+version-count-requires : tie.Need-version_count-versions-requires
 version-count-requires c κs = search rules
 
-message-count-requires : tie.Need-message-count-requires
+message-count-requires : tie.Need-message_count-messages-requires
 message-count-requires c κs = search rules
 
-header-in-range-requires : tie.Need-header-in-range-requires
+header-in-range-requires : tie.Need-header_in_range-requires
 header-in-range-requires c κs = search rules
 
-tables-in-range-requires : tie.Need-tables-in-range-requires
+tables-in-range-requires : tie.Need-tables_in_range-requires
 tables-in-range-requires c κs =
-    let f = header-bounds _ _ _ _ _ c.before.header-in-range.ensures c.if1.true in
+    let f = header-bounds _ _ _ _ _ c.header_in_range.ensures c.if-header_in_range.true in
     (f.0, f.1, f.2, f.3, f.4, f.5, search rules)
 
-returns : tie.Need-returns
+returns : tie.Need-returns-then-header_in_range
 returns c =
     long-tests
-    c.before.before.before.before.before.before.before.before.before.args.b.now
-    c.before.before.before.before.before.before.before.clients.ensures
-    c.before.before.before.before.before.before.partitions.ensures
-    c.before.before.before.before.before.items.ensures
-    c.before.before.before.before.version-count.ensures
-    c.before.before.before.message-count.ensures
-    c.before.before.header-in-range.ensures
-    c.before.if1.true
+    c.args.b.now
+    c.clients-clients.ensures
+    c.partitions-partitions.ensures
+    c.items-items.ensures
+    c.version_count-versions.ensures
+    c.message_count-messages.ensures
+    c.header_in_range.ensures
+    c.if-header_in_range.true
     (search rules)
-    c.tables-in-range.ensures
+    c.tables_in_range.ensures
 
-returns-2 : tie.Need-returns-2
+returns-2 : tie.Need-returns-else-header_in_range
 returns-2 c =
-    long-header c.before.before.before.before.before.before.before.before.args.b.now
-    c.before.before.before.before.before.before.clients.ensures
-    c.before.before.before.before.before.partitions.ensures
-    c.before.before.before.before.items.ensures
-    c.before.before.before.version-count.ensures
-    c.before.before.message-count.ensures
-    c.before.header-in-range.ensures
-    c.if1.false
+    long-header c.args.b.now
+    c.clients-clients.ensures
+    c.partitions-partitions.ensures
+    c.items-items.ensures
+    c.version_count-versions.ensures
+    c.message_count-messages.ensures
+    c.header_in_range.ensures
+    c.if-header_in_range.false
 
-pub long-block-spec : {M : Type 1} → statement M
-long-block-spec =
+pub long_block_spec : {M : Type 1} → statement M
+long_block_spec =
     tie.close
     (tie.spec
     clients-requires

@@ -4,36 +4,36 @@ use Rattle.range.proofs.BlockTests.{tables-tests}
 use Rattle.range.proofs.tables_in_range.Statement.{statement}
 use Rattle.range.proofs.tables_in_range.Tie as tie
 
-views-in-range-requires : tie.Need-views-in-range-requires
+views-in-range-requires : tie.Need-views_in_range-requires
 views-in-range-requires c κs = search rules
 
-clients-in-range-requires : tie.Need-clients-in-range-requires
+clients-in-range-requires : tie.Need-clients_in_range-requires
 clients-in-range-requires c κs = search rules
 
-versions-in-range-requires : tie.Need-versions-in-range-requires
+versions-in-range-requires : tie.Need-versions_in_range-requires
 versions-in-range-requires c κs = search rules
 
-messages-in-range-requires : tie.Need-messages-in-range-requires
+messages-in-range-requires : tie.Need-messages_in_range-requires
 messages-in-range-requires c κs = search rules
 
-load-of-requires : tie.Need-load-of-requires
+load-of-requires : tie.Need-load_of-requires
 load-of-requires c κs = search rules
 
-occupied-fits-requires : tie.Need-occupied-fits-requires
+occupied-fits-requires : tie.Need-occupied_fits-requires
 occupied-fits-requires c κs = search rules
 
 returns : tie.Need-returns
 returns c =
     tables-tests _ _ _ _ _ _
-    c.before.before.before.before.before.views-in-range.ensures
-    c.before.before.before.before.clients-in-range.ensures
-    c.before.before.before.versions-in-range.ensures
-    c.before.before.messages-in-range.ensures
-    c.before.load_of.ensures
-    c.occupied-fits.ensures
+    c.views_in_range.ensures
+    c.clients_in_range.ensures
+    c.versions_in_range.ensures
+    c.messages_in_range.ensures
+    c.load_of.ensures
+    c.occupied_fits.ensures
 
-pub tables-in-range-spec : {M : Type 1} → statement M
-tables-in-range-spec =
+pub tables_in_range_spec : {M : Type 1} → statement M
+tables_in_range_spec =
     tie.close
     (tie.spec
     views-in-range-requires

@@ -4,14 +4,17 @@ use Rattle.range.proofs.BlockTests.{valid-short}
 use Rattle.range.proofs.valid_block.Statement.{statement}
 use Rattle.range.proofs.valid_block.Tie as tie
 
-long-block-requires : tie.Need-long-block-requires
+long-block-requires : tie.Need-long_block-requires
 long-block-requires c κs = search rules
 
-returns : tie.Need-returns
-returns c = valid-short c.before.before.args.b.now c.if1.true
+returns : tie.Need-returns-then-b-lt-NEEDED
+returns c = valid-short c.args.b.now c.if-b-lt-NEEDED.true
 
-returns-2 : tie.Need-returns-2
+returns-2 : tie.Need-returns-else-b-lt-NEEDED
 returns-2 c = search rules
 
-pub valid-block-spec : {M : Type 1} → statement M
-valid-block-spec = tie.close (tie.spec long-block-requires returns returns-2)
+pub valid_block_spec : {M : Type 1} → statement M
+valid_block_spec = tie.close (tie.spec
+    long-block-requires
+    returns
+    returns-2)

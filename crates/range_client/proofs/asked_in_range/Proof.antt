@@ -4,23 +4,23 @@ use Rattle.range_client.proofs.ClientTests.{asked-tests}
 use Rattle.range_client.proofs.asked_in_range.Statement.{statement}
 use Rattle.range_client.proofs.asked_in_range.Tie as tie
 
-stamps-in-range-requires : tie.Need-stamps-in-range-requires
+stamps-in-range-requires : tie.Need-stamps_in_range-requires
 stamps-in-range-requires c κs = search rules
 
-values-in-range-requires : tie.Need-values-in-range-requires
+values-in-range-requires : tie.Need-values_in_range-requires
 values-in-range-requires c κs = search rules
 
-firsts-in-range-requires : tie.Need-firsts-in-range-requires
+firsts-in-range-requires : tie.Need-firsts_in_range-requires
 firsts-in-range-requires c κs = search rules
 
 returns : tie.Need-returns
 returns c =
-    asked-tests _ _ _ _ c.before.before.stamps-in-range.ensures
-    c.before.values-in-range.ensures c.firsts-in-range.ensures
-    c.before.before.before.before.requires.6
+    asked-tests _ _ _ _ c.stamps_in_range.ensures
+    c.values_in_range.ensures c.firsts_in_range.ensures
+    c.requires.6
 
-pub asked-in-range-spec : {M : Type 1} → statement M
-asked-in-range-spec =
+pub asked_in_range_spec : {M : Type 1} → statement M
+asked_in_range_spec =
     tie.close
     (tie.spec
     stamps-in-range-requires

@@ -5,23 +5,22 @@ use Rattle.range_client.proofs.ClientTests.{last_none, last-tests}
 use Rattle.range_client.proofs.last_in_range.Statement.{statement}
 use Rattle.range_client.proofs.last_in_range.Tie as tie
 
-returns : tie.Need-returns
+returns : tie.Need-returns-then-kind-eq-NONE
 returns c =
-    let given = c.before.before.before.args in
-    last_none given.b.now given.d _ _ c.before.last-kind.ensures c.if1.true
+    let given = c.args in
+    last_none given.b.now given.d _ _ c.last_kind-kind.ensures c.if-kind-eq-NONE.true
 
-returns-2 : tie.Need-returns-2
+returns-2 : tie.Need-returns
 returns-2 c =
-    let kind = c.before.before.before.before in
-    let given = kind.before.before.args in
+    let given = c.args in
     last-tests given.b.now given.d _ _
-    kind.last-kind.ensures
-    c.before.before.is-kind.ensures
-    c.before.read-in-range.ensures
-    c.write-in-range.ensures
+    c.last_kind-kind.ensures
+    c.is_kind.ensures
+    c.read_in_range.ensures
+    c.write_in_range.ensures
 
-pub last-in-range-spec : {M : Type 1} → statement M
-last-in-range-spec =
+pub last_in_range_spec : {M : Type 1} → statement M
+last_in_range_spec =
     tie.close
     (tie.spec
     (λ c κs. search rules)

@@ -5,10 +5,10 @@ use borrow.Author.Tests.{eq-eqb, ne_eqb}
 use Rattle.range_client.proofs.last_values_in_range.Statement.{statement}
 use Rattle.range_client.proofs.last_values_in_range.Tie as tie
 
-pub last-values-in-range-spec : {M : Type 1} → statement M
-last-values-in-range-spec =
+pub last_values_in_range_spec : {M : Type 1} → statement M
+last_values_in_range_spec =
     tie.close
     (tie.spec
     (λ c κs. search rules)
-    (λ c. rw (eq-eqb _ 4 c.if1.true) refl)
-    (λ c. rw (ne_eqb _ 4 c.before.if1.false) c.values-in-range.ensures))
+    (λ c. rw (eq-eqb _ 4 c.if-kind-eq-MIXED.true) refl)
+    (λ c. rw (ne_eqb _ 4 c.if-kind-eq-MIXED.false) c.values_in_range.ensures))

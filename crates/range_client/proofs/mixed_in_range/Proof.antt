@@ -6,18 +6,12 @@ use Rattle.range_client.proofs.mixed_in_range.Tie as tie
 
 returns : tie.Need-returns
 returns c =
-    let stamp = c.before in
-    let await = stamp.before in
-    let below = await.before in
-    let asked = below.before in
-    let awaited = asked.before in
-    let written = awaited.before in
-    mixed-tests _ _ _ _ written.before.before.requires.5 written.write-set.ensures
-    awaited.write-awaited.ensures asked.stamps-in-range.ensures below.all-below.ensures
-    await.all-below2.ensures c.stamp-in-range.ensures stamp.stamp.ensures
+    mixed-tests _ _ _ _ c.requires.5 c.write_set-written.ensures
+    c.write_awaited-awaited.ensures c.stamps_in_range.ensures c.all_below.ensures
+    c.all_below-2.ensures c.stamp_in_range.ensures c.stamp.ensures
 
-pub mixed-in-range-spec : {M : Type 1} → statement M
-mixed-in-range-spec =
+pub mixed_in_range_spec : {M : Type 1} → statement M
+mixed_in_range_spec =
     tie.close
     (tie.spec
     (λ c κs. search rules)

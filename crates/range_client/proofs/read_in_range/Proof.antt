@@ -6,21 +6,19 @@ use Rattle.range_client.proofs.ClientTests.{read-tests}
 use Rattle.range_client.proofs.read_in_range.Statement.{statement}
 use Rattle.range_client.proofs.read_in_range.Tie as tie
 
-returns : tie.Need-returns
+returns : tie.Need-returns-then-shows_read
 returns c =
-    let set = c.before.before.before in
-    let shown = set.before in
-    let given = shown.before.before.before.args in
-    rw (sym shown.before.shows-read.ensures ∙ shown.if1.true)
+    let given = c.args in
+    rw (sym c.shows_read.ensures ∙ c.if-shows_read.true)
     (read-tests given.b.now given.d _ _ given.kind
-    c.before.before.all-below.ensures
-    c.before.stamps-in-range.ensures
-    c.last-values-in-range.ensures
-    set.last_set.ensures
+    c.all_below.ensures
+    c.stamps_in_range.ensures
+    c.last_values_in_range.ensures
+    c.last_set-set.ensures
     (search rules))
 
-pub read-in-range-spec : {M : Type 1} → statement M
-read-in-range-spec =
+pub read_in_range_spec : {M : Type 1} → statement M
+read_in_range_spec =
     tie.close
     (tie.spec
     (λ c κs. search rules)
@@ -29,4 +27,4 @@ read-in-range-spec =
     (λ c κs. search rules)
     (λ c κs. search rules)
     returns
-    (λ c. rw (sym c.before.shows-read.ensures ∙ c.if1.false)))
+    (λ c. rw (sym c.shows_read.ensures ∙ c.if-shows_read.false)))

@@ -5,16 +5,17 @@ use Rattle.range_client.proofs.ClientTests.{rest_read, rest-written}
 use Rattle.range_client.proofs.rest_in_range.Statement.{statement}
 use Rattle.range_client.proofs.rest_in_range.Tie as tie
 
-returns : tie.Need-returns
+returns : tie.Need-returns-then-mode-awaited
 returns c =
-    let s = c.before.before in
-    rest_read s.args.b.now s.args.d 0 0 s.requires.2 s.requires.3 c.if1.true
+    rest_read c.args.b.now c.args.d 0 0 c.requires.2 c.requires.3 c.if-mode-awaited.true
 
-returns-2 : tie.Need-returns-2
+returns-2 : tie.Need-returns
 returns-2 c =
-    let s = c.before.before.before in
-    rest-written s.args.b.now s.args.d 0 0 s.requires.2 s.requires.3
-    c.write-awaited.ensures c.before.if1.false
+    rest-written c.args.b.now c.args.d 0 0 c.requires.2 c.requires.3
+    c.write_awaited.ensures c.if-mode-awaited.false
 
-pub rest-in-range-spec : {M : Type 1} → statement M
-rest-in-range-spec = tie.close (tie.spec returns (λ c κs. search rules) returns-2)
+pub rest_in_range_spec : {M : Type 1} → statement M
+rest_in_range_spec = tie.close (tie.spec
+    returns
+    (λ c κs. search rules)
+    returns-2)

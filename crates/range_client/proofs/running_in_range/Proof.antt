@@ -6,19 +6,19 @@ use Rattle.range_client.proofs.ClientTests.{running-write, running-mixed, runnin
 use Rattle.range_client.proofs.running_in_range.Statement.{statement}
 use Rattle.range_client.proofs.running_in_range.Tie as tie
 
-returns : tie.Need-returns
+returns : tie.Need-returns-then-mode-eq-WRITING
 returns c =
-    running-write _ _ _ _ c.before.stamp-in-range.ensures c.before.before.stamp.ensures
-    c.values-in-range.ensures c.before.before.before.before.before.requires.6 (omega arith)
+    running-write _ _ _ _ c.stamp_in_range.ensures c.stamp.ensures
+    c.values_in_range.ensures c.requires.6 (omega arith)
 
-returns-2 : tie.Need-returns-2
-returns-2 c = running-mixed _ _ _ _ c.mixed-in-range.ensures (omega arith)
+returns-2 : tie.Need-returns-then-mode-eq-MIXING
+returns-2 c = running-mixed _ _ _ _ c.mixed_in_range.ensures (omega arith)
 
-returns-3 : tie.Need-returns-3
-returns-3 c = running-other _ _ _ _ c.asked-in-range.ensures (omega arith) (omega arith)
+returns-3 : tie.Need-returns
+returns-3 c = running-other _ _ _ _ c.asked_in_range.ensures (omega arith) (omega arith)
 
-pub running-in-range-spec : {M : Type 1} → statement M
-running-in-range-spec =
+pub running_in_range_spec : {M : Type 1} → statement M
+running_in_range_spec =
     tie.close
     (tie.spec
     (λ c κs. search rules)

@@ -13,45 +13,45 @@ use Rattle.gather.proofs.Tested.{SoFar, tested-none, tested-next, tested-all}
 use Rattle.range_client.proofs.some_stamps_in_range.Statement.{statement}
 use Rattle.range_client.proofs.some_stamps_in_range.Tie as tie
 
-abbrev invariant-loop : tie.invariant-loop
+abbrev invariant-loop : tie.invariant-loop-k
 invariant-loop b start d set clients items ok₀ k₀ ok k =
     SoFar items (λ k. not (has set k) || stamp_in_range (sized clients items)
     (get_or b (start + item_at d k) 0)) k ok
 
-abbrev decreases-loop : tie.decreases-loop
+abbrev decreases-loop : tie.decreases-loop-k
 decreases-loop b start d set clients items ok₀ k₀ ok k = items - k
 
-loop-holds : tie.Need-loop-init invariant-loop decreases-loop
+loop-holds : tie.Need-loop-k-init invariant-loop decreases-loop
 loop-holds c = tested-none
 
 lacks-requires : tie.Need-lacks-requires invariant-loop decreases-loop
 lacks-requires c κs = search rules
 
-item-word-requires : tie.Need-item-word-requires invariant-loop decreases-loop
+item-word-requires : tie.Need-item_word-requires invariant-loop decreases-loop
 item-word-requires c κs = search rules
 
-stamp-in-range-requires : tie.Need-stamp-in-range-requires invariant-loop decreases-loop
+stamp-in-range-requires : tie.Need-stamp_in_range-requires invariant-loop decreases-loop
 stamp-in-range-requires c κs = search rules
 
-add-k : tie.Need-overflow-add-k invariant-loop decreases-loop
+add-k : tie.Need-overflow_add-k invariant-loop decreases-loop
 add-k c = search rules
 
-loop-less : tie.Need-loop-smaller invariant-loop decreases-loop
+loop-less : tie.Need-loop-k-smaller invariant-loop decreases-loop
 loop-less c = search rules
 
-loop-again : tie.Need-loop-preserved invariant-loop decreases-loop
+loop-again : tie.Need-loop-k-preserved invariant-loop decreases-loop
 loop-again c =
-    let stamp = c.stamp-in-range.ensures ∙ stamp-sized _ 0 _ _
-    ∙ ap (stamp_in_range _) c.before.item-word.ensures in
-    tested-next c.before.before.before.before.loop.invariant
-    c.before.before.before.loop-test.true
-    (ap₂ ◌||◌ c.before.before.lacks.ensures stamp)
+    let stamp = c.stamp_in_range.ensures ∙ stamp-sized _ 0 _ _
+    ∙ ap (stamp_in_range _) c.item_word.ensures in
+    tested-next c.loop-k.invariant
+    c.loop-k-test.true
+    (ap₂ ◌||◌ c.lacks.ensures stamp)
 
 returns : tie.Need-returns invariant-loop decreases-loop
-returns c = tested-all c.before.loop.invariant c.loop-test.false
+returns c = tested-all c.loop-k.invariant c.loop-k-test.false
 
-pub some-stamps-in-range-spec : {M : Type 1} → statement M
-some-stamps-in-range-spec =
+pub some_stamps_in_range_spec : {M : Type 1} → statement M
+some_stamps_in_range_spec =
     tie.close
     (tie.spec
     invariant-loop

@@ -7,22 +7,26 @@ use Rattle.range_client.proofs.ClientTests.{each-empty, each_all}
 use Rattle.range_client.proofs.stamps_in_range.Statement.{statement}
 use Rattle.range_client.proofs.stamps_in_range.Tie as tie
 
-all-stamps-in-range-requires : tie.Need-all-stamps-in-range-requires
+all-stamps-in-range-requires : tie.Need-all_stamps_in_range-requires
 all-stamps-in-range-requires c κs = search rules
 
-some-stamps-in-range-requires : tie.Need-some-stamps-in-range-requires
+some-stamps-in-range-requires : tie.Need-some_stamps_in_range-requires
 some-stamps-in-range-requires c κs = search rules
 
-returns : tie.Need-returns
-returns c = each-empty (sized 0 _) _ _ c.if1.true
+returns : tie.Need-returns-then-set-eq0
+returns c = each-empty (sized 0 _) _ _ c.if-set-eq0.true
 
-returns-2 : tie.Need-returns-2
+returns-2 : tie.Need-returns-then-all_stamps_in_range
 returns-2 c = each_all (sized 0 _) _ _
-    (sym c.before.all-stamps-in-range.ensures ∙ c.if2.true)
+    (sym c.all_stamps_in_range.ensures ∙ c.if-all_stamps_in_range.true)
 
-returns-3 : tie.Need-returns-3
+returns-3 : tie.Need-returns
 returns-3 c = search rules
 
-pub stamps-in-range-spec : {M : Type 1} → statement M
-stamps-in-range-spec = tie.close (tie.spec returns all-stamps-in-range-requires returns-2
-    some-stamps-in-range-requires returns-3)
+pub stamps_in_range_spec : {M : Type 1} → statement M
+stamps_in_range_spec = tie.close (tie.spec
+    returns
+    all-stamps-in-range-requires
+    returns-2
+    some-stamps-in-range-requires
+    returns-3)

@@ -4,31 +4,29 @@ use Rattle.range_client.proofs.ClientTests.{state-tests}
 use Rattle.range_client.proofs.state_in_range.Statement.{statement}
 use Rattle.range_client.proofs.state_in_range.Tie as tie
 
-count-requires : tie.Need-count-requires
+count-requires : tie.Need-count-count-requires
 count-requires c κs = search rules
 
-awaited-requires : tie.Need-awaited-requires
+awaited-requires : tie.Need-awaited-awaited-requires
 awaited-requires c κs = search rules
 
-all-below-requires : tie.Need-all-below-requires
+all-below-requires : tie.Need-all_below-requires
 all-below-requires c κs = search rules
 
-all-below-requires-2 : tie.Need-all-below-requires-2
+all-below-requires-2 : tie.Need-all_below-requires-2
 all-below-requires-2 c κs = search rules
 
-rest-in-range-requires : tie.Need-rest-in-range-requires
+rest-in-range-requires : tie.Need-rest_in_range-requires
 rest-in-range-requires c κs = search rules
 
 returns : tie.Need-returns
 returns c =
-    let below = c.before.before in
-    let s = below.before.before.before.before in
-    state-tests s.args.b.now s.args.d 0 s.args.items s.requires.2
-    below.before.before.count.ensures s.requires.3 below.before.awaited.ensures
-    below.all-below.ensures c.before.all-below2.ensures c.rest-in-range.ensures
+    state-tests c.args.b.now c.args.d 0 c.args.items c.requires.2
+    c.count-count.ensures c.requires.3 c.awaited-awaited.ensures
+    c.all_below.ensures c.all_below-2.ensures c.rest_in_range.ensures
 
-pub state-in-range-spec : {M : Type 1} → statement M
-state-in-range-spec =
+pub state_in_range_spec : {M : Type 1} → statement M
+state_in_range_spec =
     tie.close
     (tie.spec
     count-requires

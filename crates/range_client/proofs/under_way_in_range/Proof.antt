@@ -10,20 +10,18 @@ use Rattle.range_client.proofs.ClientTests.{idle-tests}
 use Rattle.range_client.proofs.under_way_in_range.Statement.{statement}
 use Rattle.range_client.proofs.under_way_in_range.Tie as tie
 
-returns : tie.Need-returns
+returns : tie.Need-returns-then-mode-set
 returns c =
-    let test = c.before.before in
-    let s = test.before.before in
-    idle-tests s.args.b.now s.args.d s.args.clients s.args.items
-    (sym s.requires.5 ∙ eqb-true _ 0 (and_left _ _ test.if1.true))
-    (sym s.requires.6 ∙ eqb-true _ 0 (and_right (eqb s.args.mode 0) _ test.if1.true))
-    c.before.count.ensures c.awaited.ensures
+    idle-tests c.args.b.now c.args.d c.args.clients c.args.items
+    (sym c.requires.5 ∙ eqb-true _ 0 (and_left _ _ c.if-mode-set.true))
+    (sym c.requires.6 ∙ eqb-true _ 0 (and_right (eqb c.args.mode 0) _ c.if-mode-set.true))
+    c.count.ensures c.awaited.ensures
 
-returns-2 : tie.Need-returns-2
-returns-2 c = ap₂ ◌&&◌ c.before.state-in-range.ensures c.running-in-range.ensures
+returns-2 : tie.Need-returns
+returns-2 c = ap₂ ◌&&◌ c.state_in_range.ensures c.running_in_range.ensures
 
-pub under-way-in-range-spec : {M : Type 1} → statement M
-under-way-in-range-spec =
+pub under_way_in_range_spec : {M : Type 1} → statement M
+under_way_in_range_spec =
     tie.close
     (tie.spec
     (λ c κs. search rules)

@@ -6,22 +6,20 @@ use Rattle.range_client.proofs.ClientTests.{write-tests}
 use Rattle.range_client.proofs.write_in_range.Statement.{statement}
 use Rattle.range_client.proofs.write_in_range.Tie as tie
 
-returns : tie.Need-returns
+returns : tie.Need-returns-then-shows_write
 returns c =
-    let set = c.before.before.before.before in
-    let shown = set.before in
-    let given = shown.before.before.before.args in
-    rw (sym shown.before.shows-write.ensures ∙ shown.if1.true)
+    let given = c.args in
+    rw (sym c.shows_write.ensures ∙ c.if-shows_write.true)
     (write-tests given.b.now given.d _ _ given.kind
-    c.before.before.before.all-below.ensures
-    c.before.stamp-in-range.ensures
-    c.last-values-in-range.ensures
-    set.last-written-set.ensures
-    c.before.before.last-stamp.ensures
+    c.all_below.ensures
+    c.stamp_in_range.ensures
+    c.last_values_in_range.ensures
+    c.last_written_set-set.ensures
+    c.last_stamp.ensures
     (search rules))
 
-pub write-in-range-spec : {M : Type 1} → statement M
-write-in-range-spec =
+pub write_in_range_spec : {M : Type 1} → statement M
+write_in_range_spec =
     tie.close
     (tie.spec
     (λ c κs. search rules)
@@ -31,4 +29,4 @@ write-in-range-spec =
     (λ c κs. search rules)
     (λ c κs. search rules)
     returns
-    (λ c. rw (sym c.before.shows-write.ensures ∙ c.if1.false)))
+    (λ c. rw (sym c.shows_write.ensures ∙ c.if-shows_write.false)))

@@ -8,21 +8,24 @@ use Rattle.range_message.specs.Messages.{gathered_test}
 use Rattle.range_message.proofs.gathered_pass.Statement.{statement}
 use Rattle.range_message.proofs.gathered_pass.Tie as tie
 
-owns-pass-requires : tie.Need-owns-pass-requires
+owns-pass-requires : tie.Need-owns_pass-requires
 owns-pass-requires c κs = search rules
 
-all-below-requires : tie.Need-all-below-requires
+all-below-requires : tie.Need-all_below-requires
 all-below-requires c κs = search rules
 
 returns : tie.Need-returns
 unfolding gathered_test
 returns c =
-    let g = c.before.before.before.before.args.g in
+    let g = c.args.g in
     ap₂ ◌&&◌
     (ap (λ (x : Bool). g.ok && ltb g.values (2 ^ 32) && x)
-    c.before.owns-pass.ensures)
-    c.all-below.ensures
+    c.owns_pass.ensures)
+    c.all_below.ensures
 
-pub gathered-pass-spec : {M : Type 1} → statement M
-gathered-pass-spec =
-    tie.close (tie.spec owns-pass-requires all-below-requires returns)
+pub gathered_pass_spec : {M : Type 1} → statement M
+gathered_pass_spec =
+    tie.close (tie.spec
+    owns-pass-requires
+    all-below-requires
+    returns)

@@ -6,50 +6,49 @@ use Rattle.range_message.proofs.MessageTests.{message-words}
 use Rattle.range_message.proofs.message_gathered.Statement.{statement}
 use Rattle.range_message.proofs.message_gathered.Tie as tie
 
-message-word-requires : tie.Need-message-word-requires
+message-word-requires : tie.Need-message_word-requires
 message-word-requires c κs = search rules
 
-message-word-requires-2 : tie.Need-message-word-requires-2
+message-word-requires-2 : tie.Need-message_word-requires-2
 message-word-requires-2 c κs = search rules
 
-message-word-requires-3 : tie.Need-message-word-requires-3
+message-word-requires-3 : tie.Need-message_word-requires-3
 message-word-requires-3 c κs = search rules
 
-message-word-requires-4 : tie.Need-message-word-requires-4
+message-word-requires-4 : tie.Need-message_word-requires-4
 message-word-requires-4 c κs = search rules
 
-message-word-requires-5 : tie.Need-message-word-requires-5
+message-word-requires-5 : tie.Need-message_word-requires-5
 message-word-requires-5 c κs = search rules
 
-message-word-requires-6 : tie.Need-message-word-requires-6
+message-word-requires-6 : tie.Need-message_word-requires-6
 message-word-requires-6 c κs = search rules
 
-message-word-requires-7 : tie.Need-message-word-requires-7
+message-word-requires-7 : tie.Need-message_word-requires-7
 message-word-requires-7 c κs = search rules
 
-message-word-requires-8 : tie.Need-message-word-requires-8
+message-word-requires-8 : tie.Need-message_word-requires-8
 message-word-requires-8 c κs = search rules
 
-words-gathered-requires : tie.Need-words-gathered-requires
+words-gathered-requires : tie.Need-words_gathered-requires
 words-gathered-requires c κs = search rules
 
 returns : tie.Need-returns
 returns c =
-    let first = c.before.before.before.before.before.before.before.before in
-    let a = first.before.before.args in
+    let a = c.args in
     message-words a.clients a.partitions a.items (omega arith) (omega arith)
-    a.b.now a.i (gathered_test a.items a.g) c.words-gathered.ensures
-    first.message-word.ensures
-    c.before.before.before.before.before.before.before.message-word2.ensures
-    c.before.before.before.before.before.before.message-word3.ensures
-    c.before.before.before.before.before.message-word4.ensures
-    c.before.before.before.before.message-word5.ensures
-    c.before.before.before.message-word6.ensures
-    c.before.before.message-word7.ensures
-    c.before.message-word8.ensures
+    a.b.now a.i (gathered_test a.items a.g) c.words_gathered.ensures
+    c.message_word.ensures
+    c.message_word-2.ensures
+    c.message_word-3.ensures
+    c.message_word-4.ensures
+    c.message_word-5.ensures
+    c.message_word-6.ensures
+    c.message_word-7.ensures
+    c.message_word-8.ensures
 
-pub message-gathered-spec : {M : Type 1} → statement M
-message-gathered-spec =
+pub message_gathered_spec : {M : Type 1} → statement M
+message_gathered_spec =
     tie.close
     (tie.spec
     message-word-requires

@@ -10,46 +10,46 @@ use Rattle.range_message.proofs.Gathering.{gathered_none, gathered_next}
 use Rattle.range_message.proofs.messages_in_range.Statement.{statement}
 use Rattle.range_message.proofs.messages_in_range.Tie as tie
 
-abbrev invariant-loop : tie.invariant-loop
+abbrev invariant-loop : tie.invariant-loop-i
 invariant-loop b n clients partitions items rest g₀ i₀ g i =
     SoFar n (λ i. message_test b i clients partitions items) i (gathered_test items g)
 
-abbrev decreases-loop : tie.decreases-loop
+abbrev decreases-loop : tie.decreases-loop-i
 decreases-loop b n clients partitions items rest g₀ i₀ g i = n - i
 
-returns : tie.Need-returns invariant-loop decreases-loop
+returns : tie.Need-returns-then-n-eq0 invariant-loop decreases-loop
 returns c = tested-all tested-none (omega arith)
 
-rest-requires : tie.Need-rest-requires invariant-loop decreases-loop
+rest-requires : tie.Need-rest-rest-requires invariant-loop decreases-loop
 rest-requires c κs = search rules
 
-loop-holds : tie.Need-loop-init invariant-loop decreases-loop
+loop-holds : tie.Need-loop-i-init invariant-loop decreases-loop
 loop-holds c = gathered_none _
 
-message-gathered-requires : tie.Need-message-gathered-requires invariant-loop decreases-loop
+message-gathered-requires : tie.Need-message_gathered-g-requires invariant-loop decreases-loop
 message-gathered-requires c κs = search rules
 
-add-i : tie.Need-overflow-add-i invariant-loop decreases-loop
+add-i : tie.Need-overflow_add-i invariant-loop decreases-loop
 add-i c = search rules
 
-loop-less : tie.Need-loop-smaller invariant-loop decreases-loop
+loop-less : tie.Need-loop-i-smaller invariant-loop decreases-loop
 loop-less c = search rules
 
-loop-again : tie.Need-loop-preserved invariant-loop decreases-loop
+loop-again : tie.Need-loop-i-preserved invariant-loop decreases-loop
 loop-again c =
-    gathered_next c.before.before.loop.invariant c.before.loop-test.true
-    c.message-gathered.ensures
+    gathered_next c.loop-i.invariant c.loop-i-test.true
+    c.message_gathered-g.ensures
 
-gathered-pass-requires : tie.Need-gathered-pass-requires invariant-loop decreases-loop
+gathered-pass-requires : tie.Need-gathered_pass-requires invariant-loop decreases-loop
 gathered-pass-requires c κs = search rules
 
-returns-2 : tie.Need-returns-2 invariant-loop decreases-loop
+returns-2 : tie.Need-returns invariant-loop decreases-loop
 returns-2 c =
-    c.gathered-pass.ensures
-    ∙ tested-all c.before.before.loop.invariant c.before.loop-test.false
+    c.gathered_pass.ensures
+    ∙ tested-all c.loop-i.invariant c.loop-i-test.false
 
-pub messages-in-range-spec : {M : Type 1} → statement M
-messages-in-range-spec =
+pub messages_in_range_spec : {M : Type 1} → statement M
+messages_in_range_spec =
     tie.close
     (tie.spec
     invariant-loop

@@ -9,44 +9,39 @@ use Rattle.show.proofs.LogFrames.{write_length-le}
 use Rattle.show.proofs.frame_length.Statement.{statement}
 use Rattle.show.proofs.frame_length.Tie as tie
 
-read-le : (c : tie.After-read-length) → c.read_length.result ≤ 584
+read-le : (c : tie.After-read_length) → c.read_length.result ≤ 584
 read-le c =
-    let set = c.before.before.before in
     omega (
       arith,
       c.read_length.ensures,
-      read_length-le c.before.before.last-kind.result set.last_set.result
-          set.last_set.type-inv,
+      read_length-le c.last_kind-kind.result c.last_set-s.result
+          c.last_set-s.type_inv,
     )
 
-write-le : (c : tie.After-write-length) → c.write-length.result ≤ 268
+write-le : (c : tie.After-write_length) → c.write_length.result ≤ 268
 write-le c =
-    let written = c.before.before.before.before.before in
     omega (
       arith,
-      c.write-length.ensures,
-      write_length-le c.before.before.before.last-kind.result written.last-written-set.result
-          written.last-written-set.type-inv,
+      c.write_length.ensures,
+      write_length-le c.last_kind-kind.result c.last_written_set-written.result
+          c.last_written_set-written.type_inv,
     )
 
-returns : tie.Need-returns
+returns : tie.Need-returns-then-kind-eq-NONE
 returns c =
-    let look = c.before in
     sym (ap length
-    (frame_in-nothing _ _ look.last-kind.ensures look.before.last_set.ensures
-    c.if1.true))
+    (frame_in-nothing _ _ c.last_kind-kind.ensures c.last_set-s.ensures
+    c.if-kind-eq-NONE.true))
 
-returns-2 : tie.Need-returns-2
+returns-2 : tie.Need-returns-else-kind-eq-NONE
 returns-2 c =
-    let read = c.before in
-    let look = read.before.before in
-    ap₂ (λ (m n : ℕ). 2 + m + n) read.read_length.ensures c.write-length.ensures
-    ∙ sym (length-frame_in _ _ look.last-kind.ensures look.before.last_set.ensures
-    look.before.before.last-written-set.ensures look.before.last_set.type-inv
-    look.before.before.last-written-set.type-inv read.before.if1.false)
+    ap₂ (λ (m n : ℕ). 2 + m + n) c.read_length.ensures c.write_length.ensures
+    ∙ sym (length-frame_in _ _ c.last_kind-kind.ensures c.last_set-s.ensures
+    c.last_written_set-written.ensures c.last_set-s.type_inv
+    c.last_written_set-written.type_inv c.if-kind-eq-NONE.false)
 
-pub frame-length-spec : {M : Type 1} → statement M
-frame-length-spec =
+pub frame_length_spec : {M : Type 1} → statement M
+frame_length_spec =
     tie.close
     (tie.spec
     (λ c κs. search rules)

@@ -3,12 +3,12 @@ use borrow.Author.Rules.{rules}
 use Rattle.show.proofs.last_answer.Statement.{statement}
 use Rattle.show.proofs.last_answer.Tie as tie
 
-pub last-answer-spec : {M : Type 1} → statement M
-last-answer-spec =
+pub last_answer_spec : {M : Type 1} → statement M
+last_answer_spec =
     tie.close
     (tie.spec
     (λ c κs. search rules)
     (λ c κs. search rules)
     (λ c κs. search rules)
-    (λ c. rw (← c.before.before.last-kind.ensures, ← c.before.last-value.ensures)
-    c.read-value.ensures))
+    (λ c. rw (← c.last_kind-mixed.ensures, ← c.last_value.ensures)
+    c.read_value.ensures))

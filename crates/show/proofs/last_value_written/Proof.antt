@@ -3,12 +3,12 @@ use borrow.Author.Rules.{rules}
 use Rattle.show.proofs.last_value_written.Statement.{statement}
 use Rattle.show.proofs.last_value_written.Tie as tie
 
-pub last-value-written-spec : {M : Type 1} → statement M
-last-value-written-spec =
+pub last_value_written_spec : {M : Type 1} → statement M
+last_value_written_spec =
     tie.close
     (tie.spec
     (λ c κs. search rules)
     (λ c κs. search rules)
     (λ c κs. search rules)
-    (λ c. rw (← c.before.before.last-kind.ensures, ← c.before.last-value.ensures)
-    c.written-value.ensures))
+    (λ c. rw (← c.last_kind-mixed.ensures, ← c.last_value.ensures)
+    c.written_value.ensures))

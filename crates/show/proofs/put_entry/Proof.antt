@@ -37,16 +37,12 @@ joined out first second third at stamp value s v p q r e f =
 
 returns : tie.Need-returns
 returns c =
-    let third = c.before.before in
-    let second = third.before.before.before.before in
-    let first = second.before.before.before.before in
-    let value = first.before.before in
-    joined _ _ _ _ _ _ _ _ _ first.put-bytes.ensures second.put-bytes2.ensures
-    third.put-bytes3.ensures value.before.last-read-stamp.ensures
-    value.last-answer.ensures
+    joined _ _ _ _ _ _ _ _ _ c.put_bytes.ensures c.put_bytes-2.ensures
+    c.put_bytes-3.ensures c.last_read_stamp-stamp.ensures
+    c.last_answer-value.ensures
 
-pub put-entry-spec : {M : Type 1} → statement M
-put-entry-spec =
+pub put_entry_spec : {M : Type 1} → statement M
+put_entry_spec =
     tie.close
     (tie.spec
     (λ c κs. search rules)

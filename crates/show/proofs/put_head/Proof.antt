@@ -5,11 +5,11 @@ use lib.ListN.{length-set}
 use Rattle.show.proofs.put_head.Statement.{statement}
 use Rattle.show.proofs.put_head.Tie as tie
 
-pub put-head-spec : {M : Type 1} → statement M
-put-head-spec =
+pub put_head_spec : {M : Type 1} → statement M
+put_head_spec =
     tie.close
     (tie.spec
     (λ c. search rules)
     (λ c κs. search rules)
-    (λ c. c.before.before.put-bytes.auto.0 ∙ simp length-set)
+    (λ c. c.put_bytes.auto.out ∙ simp length-set)
     (λ c. search rules))

@@ -11,21 +11,17 @@ use Rattle.show.proofs.put_read_item.Tie as tie
 
 -- the item's place among the members
 place : (c : tie.After-rank) → c.rank.result < count
-    c.before.before.before.before.before.before.args.s
+    c.args.s
 place c =
-    let found = c.before.before in
-    rw c.rank.ensures (rank_lt _ _ (sym found.before.has.ensures ∙ found.if1.true))
+    rw c.rank.ensures (rank_lt _ _ (sym c.has.ensures ∙ c.if-has.true))
 
-returns : tie.Need-returns
+returns : tie.Need-returns-then-has
 returns c =
-    let wrote = c.before.before in
-    let ranked = wrote.before in
-    let found = ranked.before.before in
-    rw (sym found.before.has.ensures ∙ found.if1.true, ← ranked.rank.ensures)
-    wrote.put-entry.ensures
+    rw (sym c.has.ensures ∙ c.if-has.true, ← c.rank.ensures)
+    c.put_entry.ensures
 
-pub put-read-item-spec : {M : Type 1} → statement M
-put-read-item-spec =
+pub put_read_item_spec : {M : Type 1} → statement M
+put_read_item_spec =
     tie.close
     (tie.spec
     (λ c κs. search rules)
@@ -35,4 +31,4 @@ put-read-item-spec =
     (λ c κs. omega (arith, place c))
     (λ c. search rules)
     returns
-    (λ c. rw (sym c.before.has.ensures ∙ c.if1.false)))
+    (λ c. rw (sym c.has.ensures ∙ c.if-has.false)))

@@ -5,27 +5,23 @@ use borrow.Author.Rules.{rules}
 use Rattle.show.proofs.put_shown_write.Statement.{statement}
 use Rattle.show.proofs.put_shown_write.Tie as tie
 
-requires : tie.Need-put-write-part-requires
+requires : tie.Need-put_write_part-requires
 requires c κs =
-    let shown = c.before in
-    let start = shown.before.before.before.before in
-    let shows = sym shown.before.shows-write.ensures ∙ shown.if1.true in
-    let room = rw shows at start.requires.2 in
-    (start.requires.0, start.requires.1, omega (arith, room))
+    let shows = sym c.shows_write.ensures ∙ c.if-shows_write.true in
+    let room = rw shows at c.requires.2 in
+    (c.requires.0, c.requires.1, omega (arith, room))
 
-returns : tie.Need-returns
+returns : tie.Need-returns-then-shows_write
 returns c =
-    let wrote = c.before.before in
-    let shown = wrote.before.before in
-    rw (sym shown.before.shows-write.ensures ∙ shown.if1.true)
-    wrote.put-write-part.ensures
+    rw (sym c.shows_write.ensures ∙ c.if-shows_write.true)
+    c.put_write_part.ensures
 
-pub put-shown-write-spec : {M : Type 1} → statement M
-put-shown-write-spec =
+pub put_shown_write_spec : {M : Type 1} → statement M
+put_shown_write_spec =
     tie.close
     (tie.spec
     (λ c κs. search rules)
     requires
     (λ c. search rules)
     returns
-    (λ c. rw (sym c.before.shows-write.ensures ∙ c.if1.false)))
+    (λ c. rw (sym c.shows_write.ensures ∙ c.if-shows_write.false)))

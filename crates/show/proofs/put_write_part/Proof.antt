@@ -27,29 +27,23 @@ joined out first second at s number p q =
     ∙ sets-join out at (at + 8) (big_endian 8 s) (big_endian 4 number)
     (omega (arith, length-big_endian 8 s))
 
-abbrev invariant-loop : tie.invariant-loop
+abbrev invariant-loop : tie.invariant-loop-k
 invariant-loop b d s out₀ at number first k₀ out k =
     Turns (put_item (written_item b d) first 4 s) 64 out₀ out k
 
-abbrev decreases-loop : tie.decreases-loop
+abbrev decreases-loop : tie.decreases-loop-k
 decreases-loop b d s out₀ at number first k₀ out k = 64 - k
 
-loop-again : tie.Need-loop-preserved invariant-loop decreases-loop
+loop-again : tie.Need-loop-k-preserved invariant-loop decreases-loop
 loop-again c =
-    let turn = c.before.before in
-    let test = turn.before.before in
-    turns_next test.before.loop.invariant test.loop-test.true turn.put-written-item.ensures
-    turn.put-written-item.auto.1.1.1.0
+    turns_next c.loop-k.invariant c.loop-k-test.true c.put_written_item.ensures
+    c.put_written_item.auto.out
 
 returns : tie.Need-returns invariant-loop decreases-loop
 returns c =
-    let loop = c.before in
-    let number = loop.before.before.before in
-    let set = number.before.before.before.before in
-    let stamp = set.before.before in
-    let given = stamp.before.before.before.args in
-    let written = big_endian 4 stamp.last-number.result in
-    rw (← stamp.last-number.ensures)
+    let given = c.args in
+    let written = big_endian 4 c.last_number-number.result in
+    rw (← c.last_number-number.ensures)
     (listed-behind (written_item given.b.now given.d) 4
     (length-written_item given.b.now given.d) given.s given.at _ 64
     (big_endian 8 given.s ++ written) given.out.now _ _
@@ -57,14 +51,14 @@ returns c =
       arith,
       length-append (big_endian 8 given.s) written,
       length-big_endian 8 given.s,
-      length-big_endian 4 stamp.last-number.result,
+      length-big_endian 4 c.last_number-number.result,
     ))
-    (joined given.out.now _ _ given.at given.s _ set.put-bytes.ensures
-    number.put-bytes2.ensures)
-    (turns-last loop.loop.invariant c.loop-test.false))
+    (joined given.out.now _ _ given.at given.s _ c.put_bytes.ensures
+    c.put_bytes-2.ensures)
+    (turns-last c.loop-k.invariant c.loop-k-test.false))
 
-pub put-write-part-spec : {M : Type 1} → statement M
-put-write-part-spec =
+pub put_write_part_spec : {M : Type 1} → statement M
+put_write_part_spec =
     tie.close
     (tie.spec
     invariant-loop

@@ -11,26 +11,21 @@ use Rattle.show.proofs.put_written_item.Tie as tie
 
 -- the item's place among the members
 place : (c : tie.After-rank) → c.rank.result < count
-    c.before.before.before.before.before.before.args.s
+    c.args.s
 place c =
-    let found = c.before.before in
-    rw c.rank.ensures (rank_lt _ _ (sym found.before.has.ensures ∙ found.if1.true))
+    rw c.rank.ensures (rank_lt _ _ (sym c.has.ensures ∙ c.if-has.true))
 
-returns : tie.Need-returns
+returns : tie.Need-returns-then-has
 returns c =
-    let wrote = c.before.before in
-    let value = wrote.before in
-    let ranked = value.before in
-    let found = ranked.before.before in
     rw (
-      sym found.before.has.ensures ∙ found.if1.true,
-      ← ranked.rank.ensures,
-      ← value.last-value-written.ensures,
+      sym c.has.ensures ∙ c.if-has.true,
+      ← c.rank.ensures,
+      ← c.last_value_written.ensures,
     )
-    wrote.put-bytes.ensures
+    c.put_bytes.ensures
 
-pub put-written-item-spec : {M : Type 1} → statement M
-put-written-item-spec =
+pub put_written_item_spec : {M : Type 1} → statement M
+put_written_item_spec =
     tie.close
     (tie.spec
     (λ c κs. search rules)
@@ -41,4 +36,4 @@ put-written-item-spec =
     (λ c κs. omega (arith, place c.before))
     (λ c. search rules)
     returns
-    (λ c. rw (sym c.before.has.ensures ∙ c.if1.false)))
+    (λ c. rw (sym c.has.ensures ∙ c.if-has.false)))

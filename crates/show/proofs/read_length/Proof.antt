@@ -9,17 +9,16 @@ use Rattle.show.proofs.read_length.Tie as tie
 
 few : (c : tie.After-count) → c.count.result ≤ 64
 few c =
-    let given = c.before.before.before.args in
+    let given = c.args in
     omega (arith, c.count.ensures, count-le given.s 64 (search rules))
 
-returns : tie.Need-returns
+returns : tie.Need-returns-then-shows_read
 returns c =
-    let shown = c.before in
-    rw (sym shown.before.shows-read.ensures ∙ shown.if1.true)
+    rw (sym c.shows_read.ensures ∙ c.if-shows_read.true)
     (ap (λ (n : ℕ). 8 + 9 * n) c.count.ensures)
 
-pub read-length-spec : {M : Type 1} → statement M
-read-length-spec =
+pub read_length_spec : {M : Type 1} → statement M
+read_length_spec =
     tie.close
     (tie.spec
     (λ c κs. search rules)
@@ -27,4 +26,4 @@ read-length-spec =
     (λ c. omega (arith, few c))
     (λ c. omega (arith, few c))
     returns
-    (λ c. rw (sym c.before.shows-read.ensures ∙ c.if1.false)))
+    (λ c. rw (sym c.shows_read.ensures ∙ c.if-shows_read.false)))

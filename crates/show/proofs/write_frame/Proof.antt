@@ -35,63 +35,48 @@ whole out headed read after frame byte n d behind r w p e q s place f h =
     ∙ sets-front out frame h
 
 -- the output has room for the head and the parts
-long : (c : tie.After-read-length)
-    → let kind = c.before.before.last-kind.result in
-    let set = c.before.before.before.last_set.result in
-    let written = c.before.before.before.before.last-written-set.result in
+long : (c : tie.After-read_length-behind)
+    → let kind = c.last_kind-kind.result in
+    let set = c.last_set-s.result in
+    let written = c.last_written_set-written.result in
     2 + read_length kind set + write_length kind written
-    ≤ length c.before.before.before.before.before.before.before.args.out.now
+    ≤ length c.args.out.now
 long c =
-    let look = c.before.before in
-    let set = look.before in
-    let written = set.before in
-    let start = written.before.before.before in
     omega (
       arith,
-      length-frame_in start.args.b.now start.args.d look.last-kind.ensures
-          set.last_set.ensures written.last-written-set.ensures set.last_set.type-inv
-          written.last-written-set.type-inv c.before.if1.false,
-      start.requires.2,
+      length-frame_in c.args.b.now c.args.d c.last_kind-kind.ensures
+          c.last_set-s.ensures c.last_written_set-written.ensures c.last_set-s.type_inv
+          c.last_written_set-written.type_inv c.if-kind-eq-NONE.false,
+      c.requires.2,
     )
 
-behind-le : (c : tie.After-read-length) → c.read_length.result ≤ 584
+behind-le : (c : tie.After-read_length-behind) → c.read_length-behind.result ≤ 584
 behind-le c =
-    let set = c.before.before.before in
     omega (
       arith,
-      c.read_length.ensures,
-      read_length-le c.before.before.last-kind.result set.last_set.result
-          set.last_set.type-inv,
+      c.read_length-behind.ensures,
+      read_length-le c.last_kind-kind.result c.last_set-s.result
+          c.last_set-s.type_inv,
     )
 
-returns : tie.Need-returns
+returns : tie.Need-returns-then-kind-eq-NONE
 returns c =
-    let look = c.before in
-    none _ _ (frame_in-nothing _ _ look.last-kind.ensures look.before.last_set.ensures
-    c.if1.true)
+    none _ _ (frame_in-nothing _ _ c.last_kind-kind.ensures c.last_set-s.ensures
+    c.if-kind-eq-NONE.true)
 
-returns-2 : tie.Need-returns-2
+returns-2 : tie.Need-returns
 returns-2 c =
-    let wrote = c.before.before in
-    let read = wrote.before.before.before.before in
-    let headed = read.before.before.before.before in
-    let byte = headed.before in
-    let behind = byte.before.before in
-    let look = behind.before.before in
-    let set = look.before in
-    let written = set.before in
-    let start = written.before.before.before in
-    whole start.args.out.now _ _ _ _ _ _ start.args.d _ _ _ headed.put-head.ensures
-    byte.frame_byte.ensures read.put-shown-read.ensures wrote.put-shown-write.ensures
-    (ap (λ (n : ℕ). 2 + n) behind.read_length.ensures
-    ∙ sym (length_before start.args.b.now start.args.d look.last-kind.ensures
-    set.last_set.ensures set.last_set.type-inv))
-    (frame_in-shown start.args.b.now start.args.d look.last-kind.ensures
-    set.last_set.ensures written.last-written-set.ensures behind.before.if1.false)
-    start.requires.2
+    whole c.args.out.now _ _ _ _ _ _ c.args.d _ _ _ c.put_head.ensures
+    c.frame_byte.ensures c.put_shown_read.ensures c.put_shown_write.ensures
+    (ap (λ (n : ℕ). 2 + n) c.read_length-behind.ensures
+    ∙ sym (length_before c.args.b.now c.args.d c.last_kind-kind.ensures
+    c.last_set-s.ensures c.last_set-s.type_inv))
+    (frame_in-shown c.args.b.now c.args.d c.last_kind-kind.ensures
+    c.last_set-s.ensures c.last_written_set-written.ensures c.if-kind-eq-NONE.false)
+    c.requires.2
 
-pub write-frame-spec : {M : Type 1} → statement M
-write-frame-spec =
+pub write_frame_spec : {M : Type 1} → statement M
+write_frame_spec =
     tie.close
     (tie.spec
     (λ c κs. search rules)
@@ -104,8 +89,6 @@ write-frame-spec =
     (λ c κs. omega (arith, long c.before.before))
     (λ c κs. omega (arith, long c.before.before.before.before.before.before))
     (λ c κs.
-    let read = c.before.before.before in
-    let behind = read.before.before.before.before.before.before.before in
-    omega (arith, long behind, behind.read_length.ensures))
+    omega (arith, long c.before.before.before.before.before.before.before.before.before.before, c.read_length-behind.ensures))
     (λ c. search rules)
     returns-2)

@@ -9,17 +9,16 @@ use Rattle.show.proofs.write_length.Tie as tie
 
 few : (c : tie.After-count) → c.count.result ≤ 64
 few c =
-    let given = c.before.before.before.args in
+    let given = c.args in
     omega (arith, c.count.ensures, count-le given.s 64 (search rules))
 
-returns : tie.Need-returns
+returns : tie.Need-returns-then-shows_write
 returns c =
-    let shown = c.before in
-    rw (sym shown.before.shows-write.ensures ∙ shown.if1.true)
+    rw (sym c.shows_write.ensures ∙ c.if-shows_write.true)
     (ap (λ (n : ℕ). 12 + 4 * n) c.count.ensures)
 
-pub write-length-spec : {M : Type 1} → statement M
-write-length-spec =
+pub write_length_spec : {M : Type 1} → statement M
+write_length_spec =
     tie.close
     (tie.spec
     (λ c κs. search rules)
@@ -27,4 +26,4 @@ write-length-spec =
     (λ c. omega (arith, few c))
     (λ c. omega (arith, few c))
     returns
-    (λ c. rw (sym c.before.shows-write.ensures ∙ c.if1.false)))
+    (λ c. rw (sym c.shows_write.ensures ∙ c.if-shows_write.false)))

@@ -9,28 +9,28 @@ use Rattle.start.proofs.Numbers.{greatest-none, greatest-turn}
 use Rattle.start.proofs.greatest.Statement.{statement}
 use Rattle.start.proofs.greatest.Tie as tie
 
-abbrev invariant-loop : tie.invariant-loop
+abbrev invariant-loop : tie.invariant-loop-k
 invariant-loop b d items most₀ k₀ most k = (k ≤ items) × (most ≡ greatest_on b d k)
 
-abbrev decreases-loop : tie.decreases-loop
+abbrev decreases-loop : tie.decreases-loop-k
 decreases-loop b d items most₀ k₀ most k = items - k
 
-loop-holds : tie.Need-loop-init invariant-loop decreases-loop
-loop-holds c = (search rules, c.count.ensures ∙ sym (greatest-none _ _))
+loop-holds : tie.Need-loop-k-init invariant-loop decreases-loop
+loop-holds c = (search rules, c.count-most.ensures ∙ sym (greatest-none _ _))
 
-loop-again : tie.Need-loop-preserved invariant-loop decreases-loop
+loop-again : tie.Need-loop-k-preserved invariant-loop decreases-loop
 loop-again c = (
   search rules,
-  greatest-turn _ _ _ _ _ _ c.before.before.before.loop.invariant.1
-      c.before.seen-stamp.ensures c.later.ensures,
+  greatest-turn _ _ _ _ _ _ c.loop-k.invariant.1
+      c.seen_stamp-stamp.ensures c.later-most.ensures,
 )
 
 returns : tie.Need-returns invariant-loop decreases-loop
-returns c = rw (le_antisymm c.before.loop.invariant.0 c.loop-test.false) at
-    c.before.loop.invariant.1
+returns c = rw (le_antisymm c.loop-k.invariant.0 c.loop-k-test.false) at
+    c.loop-k.invariant.1
 
-pub greatest-spec : {M : Type 1} → statement M
-greatest-spec =
+pub greatest_spec : {M : Type 1} → statement M
+greatest_spec =
     tie.close
     (tie.spec
     invariant-loop

@@ -5,13 +5,10 @@ use Rattle.start.proofs.put_busy.Tie as tie
 
 returns : tie.Need-returns
 returns c =
-    let awaited = c.before.before in
-    let set = awaited.before.before.before.before in
-    let mode = set.before.before.before.before in
-    rw (← mode.put-mode.ensures, ← set.put-set.ensures) awaited.put-awaited.ensures
+    rw (← c.put_mode.ensures, ← c.put_set.ensures) c.put_awaited.ensures
 
-pub put-busy-spec : {M : Type 1} → statement M
-put-busy-spec =
+pub put_busy_spec : {M : Type 1} → statement M
+put_busy_spec =
     tie.close
     (tie.spec
     (λ c κs. search rules)

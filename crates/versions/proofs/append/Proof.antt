@@ -11,26 +11,25 @@ use Rattle.versions.proofs.append.Tie as tie
 put-requires : tie.Need-put-requires
 put-requires c κs = search rules
 
-add-put-version-count : tie.Need-overflow-add-put-version-count
+add-put-version-count : tie.Need-overflow_add-n
 add-put-version-count c = search rules
 
-put-version-count-requires : tie.Need-put-version-count-requires
+put-version-count-requires : tie.Need-put_version_count-requires
 put-version-count-requires c κs = search rules
 
-same_length : tie.Need-same-length
+same_length : tie.Need-shape_of-b
 same_length c = search rules
 
 returns : tie.Need-returns
 unfolding append_version
 returns c =
-    let counted = c.before.before in
-    let n = counted.before.before.before.before.before.before.before.args.n in
-    counted.put-version-count.ensures
+    let n = c.args.n in
+    c.put_version_count.ensures
     ∙ ap (λ (w : List ℕ). store w header versions_at (n + 1))
-    counted.before.before.before.before.put.ensures
+    c.put.ensures
 
-pub append-spec : {M : Type 1} → statement M
-append-spec =
+pub append_spec : {M : Type 1} → statement M
+append_spec =
     tie.close
     (tie.spec
     put-requires

@@ -12,22 +12,26 @@ use Rattle.versions.proofs.is_alike.Tie as tie
 part-requires : tie.Need-part-requires
 part-requires c κs = search rules
 
-part-requires-2 : tie.Need-part-requires-2
+part-requires-2 : tie.Need-part-requires-then-part-stamp
 part-requires-2 c κs = search rules
 
-returns : tie.Need-returns
+returns : tie.Need-returns-then-part-stamp
 returns c =
-    let a = c.before.before.before.before.args in
+    let a = c.args in
     let v = version_in a.b.now a.i in
-    let e : v.stamp ≡ a.stamp = sym c.before.before.part.ensures ∙ c.before.if1.true in
-    ap (λ (k : ℕ). eqb k a.item) c.part2.ensures
+    let e : v.stamp ≡ a.stamp = sym c.part.ensures ∙ c.if-part-stamp.true in
+    ap (λ (k : ℕ). eqb k a.item) c.part-then-part-stamp.ensures
     ∙ sym (alike-stamp v a.item a.stamp e)
 
-returns-2 : tie.Need-returns-2
+returns-2 : tie.Need-returns-else-part-stamp
 returns-2 c =
-    let a = c.before.before.before.args in
+    let a = c.args in
     sym (alike-other (version_in a.b.now a.i) a.item a.stamp
-    (λ e. c.if1.false (c.before.part.ensures ∙ e)))
+    (λ e. c.if-part-stamp.false (c.part.ensures ∙ e)))
 
-pub is-alike-spec : {M : Type 1} → statement M
-is-alike-spec = tie.close (tie.spec part-requires part-requires-2 returns returns-2)
+pub is_alike_spec : {M : Type 1} → statement M
+is_alike_spec = tie.close (tie.spec
+    part-requires
+    part-requires-2
+    returns
+    returns-2)

@@ -11,31 +11,31 @@ use native.Mathlib.Omega.{arith}
 use Rattle.versions.proofs.keep.Statement.{statement}
 use Rattle.versions.proofs.keep.Tie as tie
 
-version-count-requires : tie.Need-version-count-requires
+version-count-requires : tie.Need-version_count-n-requires
 version-count-requires c κs = search rules
 
 append-requires : tie.Need-append-requires
 append-requires c κs = search rules
 
-same_length : tie.Need-same-length
+same_length : tie.Need-shape_of-b-then-n-lt-MOST_VERSIONS
 same_length c = search rules
 
-returns : tie.Need-returns
+returns : tie.Need-returns-then-n-lt-MOST_VERSIONS
 unfolding keep
 returns c =
-    let a = c.before.before.before.before.before.before.before.before.args in
+    let a = c.args in
     when _ _ _ _ (lt-ltb (at a.b.now header versions_at) most_versions (omega arith))
-    (c.before.before.append.ensures
+    (c.append.ensures
     ∙ ap (λ (n : ℕ). append_version a.b.now n a.v)
-    c.before.before.before.before.before.version-count.ensures)
+    c.version_count-n.ensures)
 
-same-length-2 : tie.Need-same-length-2
+same-length-2 : tie.Need-shape_of-b-else-n-lt-MOST_VERSIONS
 same-length-2 c = search rules
 
-returns-2 : tie.Need-returns-2
+returns-2 : tie.Need-returns-else-n-lt-MOST_VERSIONS
 unfolding keep
 returns-2 c =
-    let a = c.before.before.before.before.args in
+    let a = c.args in
     unless _ _ _ _ (le-ltb (at a.b.now header versions_at) most_versions (omega arith)) refl
 
 pub keep_spec : {M : Type 1} → statement M

@@ -4,19 +4,19 @@ use Rattle.layout.specs.Store.{store_version}
 use Rattle.versions.proofs.put.Statement.{statement}
 use Rattle.versions.proofs.put.Tie as tie
 
-mul-put-four : tie.Need-overflow-mul-put-four
+mul-put-four : tie.Need-overflow_mul-i
 mul-put-four c = search rules
 
-add-put-four : tie.Need-overflow-add-put-four
+add-put-four : tie.Need-overflow_add-i
 add-put-four c = search rules
 
-add-put-four-2 : tie.Need-overflow-add-put-four-2
+add-put-four-2 : tie.Need-overflow_add-i-2
 add-put-four-2 c = search rules
 
-put-four-requires : tie.Need-put-four-requires
+put-four-requires : tie.Need-put_four-requires
 put-four-requires c κs = search rules
 
-same_length : tie.Need-same-length
+same_length : tie.Need-shape_of-b
 same_length c = search rules
 
 returns : tie.Need-returns

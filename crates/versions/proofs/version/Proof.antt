@@ -18,9 +18,14 @@ part-requires-4 c κs = search rules
 
 returns : tie.Need-returns
 returns c =
-    same_version c.before.before.before.part.ensures c.before.before.part2.ensures
-    c.before.part3.ensures c.part4.ensures
+    same_version c.part.ensures c.part-2.ensures
+    c.part-3.ensures c.part-4.ensures
 
-pub version-spec : {M : Type 1} → statement M
-version-spec =
-    tie.close (tie.spec part-requires part-requires-2 part-requires-3 part-requires-4 returns)
+pub version_spec : {M : Type 1} → statement M
+version_spec =
+    tie.close (tie.spec
+    part-requires
+    part-requires-2
+    part-requires-3
+    part-requires-4
+    returns)

@@ -7,37 +7,37 @@ use Rattle.range.proofs.CapacityTests.{arrived-other, arrived-come, arrived-mixe
 use Rattle.range.proofs.capacity.arrived_at.Statement.{statement}
 use Rattle.range.proofs.capacity.arrived_at.Tie as tie
 
-returns : tie.Need-returns
+returns : tie.Need-returns-then-mode-lt-WRITING
 returns c = (
-  arrived-other c.before.before.before.args.b.now
-      c.before.before.before.args.d (omega arith) (omega arith) (omega arith),
+  arrived-other c.args.b.now
+      c.args.d (omega arith) (omega arith) (omega arith),
   search rules,
 )
 
-returns-2 : tie.Need-returns-2
+returns-2 : tie.Need-returns-then-mode-le-FIRST_PART
 returns-2 c = (
-  c.come.ensures.0 ∙ arrived-come _ _ _ _ c.before.before.set-of.ensures
-      c.before.awaited.ensures (omega arith) (omega arith),
+  c.come.ensures.0 ∙ arrived-come _ _ _ _ c.set_of.ensures
+      c.awaited.ensures (omega arith) (omega arith),
   c.come.ensures.1,
 )
 
-returns-3 : tie.Need-returns-3
+returns-3 : tie.Need-returns-then-mode-eq-MIXING
 returns-3 c = (
-  c.come2.ensures.0 ∙ arrived-mixed _ _ _ _ c.before.before.write-set.ensures
-      c.before.write-awaited.ensures (omega arith),
-  c.come2.ensures.1,
+  c.come-then-mode-eq-MIXING.ensures.0 ∙ arrived-mixed _ _ _ _ c.write_set.ensures
+      c.write_awaited.ensures (omega arith),
+  c.come-then-mode-eq-MIXING.ensures.1,
 )
 
-returns-4 : tie.Need-returns-4
+returns-4 : tie.Need-returns
 returns-4 c = (
-  arrived-other c.before.before.before.before.before.args.b.now
-      c.before.before.before.before.before.args.d (omega arith) (omega arith)
+  arrived-other c.args.b.now
+      c.args.d (omega arith) (omega arith)
       (omega arith),
   search rules,
 )
 
-pub arrived-at-spec : {M : Type 1} → statement M
-arrived-at-spec =
+pub arrived_at_spec : {M : Type 1} → statement M
+arrived_at_spec =
     tie.close
     (tie.spec
     (λ c κs. search rules)

@@ -6,14 +6,18 @@ use Rattle.layout.specs.Layout.{most_items}
 use Rattle.range.proofs.capacity.come.Statement.{statement}
 use Rattle.range.proofs.capacity.come.Tie as tie
 
-returns : tie.Need-returns
+returns : tie.Need-returns-then-all-left
 returns c = (omega arith, search rules)
 
-returns-2 : tie.Need-returns-2
+returns-2 : tie.Need-returns
 returns-2 c = (
   omega arith,
-  omega (arith, count-le c.before.before.before.args.set most_items (search rules)),
+  omega (arith, count-le c.args.set most_items (search rules)),
 )
 
-pub come-spec : {M : Type 1} → statement M
-come-spec = tie.close (tie.spec (λ c κs. search rules) (λ c κs. search rules) returns returns-2)
+pub come_spec : {M : Type 1} → statement M
+come_spec = tie.close (tie.spec
+    (λ c κs. search rules)
+    (λ c κs. search rules)
+    returns
+    returns-2)

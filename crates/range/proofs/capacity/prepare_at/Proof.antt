@@ -5,22 +5,25 @@ use Rattle.range.proofs.CapacityTests.{prepare-one, prepare-other}
 use Rattle.range.proofs.capacity.prepare_at.Statement.{statement}
 use Rattle.range.proofs.capacity.prepare_at.Tie as tie
 
-message-word-requires : tie.Need-message-word-requires
+message-word-requires : tie.Need-message_word-requires
 message-word-requires c κs = search rules
 
-returns : tie.Need-returns
+returns : tie.Need-returns-then-message_word-eq-PREPARE
 returns c = (
-  prepare-one c.before.before.before.args.b.now c.before.before.before.args.i
-      (sym c.before.message-word.ensures ∙ c.if1.true),
+  prepare-one c.args.b.now c.args.i
+      (sym c.message_word.ensures ∙ c.if-message_word-eq-PREPARE.true),
   search rules,
 )
 
-returns-2 : tie.Need-returns-2
+returns-2 : tie.Need-returns-else-message_word-eq-PREPARE
 returns-2 c = (
-  prepare-other c.before.before.before.args.b.now c.before.before.before.args.i
-      (λ e. c.if1.false (c.before.message-word.ensures ∙ e)),
+  prepare-other c.args.b.now c.args.i
+      (λ e. c.if-message_word-eq-PREPARE.false (c.message_word.ensures ∙ e)),
   search rules,
 )
 
-pub prepare-at-spec : {M : Type 1} → statement M
-prepare-at-spec = tie.close (tie.spec message-word-requires returns returns-2)
+pub prepare_at_spec : {M : Type 1} → statement M
+prepare_at_spec = tie.close (tie.spec
+    message-word-requires
+    returns
+    returns-2)

@@ -10,46 +10,46 @@ use Rattle.range.proofs.Sums.{counted_none, counted_next, at-end}
 use Rattle.range.proofs.capacity.prepares.Statement.{statement}
 use Rattle.range.proofs.capacity.prepares.Tie as tie
 
-abbrev invariant-loop : tie.invariant-loop
+abbrev invariant-loop : tie.invariant-loop-i
 invariant-loop b messages sum₀ i₀ sum i =
     (i ≤ messages) × (sum ≡ counted is_prepare (table i (message_in b))) × (sum ≤ i)
 
-abbrev decreases-loop : tie.decreases-loop
+abbrev decreases-loop : tie.decreases-loop-i
 decreases-loop b messages sum₀ i₀ sum i = messages - i
 
-loop-holds : tie.Need-loop-init invariant-loop decreases-loop
+loop-holds : tie.Need-loop-i-init invariant-loop decreases-loop
 loop-holds c = (search rules, sym (counted_none _ _), search rules)
 
-prepare-at-requires : tie.Need-prepare-at-requires invariant-loop decreases-loop
+prepare-at-requires : tie.Need-prepare_at-sum-requires invariant-loop decreases-loop
 prepare-at-requires c κs = search rules
 
-add-sum : tie.Need-overflow-add-sum invariant-loop decreases-loop
+add-sum : tie.Need-overflow_add-sum invariant-loop decreases-loop
 add-sum c = search rules
 
-add-i : tie.Need-overflow-add-i invariant-loop decreases-loop
+add-i : tie.Need-overflow_add-i invariant-loop decreases-loop
 add-i c = search rules
 
-loop-less : tie.Need-loop-smaller invariant-loop decreases-loop
+loop-less : tie.Need-loop-i-smaller invariant-loop decreases-loop
 loop-less c = search rules
 
-loop-again : tie.Need-loop-preserved invariant-loop decreases-loop
+loop-again : tie.Need-loop-i-preserved invariant-loop decreases-loop
 loop-again c = (
   search rules,
-  counted_next _ _ _ _ _ c.before.before.loop.invariant.1
-      c.prepare-at.ensures.0,
+  counted_next _ _ _ _ _ c.loop-i.invariant.1
+      c.prepare_at-sum.ensures.0,
   search rules,
 )
 
 returns : tie.Need-returns invariant-loop decreases-loop
 returns c = (
-  at-end (λ n. counted is_prepare (table n (message_in c.before.before.before.args.b.now)))
-      c.before.loop.invariant.0 c.loop-test.false
-      c.before.loop.invariant.1,
+  at-end (λ n. counted is_prepare (table n (message_in c.args.b.now)))
+      c.loop-i.invariant.0 c.loop-i-test.false
+      c.loop-i.invariant.1,
   omega arith,
 )
 
-pub prepares-spec : {M : Type 1} → statement M
-prepares-spec =
+pub prepares_spec : {M : Type 1} → statement M
+prepares_spec =
     tie.close
     (tie.spec
     invariant-loop

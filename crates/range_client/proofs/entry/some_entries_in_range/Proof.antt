@@ -13,21 +13,21 @@ use Rattle.range_client.proofs.FirstTests.{entry-tested}
 use Rattle.range_client.proofs.entry.some_entries_in_range.Statement.{statement}
 use Rattle.range_client.proofs.entry.some_entries_in_range.Tie as tie
 
-abbrev invariant-loop : tie.invariant-loop
+abbrev invariant-loop : tie.invariant-loop-k
 invariant-loop b start set but clients items ok₀ k₀ ok k =
     SoFar items (λ k. not (has set k) || has but k
     || entry_in_range (sized clients items) (entry_from b start k)) k ok
 
-abbrev decreases-loop : tie.decreases-loop
+abbrev decreases-loop : tie.decreases-loop-k
 decreases-loop b start set but clients items ok₀ k₀ ok k = items - k
 
-loop-holds : tie.Need-loop-init invariant-loop decreases-loop
+loop-holds : tie.Need-loop-k-init invariant-loop decreases-loop
 loop-holds c = tested-none
 
-entry-word-requires : tie.Need-entry-word-requires invariant-loop decreases-loop
+entry-word-requires : tie.Need-entry_word-stamp-requires invariant-loop decreases-loop
 entry-word-requires c κs = search rules
 
-entry-word-requires-2 : tie.Need-entry-word-requires-2 invariant-loop decreases-loop
+entry-word-requires-2 : tie.Need-entry_word-set_of-requires invariant-loop decreases-loop
 entry-word-requires-2 c κs = search rules
 
 lacks-requires : tie.Need-lacks-requires invariant-loop decreases-loop
@@ -36,31 +36,29 @@ lacks-requires c κs = search rules
 has-requires : tie.Need-has-requires invariant-loop decreases-loop
 has-requires c κs = search rules
 
-entry-in-range-requires : tie.Need-entry-in-range-requires invariant-loop decreases-loop
+entry-in-range-requires : tie.Need-entry_in_range-requires invariant-loop decreases-loop
 entry-in-range-requires c κs = search rules
 
-add-k : tie.Need-overflow-add-k invariant-loop decreases-loop
+add-k : tie.Need-overflow_add-k invariant-loop decreases-loop
 add-k c = search rules
 
-loop-less : tie.Need-loop-smaller invariant-loop decreases-loop
+loop-less : tie.Need-loop-k-smaller invariant-loop decreases-loop
 loop-less c = search rules
 
-loop-again : tie.Need-loop-preserved invariant-loop decreases-loop
+loop-again : tie.Need-loop-k-preserved invariant-loop decreases-loop
 loop-again c =
-    let second = c.before.before.before in
-    let first = second.before in
-    let l = first.before.before.loop in
-    let a = first.before.before.before.before.args in
-    tested-next l.invariant first.before.loop-test.true
-    (ap₂ ◌||◌ (ap₂ ◌||◌ c.before.before.lacks.ensures c.before.has.ensures)
+    let l = c.loop-k in
+    let a = c.args in
+    tested-next l.invariant c.loop-k-test.true
+    (ap₂ ◌||◌ (ap₂ ◌||◌ c.lacks.ensures c.has.ensures)
     (entry-tested a.b.now a.start l.k a.clients a.items
-    c.entry-in-range.ensures first.entry-word.ensures second.entry-word2.ensures))
+    c.entry_in_range.ensures c.entry_word-stamp.ensures c.entry_word-set_of.ensures))
 
 returns : tie.Need-returns invariant-loop decreases-loop
-returns c = tested-all c.before.loop.invariant c.loop-test.false
+returns c = tested-all c.loop-k.invariant c.loop-k-test.false
 
-pub some-entries-in-range-spec : {M : Type 1} → statement M
-some-entries-in-range-spec =
+pub some_entries_in_range_spec : {M : Type 1} → statement M
+some_entries_in_range_spec =
     tie.close
     (tie.spec
     invariant-loop
