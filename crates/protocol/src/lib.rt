@@ -14,7 +14,7 @@ pub mod outcome;
 
 // A version of an item (document 01: line): its value, the stamp of the write that made it, and
 // that write's set.
-#[derive(Drop)]
+#[derive(Clone, Copy)]
 pub struct Version {
     pub item: u64,
     pub value: u64,
@@ -24,7 +24,7 @@ pub struct Version {
 
 // A stamp and its write set: what a client last saw of an item (view), or the item's latest
 // committed write (latest).
-#[derive(Drop)]
+#[derive(Clone, Copy)]
 pub struct Entry {
     pub stamp: u64,
     pub set: u64,
@@ -56,7 +56,7 @@ impl Entry {
 }
 
 // A message in flight (document 01: in the pile); `message_kind` numbers the kinds.
-#[derive(Drop)]
+#[derive(Clone, Copy)]
 pub enum Message {
     Prepare(Version),
     Prepared {
@@ -89,7 +89,7 @@ pub enum Message {
 }
 
 // What a call answers.
-#[derive(Drop)]
+#[derive(Clone, Copy)]
 pub enum Answer {
     Refused(u64),
     Made,

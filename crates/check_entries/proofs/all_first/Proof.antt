@@ -13,47 +13,46 @@ use Rattle.check_entries.proofs.Good.{every-to}
 use Rattle.check_entries.proofs.all_first.Statement.{statement}
 use Rattle.check_entries.proofs.all_first.Tie as tie
 
-abbrev invariant-loop : tie.invariant-loop
+abbrev invariant-loop : tie.invariant-loop-i
 invariant-loop b keys paths n ok₀ i₀ ok i =
     SoFar n (λ i. eqb (place keys (key_in b i)) i) i ok
 
-abbrev decreases-loop : tie.decreases-loop
+abbrev decreases-loop : tie.decreases-loop-i
 decreases-loop b keys paths n ok₀ i₀ ok i = n - i
 
-version-count-requires : tie.Need-version-count-requires invariant-loop decreases-loop
+version-count-requires : tie.Need-version_count-n-requires invariant-loop decreases-loop
 version-count-requires c κs = search rules
 
-loop-holds : tie.Need-loop-init invariant-loop decreases-loop
+loop-holds : tie.Need-loop-i-init invariant-loop decreases-loop
 loop-holds c = tested-none
 
-is-first-alike-requires : tie.Need-is-first-alike-requires invariant-loop decreases-loop
-is-first-alike-requires c κs = let start = c.before.before.before.before.before.before in (
-  start.requires,
+is-first-alike-requires : tie.Need-is_first_alike-ok-requires invariant-loop decreases-loop
+is-first-alike-requires c κs = (
+  c.requires,
   omega (
     arith,
-    c.before.before.version-count.ensures,
-    few start.args.b.now
-        start.requires.valid,
+    c.version_count-n.ensures,
+    few c.args.b.now
+        c.requires.valid,
   ),
 )
 
-add-i : tie.Need-overflow-add-i invariant-loop decreases-loop
+add-i : tie.Need-overflow_add-i invariant-loop decreases-loop
 add-i c = search rules
 
-loop-less : tie.Need-loop-smaller invariant-loop decreases-loop
+loop-less : tie.Need-loop-i-smaller invariant-loop decreases-loop
 loop-less c = search rules
 
-loop-again : tie.Need-loop-preserved invariant-loop decreases-loop
-loop-again c = tested-next c.before.before.loop.invariant c.before.loop-test.true
-    c.is-first-alike.ensures
+loop-again : tie.Need-loop-i-preserved invariant-loop decreases-loop
+loop-again c = tested-next c.loop-i.invariant c.loop-i-test.true
+    c.is_first_alike-ok.ensures
 
 returns : tie.Need-returns invariant-loop decreases-loop
-returns c = let start = c.before.before.before.before.before.before in
-    tested-all c.before.loop.invariant c.loop-test.false
-    ∙ every-to _ c.before.before.version-count.ensures ∙ distinct-keys _ _ _ start.requires
+returns c = tested-all c.loop-i.invariant c.loop-i-test.false
+    ∙ every-to _ c.version_count-n.ensures ∙ distinct-keys _ _ _ c.requires
 
-pub all-first-spec : {M : Type 1} → statement M
-all-first-spec =
+pub all_first_spec : {M : Type 1} → statement M
+all_first_spec =
     tie.close
     (tie.spec
     invariant-loop

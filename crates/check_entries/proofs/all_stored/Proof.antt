@@ -14,91 +14,88 @@ use Rattle.check_entries.proofs.Good.{through_not}
 use Rattle.check_entries.proofs.all_stored.Statement.{statement}
 use Rattle.check_entries.proofs.all_stored.Tie as tie
 
-abbrev invariant-loop : tie.invariant-loop
+abbrev invariant-loop : tie.invariant-loop-k
 invariant-loop b keys paths set stamp items k₀ k =
     Through set (λ k. stored (tables_of b).versions k stamp) k × (k < 64 → has set k ≡ true)
 
-abbrev decreases-loop : tie.decreases-loop
+abbrev decreases-loop : tie.decreases-loop-k
 decreases-loop b keys paths set stamp items k₀ k = items - k
 
-items-requires : tie.Need-items-requires invariant-loop decreases-loop
+items-requires : tie.Need-items-items-requires invariant-loop decreases-loop
 items-requires c κs = search rules
 
-least-from-requires : tie.Need-least-from-requires invariant-loop decreases-loop
+least-from-requires : tie.Need-least_from-k-requires invariant-loop decreases-loop
 least-from-requires c κs = search rules
 
-loop-holds : tie.Need-loop-init invariant-loop decreases-loop
+loop-holds : tie.Need-loop-k-init invariant-loop decreases-loop
 loop-holds c = (
-  through-none _ _ c.least-from.ensures,
-  (λ l. subst (λ (k : ℕ). has c.before.before.before.before.before.args.set k ≡ true)
-      (sym c.least-from.ensures)
-      (least-has 64 c.before.before.before.before.before.args.set 0 (omega (arith, c.least-from.ensures, l)))),
+  through-none _ _ c.least_from-k.ensures,
+  (λ l. subst (λ (k : ℕ). has c.args.set k ≡ true)
+      (sym c.least_from-k.ensures)
+      (least-has 64 c.args.set 0 (omega (arith, c.least_from-k.ensures, l)))),
 )
 
-is-stored-requires : tie.Need-is-stored-requires invariant-loop decreases-loop
+is-stored-requires : tie.Need-is_stored-held-requires invariant-loop decreases-loop
 is-stored-requires c κs =
-    let counted = c.before.before.before in
-    let start = counted.before.before.before.before in (
-      start.requires.0,
+    (
+      c.requires.0,
       omega (
         arith,
-        counted.items.ensures,
-        few-items start.args.b.now start.requires.0.valid,
-        c.loop-test.true,
+        c.items-items.ensures,
+        few-items c.args.b.now c.requires.0.valid,
+        c.loop-k-test.true,
       ),
-      start.requires.1,
+      c.requires.1,
     )
 
-returns : tie.Need-returns invariant-loop decreases-loop
+returns : tie.Need-returns-else-held invariant-loop decreases-loop
 unfolding tables_of
 returns c =
-    let counted = c.before.before.before.before.before in
-    let start = c.before.before.before.before.before.before.before.before.before in
-    let k = c.before.before.before.loop.k in
-    through_not _ _ _ (omega (arith, c.before.before.loop-test.true, counted.items.ensures))
-    (c.before.before.before.loop.invariant.1 (omega (
+    let k = c.loop-k.k in
+    through_not _ _ _ (omega (arith, c.loop-k-test.true, c.items-items.ensures))
+    (c.loop-k.invariant.1 (omega (
       arith,
-      counted.items.ensures,
-      few-items start.args.b.now start.requires.0.valid,
-      c.before.before.loop-test.true,
+      c.items-items.ensures,
+      few-items c.args.b.now c.requires.0.valid,
+      c.loop-k-test.true,
     )))
-    (sym c.before.is-stored.ensures ∙ c.if1.false)
+    (sym c.is_stored-held.ensures ∙ c.if-held.false)
 
-add-least-from : tie.Need-overflow-add-least-from invariant-loop decreases-loop
+add-least-from : tie.Need-overflow_add-k invariant-loop decreases-loop
 add-least-from c = search rules
 
-least-from-requires-2 : tie.Need-least-from-requires-2 invariant-loop decreases-loop
+least-from-requires-2 : tie.Need-least_from-k-requires-then-held invariant-loop decreases-loop
 least-from-requires-2 c κs = search rules
 
-loop-less : tie.Need-loop-smaller invariant-loop decreases-loop
+loop-less : tie.Need-loop-k-smaller invariant-loop decreases-loop
 loop-less c =
-    let k = c.before.before.before.before.loop.k in
+    let k = c.loop-k.k in
     omega (
       arith,
-      c.least-from2.ensures,
-      least-ge (64 - (k + 1)) c.before.before.before.before.before.before.before.before.before.before.args.set (k + 1),
-      c.before.before.before.loop-test.true,
+      c.least_from-k-then-held.ensures,
+      least-ge (64 - (k + 1)) c.args.set (k + 1),
+      c.loop-k-test.true,
     )
 
-loop-again : tie.Need-loop-preserved invariant-loop decreases-loop
+loop-again : tie.Need-loop-k-preserved invariant-loop decreases-loop
 loop-again c =
-    let k = c.before.before.before.before.loop.k in
-    let set = c.before.before.before.before.before.before.before.before.before.before.args.set in (
-      through-next _ _ c.before.before.before.before.loop.invariant.0
-          (sym c.before.before.is-stored.ensures ∙ c.before.if1.true)
-          c.least-from2.ensures,
-      (λ l. subst (λ (j : ℕ). has set j ≡ true) (sym c.least-from2.ensures)
-          (least-has (64 - (k + 1)) set (k + 1) (omega (arith, c.least-from2.ensures, l)))),
+    let k = c.loop-k.k in
+    let set = c.args.set in (
+      through-next _ _ c.loop-k.invariant.0
+          (sym c.is_stored-held.ensures ∙ c.if-held.true)
+          c.least_from-k-then-held.ensures,
+      (λ l. subst (λ (j : ℕ). has set j ≡ true) (sym c.least_from-k-then-held.ensures)
+          (least-has (64 - (k + 1)) set (k + 1) (omega (arith, c.least_from-k-then-held.ensures, l)))),
     )
 
-returns-2 : tie.Need-returns-2 invariant-loop decreases-loop
+returns-2 : tie.Need-returns invariant-loop decreases-loop
 unfolding tables_of
 returns-2 c =
-    through-all _ _ c.before.loop.invariant.0
-    (omega (arith, c.loop-test.false, c.before.before.before.items.ensures))
+    through-all _ _ c.loop-k.invariant.0
+    (omega (arith, c.loop-k-test.false, c.items-items.ensures))
 
-pub all-stored-spec : {M : Type 1} → statement M
-all-stored-spec =
+pub all_stored_spec : {M : Type 1} → statement M
+all_stored_spec =
     tie.close
     (tie.spec
     invariant-loop

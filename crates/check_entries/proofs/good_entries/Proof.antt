@@ -13,45 +13,43 @@ use Rattle.check_entries.proofs.Good.{every-to, entries-are}
 use Rattle.check_entries.proofs.good_entries.Statement.{statement}
 use Rattle.check_entries.proofs.good_entries.Tie as tie
 
-abbrev invariant-loop : tie.invariant-loop
+abbrev invariant-loop : tie.invariant-loop-k
 invariant-loop b stamps links wholes items ok₀ k₀ ok k =
     SoFar items (λ j. good_entry (tables_of b) j ((tables_of b).latest j)
     && every (at b header clients_at)
     (λ i. good_entry (tables_of b) j ((tables_of b).view (suc i) j))) k ok
 
-abbrev decreases-loop : tie.decreases-loop
+abbrev decreases-loop : tie.decreases-loop-k
 decreases-loop b stamps links wholes items ok₀ k₀ ok k = items - k
 
-items-requires : tie.Need-items-requires invariant-loop decreases-loop
+items-requires : tie.Need-items-items-requires invariant-loop decreases-loop
 items-requires c κs = search rules
 
-loop-holds : tie.Need-loop-init invariant-loop decreases-loop
+loop-holds : tie.Need-loop-k-init invariant-loop decreases-loop
 loop-holds c = tested-none
 
-good-item-requires : tie.Need-good-item-requires invariant-loop decreases-loop
+good-item-requires : tie.Need-good_item-ok-requires invariant-loop decreases-loop
 good-item-requires c κs =
-    let start = c.before.before.before.before.before.before.before in
-    (start.requires, omega (arith, c.before.before.items.ensures, c.loop-test.true))
+    (c.requires, omega (arith, c.items-items.ensures, c.loop-k-test.true))
 
-add-k : tie.Need-overflow-add-k invariant-loop decreases-loop
+add-k : tie.Need-overflow_add-k invariant-loop decreases-loop
 add-k c = search rules
 
-loop-less : tie.Need-loop-smaller invariant-loop decreases-loop
+loop-less : tie.Need-loop-k-smaller invariant-loop decreases-loop
 loop-less c = search rules
 
-loop-again : tie.Need-loop-preserved invariant-loop decreases-loop
+loop-again : tie.Need-loop-k-preserved invariant-loop decreases-loop
 loop-again c =
-    tested-next c.before.before.loop.invariant c.before.loop-test.true
-    c.good-item.ensures
+    tested-next c.loop-k.invariant c.loop-k-test.true
+    c.good_item-ok.ensures
 
 returns : tie.Need-returns invariant-loop decreases-loop
 returns c =
-    let l = c.before in
-    tested-all l.loop.invariant c.loop-test.false ∙ every-to _ l.before.items.ensures
+    tested-all c.loop-k.invariant c.loop-k-test.false ∙ every-to _ c.items-items.ensures
     ∙ entries-are _
 
-pub good-entries-spec : {M : Type 1} → statement M
-good-entries-spec =
+pub good_entries_spec : {M : Type 1} → statement M
+good_entries_spec =
     tie.close
     (tie.spec
     invariant-loop

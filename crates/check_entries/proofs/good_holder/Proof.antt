@@ -5,27 +5,32 @@ use Rattle.check_stamps.proofs.Block.{few-clients}
 use Rattle.check_entries.proofs.good_holder.Statement.{statement}
 use Rattle.check_entries.proofs.good_holder.Tie as tie
 
-held-requires : tie.Need-held-requires
+held-requires : tie.Need-held-e-requires
 held-requires c κs = search rules
 
-set-of-stamp-requires : tie.Need-set-of-stamp-requires
+set-of-stamp-requires : tie.Need-set_of_stamp-own-requires
 set-of-stamp-requires c κs = search rules
 
-is-counted-requires : tie.Need-is-counted-requires
-is-counted-requires c κs = let start = c.before.before.before.before.before.before in (
-  c.before.if1.false,
-  read-ranged _ start.requires.valid _ _ c.before.before.held.ensures,
-  few-clients start.args.b.now start.requires.valid,
+is-counted-requires : tie.Need-is_counted-requires
+is-counted-requires c κs = (
+  c.if-stamp-eq0.false,
+  read-ranged _ c.requires.valid _ _ c.held-e.ensures,
+  few-clients c.args.b.now c.requires.valid,
 )
 
-returns : tie.Need-returns
-returns c = read-initial _ _ _ c.before.held.ensures c.if1.true
+returns : tie.Need-returns-then-stamp-eq0
+returns c = read-initial _ _ _ c.held-e.ensures c.if-stamp-eq0.true
 
-returns-2 : tie.Need-returns-2
-returns-2 c = read_some _ _ _ c.before.before.before.held.ensures
-    c.before.set-of-stamp.ensures
-    c.is-counted.ensures
+returns-2 : tie.Need-returns-else-stamp-eq0
+returns-2 c = read_some _ _ _ c.held-e.ensures
+    c.set_of_stamp-own.ensures
+    c.is_counted.ensures
 
-pub good-holder-spec : {M : Type 1} → statement M
-good-holder-spec =
-    tie.close (tie.spec held-requires set-of-stamp-requires is-counted-requires returns returns-2)
+pub good_holder_spec : {M : Type 1} → statement M
+good_holder_spec =
+    tie.close (tie.spec
+    held-requires
+    set-of-stamp-requires
+    is-counted-requires
+    returns
+    returns-2)

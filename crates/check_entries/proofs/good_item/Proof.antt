@@ -9,30 +9,32 @@ use Rattle.check_entries.proofs.Good.{few-items, latest-read, latest-read-ranged
 use Rattle.check_entries.proofs.good_item.Statement.{statement}
 use Rattle.check_entries.proofs.good_item.Tie as tie
 
-latest-requires : tie.Need-latest-requires
+latest-requires : tie.Need-latest-latest-requires
 latest-requires c κs =
-    let start = c.before.before.before.before in
-    omega (arith, start.requires.1, few-items start.args.b.now start.requires.0.held.valid)
+    omega (arith, c.requires.1, few-items c.args.b.now c.requires.0.held.valid)
 
-good-entry-requires : tie.Need-good-entry-requires
+good-entry-requires : tie.Need-good_entry-good-requires
 good-entry-requires c κs =
-    let start = c.before.before.before.before.before in (
-      start.requires.0,
-      latest-read-ranged _ start.requires.0.held.valid _ refl start.requires.1 c.latest.ensures,
+    (
+      c.requires.0,
+      latest-read-ranged _ c.requires.0.held.valid _ refl c.requires.1 c.latest-latest.ensures,
     )
 
-good-seen-requires : tie.Need-good-seen-requires
+good-seen-requires : tie.Need-good_seen-requires
 good-seen-requires c κs = search rules
 
 returns : tie.Need-returns
 returns c =
-    let start = c.before.before.before.before.before.before.before in
-    let e = latest-read _ start.requires.0.held.valid _ refl start.requires.1
-    c.before.before.latest.ensures in
+    let e = latest-read _ c.requires.0.held.valid _ refl c.requires.1
+    c.latest-latest.ensures in
     ap₂ ◌&&◌
-    (c.before.good-entry.ensures ∙ ap (good_entry (tables_of start.args.b.now) _) e)
-    c.good-seen.ensures
+    (c.good_entry-good.ensures ∙ ap (good_entry (tables_of c.args.b.now) _) e)
+    c.good_seen.ensures
 
-pub good-item-spec : {M : Type 1} → statement M
-good-item-spec =
-    tie.close (tie.spec latest-requires good-entry-requires good-seen-requires returns)
+pub good_item_spec : {M : Type 1} → statement M
+good_item_spec =
+    tie.close (tie.spec
+    latest-requires
+    good-entry-requires
+    good-seen-requires
+    returns)

@@ -8,22 +8,25 @@ use Rattle.check_entries.proofs.good_place.Tie as tie
 has-requires : tie.Need-has-requires
 has-requires c κs = search rules
 
-is-whole-requires : tie.Need-is-whole-requires
+is-whole-requires : tie.Need-is_whole-requires
 is-whole-requires c κs = search rules
 
-is-counted-requires : tie.Need-is-counted-requires
+is-counted-requires : tie.Need-is_counted-requires
 is-counted-requires c κs =
-    let start = c.before.before.before.before.before.before in (
-      start.requires.2,
-      start.requires.1,
-      few-clients start.args.b.now start.requires.0.held.valid,
+    (
+      c.requires.2,
+      c.requires.1,
+      few-clients c.args.b.now c.requires.0.held.valid,
     )
 
 returns : tie.Need-returns
 returns c =
-    let start = c.before.before.before.before.before.before.before in
-    ask-some _ _ _ start.requires.2 start.requires.4 c.before.before.has.ensures
-    c.before.is-whole.ensures c.is-counted.ensures
+    ask-some _ _ _ c.requires.2 c.requires.4 c.has.ensures
+    c.is_whole.ensures c.is_counted.ensures
 
-pub good-place-spec : {M : Type 1} → statement M
-good-place-spec = tie.close (tie.spec has-requires is-whole-requires is-counted-requires returns)
+pub good_place_spec : {M : Type 1} → statement M
+good_place_spec = tie.close (tie.spec
+    has-requires
+    is-whole-requires
+    is-counted-requires
+    returns)

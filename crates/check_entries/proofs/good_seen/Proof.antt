@@ -12,65 +12,62 @@ use Rattle.check_entries.proofs.Good.{few-items, every-to, view-read, read-range
 use Rattle.check_entries.proofs.good_seen.Statement.{statement}
 use Rattle.check_entries.proofs.good_seen.Tie as tie
 
-abbrev invariant-loop : tie.invariant-loop
+abbrev invariant-loop : tie.invariant-loop-i
 invariant-loop b stamps links wholes k latest good clients ok₀ i₀ ok i =
     SoFar clients (λ j. good_entry (tables_of b) k ((tables_of b).view (suc j) k)) i ok
 
-abbrev decreases-loop : tie.decreases-loop
+abbrev decreases-loop : tie.decreases-loop-i
 decreases-loop b stamps links wholes k latest good clients ok₀ i₀ ok i = clients - i
 
-clients-requires : tie.Need-clients-requires invariant-loop decreases-loop
+clients-requires : tie.Need-clients-clients-requires invariant-loop decreases-loop
 clients-requires c κs = search rules
 
-loop-holds : tie.Need-loop-init invariant-loop decreases-loop
+loop-holds : tie.Need-loop-i-init invariant-loop decreases-loop
 loop-holds c = tested-none
 
-add-view : tie.Need-overflow-add-view invariant-loop decreases-loop
+add-view : tie.Need-overflow_add-i invariant-loop decreases-loop
 add-view c = search rules
 
-view-requires : tie.Need-view-requires invariant-loop decreases-loop
+view-requires : tie.Need-view-e-requires invariant-loop decreases-loop
 view-requires c κs =
-    let start = c.before.before.before.before.before.before.before in
-    let valid = start.requires.0.held.valid in (
+    let valid = c.requires.0.held.valid in (
       omega arith,
-      omega (arith, c.before.before.clients.ensures, few-clients start.args.b.now valid),
-      omega (arith, start.requires.1, few-items start.args.b.now valid),
+      omega (arith, c.clients-clients.ensures, few-clients c.args.b.now valid),
+      omega (arith, c.requires.1, few-items c.args.b.now valid),
     )
 
-good-like-requires : tie.Need-good-like-requires invariant-loop decreases-loop
+good-like-requires : tie.Need-good_like-ok-requires invariant-loop decreases-loop
 good-like-requires c κs =
-    let start = c.before.before.before.before.before.before.before.before in (
-      start.requires.0,
-      read-ranged _ start.requires.0.held.valid _ refl start.requires.1 _ (omega arith)
-          (omega (arith, c.before.before.before.clients.ensures, c.before.loop-test.true))
-          c.view.ensures,
-      start.requires.2,
+    (
+      c.requires.0,
+      read-ranged _ c.requires.0.held.valid _ refl c.requires.1 _ (omega arith)
+          (omega (arith, c.clients-clients.ensures, c.loop-i-test.true))
+          c.view-e.ensures,
+      c.requires.2,
     )
 
-add-i : tie.Need-overflow-add-i invariant-loop decreases-loop
+add-i : tie.Need-overflow_add-i-in-loop-i invariant-loop decreases-loop
 add-i c = search rules
 
-loop-less : tie.Need-loop-smaller invariant-loop decreases-loop
+loop-less : tie.Need-loop-i-smaller invariant-loop decreases-loop
 loop-less c = search rules
 
-loop-again : tie.Need-loop-preserved invariant-loop decreases-loop
+loop-again : tie.Need-loop-i-preserved invariant-loop decreases-loop
 loop-again c =
-    let start = c.before.before.before.before.before.before.before.before.before in
-    let e = view-read _ start.requires.0.held.valid _ refl start.requires.1 _ (omega arith)
+    let e = view-read _ c.requires.0.held.valid _ refl c.requires.1 _ (omega arith)
     (omega (
       arith,
-      c.before.before.before.before.clients.ensures,
-      c.before.before.loop-test.true,
-    )) c.before.view.ensures in
-    tested-next c.before.before.before.loop.invariant c.before.before.loop-test.true
-    (rw add-one at (c.good-like.ensures ∙ ap (good_entry (tables_of start.args.b.now) _) e))
+      c.clients-clients.ensures,
+      c.loop-i-test.true,
+    )) c.view-e.ensures in
+    tested-next c.loop-i.invariant c.loop-i-test.true
+    (rw add-one at (c.good_like-ok.ensures ∙ ap (good_entry (tables_of c.args.b.now) _) e))
 
 returns : tie.Need-returns invariant-loop decreases-loop
-returns c = let l = c.before in
-    tested-all l.loop.invariant c.loop-test.false ∙ every-to _ l.before.clients.ensures
+returns c = tested-all c.loop-i.invariant c.loop-i-test.false ∙ every-to _ c.clients-clients.ensures
 
-pub good-seen-spec : {M : Type 1} → statement M
-good-seen-spec =
+pub good_seen_spec : {M : Type 1} → statement M
+good_seen_spec =
     tie.close
     (tie.spec
     invariant-loop

@@ -9,22 +9,24 @@ use Rattle.index.specs.Index.{place}
 use Rattle.check_entries.proofs.is_first_alike.Statement.{statement}
 use Rattle.check_entries.proofs.is_first_alike.Tie as tie
 
-mul-find : tie.Need-overflow-mul-find
+mul-find : tie.Need-offset_bounds-keys-i
 mul-find c = search rules
 
-shared-slice-read-find : tie.Need-shared-slice-read-find
+shared-slice-read-find : tie.Need-bounds-keys-i
 shared-slice-read-find c =
-    let start = c.before.before.before.before in
-    omega (arith, start.requires.1, long-keys _ _ _ start.requires.0)
+    omega (arith, c.requires.1, long-keys _ _ _ c.requires.0)
 
 find-requires : tie.Need-find-requires
 find-requires c κs = search rules
 
 returns : tie.Need-returns
 returns c =
-    let start = c.before.before.before.before.before in
-    ap (λ (p : ℕ). eqb p start.args.i) (c.find.ensures
-    ∙ ap (place start.args.keys.now) (own_key _ _ _ start.requires.0 _ start.requires.1))
+    ap (λ (p : ℕ). eqb p c.args.i) (c.find.ensures
+    ∙ ap (place c.args.keys.now) (own_key _ _ _ c.requires.0 _ c.requires.1))
 
-pub is-first-alike-spec : {M : Type 1} → statement M
-is-first-alike-spec = tie.close (tie.spec mul-find shared-slice-read-find find-requires returns)
+pub is_first_alike_spec : {M : Type 1} → statement M
+is_first_alike_spec = tie.close (tie.spec
+    mul-find
+    shared-slice-read-find
+    find-requires
+    returns)

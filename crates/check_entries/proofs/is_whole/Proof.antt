@@ -4,21 +4,23 @@ use borrow.Author.Rules.{rules}
 use Rattle.check_entries.proofs.is_whole.Statement.{statement}
 use Rattle.check_entries.proofs.is_whole.Tie as tie
 
-mul-result : tie.Need-overflow-mul-result
+mul-result : tie.Need-offset_bounds-wholes-p
 mul-result c = search rules
 
-shared-slice-read-result : tie.Need-shared-slice-read-result
+shared-slice-read-result : tie.Need-bounds-wholes-p
 shared-slice-read-result c = search rules
 
-returns : tie.Need-returns
+returns : tie.Need-returns-then-p-wholes
 returns c =
-    let start = c.before.before in
-    look-whole _ _ _ _ start.requires.0 _ start.requires.1 start.requires.2 c.before.if1.true
+    look-whole _ _ _ _ c.requires.0 _ c.requires.1 c.requires.2 c.if-p-wholes.true
 
-returns-2 : tie.Need-returns-2
+returns-2 : tie.Need-returns-else-p-wholes
 returns-2 c =
-    let start = c.before in
-    look-missing _ _ _ _ start.requires.0 _ start.requires.1 start.requires.2 c.if1.false
+    look-missing _ _ _ _ c.requires.0 _ c.requires.1 c.requires.2 c.if-p-wholes.false
 
-pub is-whole-spec : {M : Type 1} → statement M
-is-whole-spec = tie.close (tie.spec mul-result shared-slice-read-result returns returns-2)
+pub is_whole_spec : {M : Type 1} → statement M
+is_whole_spec = tie.close (tie.spec
+    mul-result
+    shared-slice-read-result
+    returns
+    returns-2)

@@ -4,46 +4,42 @@ use borrow.Author.Rules.{rules}
 use Rattle.check_entries.proofs.whole_mark.Statement.{statement}
 use Rattle.check_entries.proofs.whole_mark.Tie as tie
 
-held-requires : tie.Need-held-requires
+held-requires : tie.Need-held-e-requires
 held-requires c κs = search rules
 
-returns : tie.Need-returns
+returns : tie.Need-returns-then-stamp-eq0
 returns c =
-    let start = c.before.before.before.before.before.before.before in
-    mark-none _ _ _ start.requires.0 _ c.before.held.ensures c.if1.true
+    mark-none _ _ _ c.requires.0 _ c.held-e.ensures c.if-stamp-eq0.true
 
-find-requires : tie.Need-find-requires
+find-requires : tie.Need-find-first-requires
 find-requires c κs = search rules
 
-returns-2 : tie.Need-returns-2
+returns-2 : tie.Need-returns-then-first-p
 returns-2 c =
-    let start = c.before.before.before.before.before.before.before.before.before in
-    mark-later _ _ _ start.requires.0 _ c.before.before.before.held.ensures c.before.before.if1.false
-    c.before.find.ensures c.if2.true
+    mark-later _ _ _ c.requires.0 _ c.held-e.ensures c.if-stamp-eq0.false
+    c.find-first.ensures c.if-first-p.true
 
-all-stored-requires : tie.Need-all-stored-requires
+all-stored-requires : tie.Need-all_stored-requires
 all-stored-requires c κs =
-    let start = c.before.before.before.before.before.before.before.before.before in (
-      start.requires.1,
-      held_small _ start.requires.0.valid _ start.requires.2 c.before.before.before.held.ensures,
+    (
+      c.requires.1,
+      held_small _ c.requires.0.valid _ c.requires.2 c.held-e.ensures,
     )
 
-returns-3 : tie.Need-returns-3
+returns-3 : tie.Need-returns-then-all_stored
 returns-3 c =
-    let start = c.before.before.before.before.before.before.before.before.before.before.before in
-    mark-whole _ _ _ start.requires.0 _ c.before.before.before.before.before.held.ensures c.before.before.before.before.if1.false
-    c.before.before.before.find.ensures c.before.before.if2.false start.requires.2 c.before.all-stored.ensures
-    c.if3.true
+    mark-whole _ _ _ c.requires.0 _ c.held-e.ensures c.if-stamp-eq0.false
+    c.find-first.ensures c.if-first-p.false c.requires.2 c.all_stored.ensures
+    c.if-all_stored.true
 
-returns-4 : tie.Need-returns-4
+returns-4 : tie.Need-returns-else-all_stored
 returns-4 c =
-    let start = c.before.before.before.before.before.before.before.before.before.before.before in
-    mark-part _ _ _ start.requires.0 _ c.before.before.before.before.before.held.ensures c.before.before.before.before.if1.false
-    c.before.before.before.find.ensures c.before.before.if2.false start.requires.2 c.before.all-stored.ensures
-    c.if3.false
+    mark-part _ _ _ c.requires.0 _ c.held-e.ensures c.if-stamp-eq0.false
+    c.find-first.ensures c.if-first-p.false c.requires.2 c.all_stored.ensures
+    c.if-all_stored.false
 
-pub whole-mark-spec : {M : Type 1} → statement M
-whole-mark-spec =
+pub whole_mark_spec : {M : Type 1} → statement M
+whole_mark_spec =
     tie.close
     (tie.spec
     held-requires

@@ -4,17 +4,21 @@ use borrow.Author.Rules.{rules}
 use Rattle.check_entries.proofs.whole_or_initial.Statement.{statement}
 use Rattle.check_entries.proofs.whole_or_initial.Tie as tie
 
-find-requires : tie.Need-find-requires
+find-requires : tie.Need-find-p-requires
 find-requires c κs = search rules
 
-is-whole-requires : tie.Need-is-whole-requires
+is-whole-requires : tie.Need-is_whole-requires
 is-whole-requires c κs = search rules
 
-returns : tie.Need-returns
-returns c = initial-whole _ _ c.if1.true
+returns : tie.Need-returns-then-stamp-eq0
+returns c = initial-whole _ _ c.if-stamp-eq0.true
 
-returns-2 : tie.Need-returns-2
-returns-2 c = whole-some _ _ c.before.before.if1.false c.is-whole.ensures
+returns-2 : tie.Need-returns-else-stamp-eq0
+returns-2 c = whole-some _ _ c.if-stamp-eq0.false c.is_whole.ensures
 
-pub whole-or-initial-spec : {M : Type 1} → statement M
-whole-or-initial-spec = tie.close (tie.spec find-requires is-whole-requires returns returns-2)
+pub whole_or_initial_spec : {M : Type 1} → statement M
+whole_or_initial_spec = tie.close (tie.spec
+    find-requires
+    is-whole-requires
+    returns
+    returns-2)

@@ -5,21 +5,16 @@ use Rattle.ends.proofs.end.Tie as tie
 
 returns : tie.Need-returns
 returns c =
-    let awaited = c.before.before in
-    let set = awaited.before.before.before.before in
-    let mode = set.before.before.before.before in
-    let last = mode.before.before.before.before in
-    let kind = last.before.before.before.before in
     rw (
-      ← kind.put-last-kind.ensures,
-      ← last.put-last-set.ensures,
-      ← mode.put-mode.ensures,
-      ← set.put-set.ensures,
+      ← c.put_last_kind.ensures,
+      ← c.put_last_set.ensures,
+      ← c.put_mode.ensures,
+      ← c.put_set.ensures,
     )
-    awaited.put-awaited.ensures
+    c.put_awaited.ensures
 
-pub end-spec : {M : Type 1} → statement M
-end-spec =
+pub end_spec : {M : Type 1} → statement M
+end_spec =
     tie.close
     (tie.spec
     (λ c κs. search rules)

@@ -11,31 +11,35 @@ use borrow.Author.Rules.{rules}
 use Rattle.judge.proofs.judge.Statement.{statement}
 use Rattle.judge.proofs.judge.Tie as tie
 
-long : (c : tie.Then1) → Verdict.TooLong ≡ verdict c.before.before.before.args.log.now
+long : (c : tie.Then-too_long) → Verdict.TooLong ≡ verdict c.args.log.now
 unfolding verdict
-long c = rw (sym c.before.too_long.ensures ∙ c.if1.true)
+long c = rw (sym c.too_long.ensures ∙ c.if-too_long.true)
 
-within : (c : tie.After-judge-within)
-    → c.judge-within.result ≡ verdict c.before.before.before.before.args.log.now
+within : (c : tie.After-judge_within)
+    → c.judge_within.result ≡ verdict c.args.log.now
 unfolding verdict
-within c = rw (sym c.before.before.too_long.ensures ∙ c.before.if1.false)
-    c.judge-within.ensures
+within c = rw (sym c.too_long.ensures ∙ c.if-too_long.false)
+    c.judge_within.ensures
 
 promised : (log : List ℕ) (answer : Verdict) → answer ≡ verdict log → (answer ≡ verdict log)
     × Says log answer
 promised log answer e = (e, subst (λ (v : Verdict). Says log v) (sym e) (says log))
 
-too-long-requires : tie.Need-too-long-requires
+too-long-requires : tie.Need-too_long-requires
 too-long-requires c κs = search rules
 
-returns : tie.Need-returns
+returns : tie.Need-returns-then-too_long
 returns c = promised _ _ (long c)
 
-judge-within-requires : tie.Need-judge-within-requires
-judge-within-requires c κs = sym c.before.too_long.ensures ∙ c.if1.false
+judge-within-requires : tie.Need-judge_within-requires
+judge-within-requires c κs = sym c.too_long.ensures ∙ c.if-too_long.false
 
-returns-2 : tie.Need-returns-2
+returns-2 : tie.Need-returns
 returns-2 c = promised _ _ (within c)
 
-pub judge-spec : {M : Type 1} → statement M
-judge-spec = tie.close (tie.spec too-long-requires returns judge-within-requires returns-2)
+pub judge_spec : {M : Type 1} → statement M
+judge_spec = tie.close (tie.spec
+    too-long-requires
+    returns
+    judge-within-requires
+    returns-2)

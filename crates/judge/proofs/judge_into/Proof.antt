@@ -11,64 +11,62 @@ use Rattle.judge.proofs.judge_into.Statement.{statement}
 use Rattle.judge.proofs.judge_into.Tie as tie
 
 -- what scanning told, in each case
-module _ (c : tie.After-scan) where
+module _ (c : tie.After-scan-scanned) where
   abbrev Told : Scanned → Type 0
-  Told = ScannedOf c.before.before.before.before.before.before.args.log.now
-      c.scan.new.1.0 c.scan.new.1.1.0
+  Told = ScannedOf c.args.log.now
+      c.scan-scanned.new.bytes c.scan-scanned.new.starts
 
-lines : (c : tie.After-scanned)
-    → Told c.before.before.before.before.before.before (Lines c.scanned.given.0.0)
+lines : (c : tie.In-Lines)
+    → Told c.before.before.before.before.before (Lines c.in-Lines.n)
 lines c =
-    let s = c.before.before.before.before.before.before in
-    subst (Told s) c.scanned.given.1 s.scan.ensures
+    subst (Told c.before.before.before.before.before) c.in-Lines.is c.scan-scanned.ensures
 
-bad : (c : tie.After-scanned2)
-    → Told c.before.before.before.before.before.before (Bad c.scanned2.given.0.0)
+bad : (c : tie.In-Bad)
+    → Told c.before.before.before.before.before (Bad c.in-Bad.i)
 bad c =
-    let s = c.before.before.before.before.before.before in
-    subst (Told s) c.scanned2.given.1 s.scan.ensures
+    subst (Told c.before.before.before.before.before) c.in-Bad.is c.scan-scanned.ensures
 
-scan-requires : tie.Need-scan-requires
+scan-requires : tie.Need-scan-scanned-requires
 scan-requires c κs = search rules
 
-enum-known-scanned : tie.Need-enum-known-scanned
+enum-known-scanned : tie.Need-enum_known-scanned
 enum-known-scanned c = search rules
 
-judge-lines-requires : tie.Need-judge-lines-requires
+judge-lines-requires : tie.Need-judge_lines-requires
 judge-lines-requires c κs =
-    let t = lines c.before.before.before in
+    let t = lines c in
     (t.3, lines-small _ _ _ _ t)
 
-enum-known-scanned-2 : tie.Need-enum-known-scanned-2
+enum-known-scanned-2 : tie.Need-enum_known-scanned-in-Bad-1
 enum-known-scanned-2 c = search rules
 
-add-t16 : tie.Need-overflow-add-t16
-add-t16 c = omega (arith, (bad c.before).2)
+add-t16 : tie.Need-overflow_add-result
+add-t16 c = omega (arith, (bad c).2)
 
-cast-t17 : tie.Need-overflow-cast-t17
-cast-t17 c = omega (arith, (bad c.before).2)
+cast-t17 : tie.Need-overflow_cast-result
+cast-t17 c = omega (arith, (bad c).2)
 
-same_length : tie.Need-same-length
+same_length : tie.Need-shape_of-bytes-in-Lines
 same_length c = search rules
 
-same-length-2 : tie.Need-same-length-2
+same-length-2 : tie.Need-shape_of-starts-in-Lines
 same-length-2 c = search rules
 
-returns : tie.Need-returns
-returns c = c.judge-lines.ensures
-    ∙ checked-lines _ _ _ _ (lines c.before.before.before.before)
+returns : tie.Need-returns-in-Lines
+returns c = c.judge_lines.ensures
+    ∙ checked-lines _ _ _ _ (lines c.before)
 
-same-length-3 : tie.Need-same-length-3
+same-length-3 : tie.Need-shape_of-bytes-in-Bad
 same-length-3 c = search rules
 
-same-length-4 : tie.Need-same-length-4
+same-length-4 : tie.Need-shape_of-starts-in-Bad
 same-length-4 c = search rules
 
-returns-2 : tie.Need-returns-2
-returns-2 c = checked-bad _ [] [] _ (bad c.before)
+returns-2 : tie.Need-returns-in-Bad
+returns-2 c = checked-bad _ [] [] _ (bad c)
 
-pub judge-into-spec : {M : Type 1} → statement M
-judge-into-spec =
+pub judge_into_spec : {M : Type 1} → statement M
+judge_into_spec =
     tie.close
     (tie.spec
     scan-requires

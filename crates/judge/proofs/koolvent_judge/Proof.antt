@@ -12,7 +12,10 @@ packed-requires : tie.Need-packed-requires
 packed-requires c κs = search rules
 
 returns : tie.Need-returns
-returns c = c.packed.ensures ∙ ap number_of c.before.judge.ensures.0
+returns c = c.packed.ensures ∙ ap number_of c.judge.ensures.0
 
-pub koolvent-judge-spec : {M : Type 1} → statement M
-koolvent-judge-spec = tie.close (tie.spec judge-requires packed-requires returns)
+pub koolvent_judge_spec : {M : Type 1} → statement M
+koolvent_judge_spec = tie.close (tie.spec
+    judge-requires
+    packed-requires
+    returns)

@@ -7,14 +7,11 @@ use Rattle.start_read.proofs.ask.Tie as tie
 
 returns : tie.Need-returns
 returns c =
-    let asked = c.before.before in
-    let chosen = asked.before.before.before.before in
-    let start = chosen.before.before.before.before in
-    asked-same start.args.b.now _ _ _ _ _ start.requires.0 start.requires.1 start.requires.2
-    asked.ask-items.ensures chosen.choose.ensures
+    asked-same c.args.b.now _ _ _ _ _ c.requires.0 c.requires.1 c.requires.2
+    c.ask_items.ensures c.choose.ensures
 
-pub ask-spec : {M : Type 1} → statement M
-ask-spec =
+pub ask_spec : {M : Type 1} → statement M
+ask_spec =
     tie.close
     (tie.spec
     (λ c. search rules)

@@ -8,36 +8,33 @@ use Rattle.start.specs.Start.{ask_from}
 use Rattle.start_read.proofs.ask_items.Statement.{statement}
 use Rattle.start_read.proofs.ask_items.Tie as tie
 
-abbrev invariant-loop : tie.invariant-loop
+abbrev invariant-loop : tie.invariant-loop-k
 invariant-loop b₀ d s stamps items k₀ b k = Visits s (ask_from d s stamps) items b₀ b k
 
-abbrev decreases-loop : tie.decreases-loop
+abbrev decreases-loop : tie.decreases-loop-k
 decreases-loop b₀ d s stamps items k₀ b k = items - k
 
-loop-less : tie.Need-loop-smaller invariant-loop decreases-loop
+loop-less : tie.Need-loop-k-smaller invariant-loop decreases-loop
 loop-less c =
-    let test = c.before.before.before.before.before in
-    omega (arith, visits-on _ c.least-from2.ensures, test.loop-test.true)
+    omega (arith, visits-on _ c.least_from-k-in-loop-k.ensures, c.loop-k-test.true)
 
-loop-again : tie.Need-loop-preserved invariant-loop decreases-loop
+loop-again : tie.Need-loop-k-preserved invariant-loop decreases-loop
 loop-again c =
-    let turn = c.before.before.before in
-    let test = turn.before.before in
-    visits-next _ (λ x k e. rw e refl) test.before.loop.invariant test.loop-test.true
-    turn.ask-item.ensures turn.ask-item.auto.0 c.least-from2.ensures
+    visits-next _ (λ x k e. rw e refl) c.loop-k.invariant c.loop-k-test.true
+    c.ask_item.ensures c.ask_item.auto.b c.least_from-k-in-loop-k.ensures
 
-pub ask-items-spec : {M : Type 1} → statement M
-ask-items-spec =
+pub ask_items_spec : {M : Type 1} → statement M
+ask_items_spec =
     tie.close
     (tie.spec
     invariant-loop
     decreases-loop
     (λ c κs. search rules)
-    (λ c. visits-first _ (λ x k e. rw e refl) c.least-from.ensures)
+    (λ c. visits-first _ (λ x k e. rw e refl) c.least_from-k.ensures)
     (λ c κs. search rules)
     (λ c. search rules)
     (λ c κs. search rules)
     loop-less
     loop-again
     (λ c. search rules)
-    (λ c. visits-last c.before.loop.invariant c.loop-test.false))
+    (λ c. visits-last c.loop-k.invariant c.loop-k-test.false))

@@ -6,11 +6,13 @@ use Rattle.start_read.proofs.begin.Tie as tie
 
 returns : tie.Need-returns
 returns c =
-    let sent = c.before.before in
-    let set = sent.before.before.before.before in
-    begun-row _ _ _ _ _ _ _ _ set.put-busy.ensures sent.get-items.ensures
+    begun-row _ _ _ _ _ _ _ _ c.put_busy.ensures c.get_items.ensures
 
-pub begin-spec : {M : Type 1} → statement M
-begin-spec =
+pub begin_spec : {M : Type 1} → statement M
+begin_spec =
     tie.close
-    (tie.spec (λ c κs. search rules) (λ c κs. search rules) (λ c. search rules) returns)
+    (tie.spec
+    (λ c κs. search rules)
+    (λ c κs. search rules)
+    (λ c. search rules)
+    returns)

@@ -14,46 +14,43 @@ use Rattle.start.proofs.Kept.{Kept, kept-none, passed-turn}
 use Rattle.start_read.proofs.choose.Statement.{statement}
 use Rattle.start_read.proofs.choose.Tie as tie
 
-abbrev invariant-loop : tie.invariant-loop
-invariant-loop b from all s n stamps₀ kept-stamps₀ kept-sets₀ i₀ stamps kept-stamps Kept-sets i =
+abbrev invariant-loop : tie.invariant-loop-i
+invariant-loop b from all s n stamps₀ kept_stamps₀ kept_sets₀ i₀ stamps kept_stamps kept_sets i =
     (i ≤ n) × (stamps ≡ passed (entries_from b from all s) s i)
-    × Kept (entries_from b from all s) i kept-stamps Kept-sets
+    × Kept (entries_from b from all s) i kept_stamps kept_sets
 
-abbrev decreases-loop : tie.decreases-loop
-decreases-loop b from all s n stamps₀ kept-stamps₀ kept-sets₀ i₀ stamps kept-stamps Kept-sets i = n - i
+abbrev decreases-loop : tie.decreases-loop-i
+decreases-loop b from all s n stamps₀ kept_stamps₀ kept_sets₀ i₀ stamps kept_stamps kept_sets i = n - i
 
-loop-holds : tie.Need-loop-init invariant-loop decreases-loop
+loop-holds : tie.Need-loop-i-init invariant-loop decreases-loop
 loop-holds c =
-    (search rules, c.before.before.requires.3 ∙ turn-first _ _, kept-none _)
+    (search rules, c.requires.3 ∙ turn-first _ _, kept-none _)
 
 raise-requires : tie.Need-raise-requires invariant-loop decreases-loop
 raise-requires c κs =
-    let loop = c.before.before.before.before.before.before.loop in
+    let loop = c.loop-i in
     ap length loop.invariant.1 ∙ (chosen-after _ _ loop.i).long
 
-loop-again : tie.Need-loop-preserved invariant-loop decreases-loop
+loop-again : tie.Need-loop-i-preserved invariant-loop decreases-loop
 loop-again c =
-    let raised = c.before.before in
-    let left = raised.before.before in
-    let seen = left.before.before.before in
-    let loop = seen.before.before.loop in
-    let turn = passed-turn _ _ loop.i _ _ _ _ _ loop.stamps _ loop.kept-stamps
-    loop.Kept-sets (search rules) (search rules) seen.entry-word.ensures
-    left.before.before.entry-word2.ensures left.before.insert.ensures
-    left.unraised.ensures raised.raise.ensures loop.invariant.1 loop.invariant.2 in
+    let loop = c.loop-i in
+    let turn = passed-turn _ _ loop.i _ _ _ _ _ loop.stamps _ loop.kept_stamps
+    loop.kept_sets (search rules) (search rules) c.entry_word-stamp.ensures
+    c.entry_word.ensures c.insert-reached.ensures
+    c.unraised-left.ensures c.raise.ensures loop.invariant.1 loop.invariant.2 in
     (search rules, turn.0, turn.1)
 
-same_length : tie.Need-same-length invariant-loop decreases-loop
+same_length : tie.Need-shape_of-stamps invariant-loop decreases-loop
 same_length c =
-    let blank = c.before.before.before.before.requires.3 in
-    let loop = c.before.loop in
+    let blank = c.requires.3 in
+    let loop = c.loop-i in
     ap length loop.invariant.1 ∙ (chosen-after _ _ loop.i).long
     ∙ sym (ap length blank ∙ length-replicate {A = ℕ} most_items 0)
 
 returns : tie.Need-returns invariant-loop decreases-loop
 returns c =
-    let loop = c.before.loop in
-    rw (turn_last _ _ _ _ _ loop.invariant.1 loop.invariant.0 c.loop-test.false) (chosen-after _ _ _)
+    let loop = c.loop-i in
+    rw (turn_last _ _ _ _ _ loop.invariant.1 loop.invariant.0 c.loop-i-test.false) (chosen-after _ _ _)
 
 pub choose_spec : {M : Type 1} → statement M
 choose_spec =

@@ -5,21 +5,18 @@ use borrow.Author.Rules.{rules}
 use Rattle.start_read.proofs.entry_word.Statement.{statement}
 use Rattle.start_read.proofs.entry_word.Tie as tie
 
-returns : tie.Need-returns
+returns : tie.Need-returns-then-all-has
 returns c =
-    let found = c.before in
-    let test = found.before in
-    rw (ap (λ (x : Bool). test.before.before.args.all || x) (sym test.has.ensures)
-    ∙ found.if1.true) refl
+    rw (ap (λ (x : Bool). c.args.all || x) (sym c.has.ensures)
+    ∙ c.if-all-has.true) refl
 
-returns-2 : tie.Need-returns-2
+returns-2 : tie.Need-returns-else-all-has
 returns-2 c =
-    let test = c.before in
-    rw (ap (λ (x : Bool). test.before.before.args.all || x) (sym test.has.ensures)
-    ∙ c.if1.false) refl
+    rw (ap (λ (x : Bool). c.args.all || x) (sym c.has.ensures)
+    ∙ c.if-all-has.false) refl
 
-pub entry-word-spec : {M : Type 1} → statement M
-entry-word-spec =
+pub entry_word_spec : {M : Type 1} → statement M
+entry_word_spec =
     tie.close
     (tie.spec
     (λ c κs. search rules)

@@ -4,21 +4,17 @@ use borrow.Author.Rules.{rules}
 use Rattle.start_read.proofs.get_item.Statement.{statement}
 use Rattle.start_read.proofs.get_item.Tie as tie
 
-returns : tie.Need-returns
+returns : tie.Need-returns-then-has
 returns c =
-    let sent = c.before.before in
-    let made = sent.before.before in
-    let read = made.before in
-    let found = read.before.before in
     rw (
-      sym found.before.has.ensures ∙ found.if1.true,
-      ← read.asked.ensures,
-      ← made.get-of.ensures,
+      sym c.has.ensures ∙ c.if-has.true,
+      ← c.asked.ensures,
+      ← c.get_of-m.ensures,
     )
-    sent.send.ensures
+    c.send.ensures
 
-pub get-item-spec : {M : Type 1} → statement M
-get-item-spec =
+pub get_item_spec : {M : Type 1} → statement M
+get_item_spec =
     tie.close
     (tie.spec
     (λ c κs. search rules)
@@ -27,4 +23,4 @@ get-item-spec =
     (λ c κs. search rules)
     (λ c. search rules)
     returns
-    (λ c. rw (sym c.before.has.ensures ∙ c.if1.false)))
+    (λ c. rw (sym c.has.ensures ∙ c.if-has.false)))

@@ -2,5 +2,7 @@
 use Rattle.start_read.proofs.get_of.Statement.{statement}
 use Rattle.start_read.proofs.get_of.Tie as tie
 
-pub get-of-spec : {M : Type 1} → statement M
-get-of-spec = tie.close (tie.spec (λ c. rw c.if1.true) (λ c. rw c.if1.false))
+pub get_of_spec : {M : Type 1} → statement M
+get_of_spec = tie.close (tie.spec
+    (λ c. rw c.if-first.true)
+    (λ c. rw c.if-first.false))

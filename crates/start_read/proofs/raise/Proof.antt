@@ -9,31 +9,31 @@ use Rattle.start.proofs.Raised.{Raising, raising-first, raising-least, raising-n
 use Rattle.start_read.proofs.raise.Statement.{statement}
 use Rattle.start_read.proofs.raise.Tie as tie
 
-abbrev invariant-loop : tie.invariant-loop
+abbrev invariant-loop : tie.invariant-loop-left
 invariant-loop stamps₀ set stamp left₀ stamps left = Raising set stamp stamps₀ left stamps
 
-abbrev decreases-loop : tie.decreases-loop
+abbrev decreases-loop : tie.decreases-loop-left
 decreases-loop stamps₀ set stamp left₀ stamps left = left
 
-least : (c : tie.In-loop invariant-loop decreases-loop) → count_trailing_zeros 64 c.before.loop.left < 64
-least c = raising-least c.before.loop.invariant (search rules)
+least : (c : tie.In-loop-left invariant-loop decreases-loop) → count_trailing_zeros 64 c.loop-left.left < 64
+least c = raising-least c.loop-left.invariant (search rules)
 
-loop-less : tie.Need-loop-smaller invariant-loop decreases-loop
+loop-less : tie.Need-loop-left-smaller invariant-loop decreases-loop
 loop-less c =
-    let left = c.before.before.before.loop.left in
+    let left = c.loop-left.left in
     omega (arith, and_le_r left (left - 1))
 
-loop-again : tie.Need-loop-preserved invariant-loop decreases-loop
+loop-again : tie.Need-loop-left-preserved invariant-loop decreases-loop
 loop-again c =
-    raising-next _ c.before.before.before.loop.invariant (search rules) c.later.ensures
+    raising-next _ c.loop-left.invariant (search rules) c.later.ensures
 
-pub raise-spec : {M : Type 1} → statement M
-raise-spec =
+pub raise_spec : {M : Type 1} → statement M
+raise_spec =
     tie.close
     (tie.spec
     invariant-loop
     decreases-loop
-    (λ c. raising-first (search rules) c.before.requires)
+    (λ c. raising-first (search rules) c.requires)
     (λ c. omega (arith, least c))
     (λ c. omega (arith, least c))
     (λ c. omega (arith, least c.before))
@@ -44,4 +44,4 @@ raise-spec =
     loop-less
     loop-again
     (λ c. search rules)
-    (λ c. raising-last c.before.loop.invariant (search rules)))
+    (λ c. raising-last c.loop-left.invariant (search rules)))

@@ -8,16 +8,13 @@ use Rattle.start_read.proofs.start_fast_read.Tie as tie
 
 returns : tie.Need-returns
 returns c =
-    let begun = c.before.before in
-    let asked = begun.before.before.before.before in
-    let start = asked.before.before.before.before in
-    fast-read-started start.args.b.now _ _ _ start.requires.3 _ _
-    (asked-nothing start.args.b.now _ _ _ _ _ start.requires.0 start.requires.1 start.requires.2
-    asked.ask-items.ensures refl)
-    begun.begin.ensures
+    fast-read-started c.args.b.now _ _ _ c.requires.3 _ _
+    (asked-nothing c.args.b.now _ _ _ _ _ c.requires.0 c.requires.1 c.requires.2
+    c.ask_items.ensures refl)
+    c.begin.ensures
 
-pub start-fast-read-spec : {M : Type 1} → statement M
-start-fast-read-spec =
+pub start_fast_read_spec : {M : Type 1} → statement M
+start_fast_read_spec =
     tie.close
     (tie.spec
     (λ c. search rules)

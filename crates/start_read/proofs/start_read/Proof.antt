@@ -6,14 +6,11 @@ use Rattle.start_read.proofs.start_read.Tie as tie
 
 returns : tie.Need-returns
 returns c =
-    let begun = c.before.before in
-    let asked = begun.before.before.before.before in
-    let start = asked.before.before.before in
-    read-started start.args.b.now _ _ _ start.requires.3 _ _ asked.ask.ensures
-    begun.begin.ensures
+    read-started c.args.b.now _ _ _ c.requires.3 _ _ c.ask.ensures
+    c.begin.ensures
 
-pub start-read-spec : {M : Type 1} → statement M
-start-read-spec =
+pub start_read_spec : {M : Type 1} → statement M
+start_read_spec =
     tie.close
     (tie.spec
     (λ c κs. search rules)

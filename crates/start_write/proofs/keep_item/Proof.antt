@@ -10,29 +10,23 @@ use Rattle.start_write.proofs.keep_item.Statement.{statement}
 use Rattle.start_write.proofs.keep_item.Tie as tie
 
 -- the item's place among the members
-place : (c : tie.After-rank) → c.rank.result < count
-    c.before.before.before.before.before.args.s
+place : (c : tie.After-rank-place) → c.rank-place.result < count
+    c.args.s
 place c =
-    let found = c.before in
-    rw c.rank.ensures (rank_lt _ _ (sym found.before.has.ensures ∙ found.if1.true))
+    rw c.rank-place.ensures (rank_lt _ _ (sym c.has.ensures ∙ c.if-has.true))
 
-returns : tie.Need-returns
+returns : tie.Need-returns-then-has
 returns c =
-    let kept = c.before.before in
-    let word = kept.before in
-    let value = word.before.before in
-    let ranked = value.before in
-    let found = ranked.before in
     rw (
-      sym found.before.has.ensures ∙ found.if1.true,
-      ← ranked.rank.ensures,
-      ← value.number_at.ensures,
-      ← word.written-word.ensures,
+      sym c.has.ensures ∙ c.if-has.true,
+      ← c.rank-place.ensures,
+      ← c.number_at-value.ensures,
+      ← c.written_word.ensures,
     )
-    kept.put-value.ensures
+    c.put_value.ensures
 
-pub keep-item-spec : {M : Type 1} → statement M
-keep-item-spec =
+pub keep_item_spec : {M : Type 1} → statement M
+keep_item_spec =
     tie.close
     (tie.spec
     (λ c κs. search rules)
@@ -43,4 +37,4 @@ keep-item-spec =
     (λ c κs. search rules)
     (λ c. search rules)
     returns
-    (λ c. rw (sym c.before.has.ensures ∙ c.if1.false)))
+    (λ c. rw (sym c.has.ensures ∙ c.if-has.false)))

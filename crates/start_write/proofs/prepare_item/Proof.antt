@@ -4,21 +4,17 @@ use borrow.Author.Rules.{rules}
 use Rattle.start_write.proofs.prepare_item.Statement.{statement}
 use Rattle.start_write.proofs.prepare_item.Tie as tie
 
-returns : tie.Need-returns
+returns : tie.Need-returns-then-has
 returns c =
-    let sent = c.before.before in
-    let written = sent.before.before in
-    let kept = written.before in
-    let found = kept.before.before in
     rw (
-      sym found.before.has.ensures ∙ found.if1.true,
-      ← kept.value.ensures,
-      ← written.written-value.ensures,
+      sym c.has.ensures ∙ c.if-has.true,
+      ← c.value.ensures,
+      ← c.written_value-value.ensures,
     )
-    sent.send.ensures
+    c.send.ensures
 
-pub prepare-item-spec : {M : Type 1} → statement M
-prepare-item-spec =
+pub prepare_item_spec : {M : Type 1} → statement M
+prepare_item_spec =
     tie.close
     (tie.spec
     (λ c κs. search rules)
@@ -27,4 +23,4 @@ prepare-item-spec =
     (λ c κs. search rules)
     (λ c. search rules)
     returns
-    (λ c. rw (sym c.before.has.ensures ∙ c.if1.false)))
+    (λ c. rw (sym c.has.ensures ∙ c.if-has.false)))

@@ -9,24 +9,18 @@ use Rattle.start_write.proofs.start_write.Tie as tie
 
 returns : tie.Need-returns
 returns c =
-    let sent = c.before.before in
-    let stamped = sent.before.before.before.before in
-    let counted = stamped.before.before.before.before in
-    let set = counted.before.before.before.before in
-    let kept = set.before.before.before.before in
-    let known = kept.before.before.greatest in
-    let start = kept.before.before.before.before.before.before in
-    write-started start.args.b.now _ _ _ start.requires.3
-    start.args.bytes.now (known.result + 1) _ _ _ _ _
+    let known = c.greatest-number in
+    write-started c.args.b.now _ _ _ c.requires.3
+    c.args.bytes.now (known.result + 1) _ _ _ _ _
     (add-one known.result ∙ ap suc known.ensures)
-    kept.keep-items.ensures
-    set.put-busy.ensures
-    counted.put_count.ensures
-    stamped.put-stamp.ensures
-    sent.prepare-items.ensures
+    c.keep_items.ensures
+    c.put_busy.ensures
+    c.put_count.ensures
+    c.put_stamp.ensures
+    c.prepare_items.ensures
 
-pub start-write-spec : {M : Type 1} → statement M
-start-write-spec =
+pub start_write_spec : {M : Type 1} → statement M
+start_write_spec =
     tie.close
     (tie.spec
     (λ c κs. search rules)

@@ -6,18 +6,12 @@ use Rattle.ends.proofs.mixed.mixed_end.Tie as tie
 
 returns : tie.Need-returns
 returns c =
-    let sent = c.before.before in
-    let kept = sent.before.before.before.before in
-    let found = kept.before.before in
-    let stamp = found.before in
-    let written = stamp.before.before in
-    let set = written.before.before in
-    mixed-row _ _ _ _ _ _ _ _ set.set-of.ensures written.write-set.ensures
-    stamp.stamp.ensures found.touched.ensures kept.mixed-kept.ensures
-    sent.send-commits.ensures
+    mixed-row _ _ _ _ _ _ _ _ c.set_of-r.ensures c.write_set-s.ensures
+    c.stamp-stamp.ensures c.touched-ps.ensures c.mixed_kept.ensures
+    c.send_commits.ensures
 
-pub mixed-end-spec : {M : Type 1} → statement M
-mixed-end-spec =
+pub mixed_end_spec : {M : Type 1} → statement M
+mixed_end_spec =
     tie.close
     (tie.spec
     (λ c κs. search rules)

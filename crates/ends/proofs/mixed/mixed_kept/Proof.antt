@@ -6,18 +6,12 @@ use Rattle.ends.proofs.mixed.mixed_kept.Tie as tie
 
 returns : tie.Need-returns
 returns c =
-    let seen = c.before.before in
-    let set = seen.before.before.before.before in
-    let stamp = set.before.before.before.before in
-    let end = stamp.before.before.before.before in
-    let kept = end.before.before.before.before in
-    let answers = kept.before.before.before.before in
-    mixed-kept-row _ _ _ _ _ _ _ answers.keep-answers.ensures kept.keep-values.ensures
-    end.end.ensures stamp.put-last-stamp.ensures set.put-last-write-set.ensures
-    seen.see.ensures
+    mixed-kept-row _ _ _ _ _ _ _ c.keep_answers.ensures c.keep_values.ensures
+    c.end.ensures c.put_last_stamp.ensures c.put_last_write_set.ensures
+    c.see.ensures
 
-pub mixed-kept-spec : {M : Type 1} → statement M
-mixed-kept-spec =
+pub mixed_kept_spec : {M : Type 1} → statement M
+mixed_kept_spec =
     tie.close
     (tie.spec
     (λ c κs. search rules)

@@ -4,23 +4,18 @@ use borrow.Author.Rules.{rules}
 use Rattle.ends.proofs.read.keep_answer.Statement.{statement}
 use Rattle.ends.proofs.read.keep_answer.Tie as tie
 
-returns : tie.Need-returns
+returns : tie.Need-returns-then-has
 returns c =
-    let valued = c.before.before in
-    let stamped = valued.before.before.before.before in
-    let value = stamped.before.before in
-    let stamp = value.before.before in
-    let found = stamp.before.before in
     rw (
-      sym found.before.has.ensures ∙ found.if1.true,
-      ← stamp.asked.ensures,
-      ← value.value.ensures,
-      ← stamped.put-last-read-stamp.ensures,
+      sym c.has.ensures ∙ c.if-has.true,
+      ← c.asked-stamp.ensures,
+      ← c.value-answer.ensures,
+      ← c.put_last_read_stamp.ensures,
     )
-    valued.put-last-value.ensures
+    c.put_last_value.ensures
 
-pub keep-answer-spec : {M : Type 1} → statement M
-keep-answer-spec =
+pub keep_answer_spec : {M : Type 1} → statement M
+keep_answer_spec =
     tie.close
     (tie.spec
     (λ c κs. search rules)
@@ -30,4 +25,4 @@ keep-answer-spec =
     (λ c κs. search rules)
     (λ c. search rules)
     returns
-    (λ c. rw (sym c.before.has.ensures ∙ c.if1.false)))
+    (λ c. rw (sym c.has.ensures ∙ c.if-has.false)))

@@ -6,21 +6,19 @@ use Rattle.ends.specs.Ends.{keep_answer}
 use Rattle.ends.proofs.read.keep_answers.Statement.{statement}
 use Rattle.ends.proofs.read.keep_answers.Tie as tie
 
-abbrev invariant-loop : tie.invariant-loop
+abbrev invariant-loop : tie.invariant-loop-k
 invariant-loop b₀ items d s k₀ b k = Turns (keep_answer d s) items b₀ b k
 
-abbrev decreases-loop : tie.decreases-loop
+abbrev decreases-loop : tie.decreases-loop-k
 decreases-loop b₀ items d s k₀ b k = items - k
 
-loop-again : tie.Need-loop-preserved invariant-loop decreases-loop
+loop-again : tie.Need-loop-k-preserved invariant-loop decreases-loop
 loop-again c =
-    let turn = c.before.before in
-    let test = turn.before.before in
-    turns_next test.before.loop.invariant test.loop-test.true turn.keep-answer.ensures
-    turn.keep-answer.auto.0
+    turns_next c.loop-k.invariant c.loop-k-test.true c.keep_answer.ensures
+    c.keep_answer.auto.b
 
-pub keep-answers-spec : {M : Type 1} → statement M
-keep-answers-spec =
+pub keep_answers_spec : {M : Type 1} → statement M
+keep_answers_spec =
     tie.close
     (tie.spec
     invariant-loop
@@ -31,4 +29,4 @@ keep-answers-spec =
     (λ c. search rules)
     loop-again
     (λ c. search rules)
-    (λ c. turns-last c.before.loop.invariant c.loop-test.false))
+    (λ c. turns-last c.loop-k.invariant c.loop-k-test.false))

@@ -6,14 +6,11 @@ use Rattle.ends.proofs.read.read_end.Tie as tie
 
 returns : tie.Need-returns
 returns c =
-    let end = c.before.before in
-    let kept = end.before.before.before.before in
-    let kind = kept.before.before in
-    read-row _ _ _ _ _ kind.before.before.before.set-of.ensures kind.before.mode.ensures
-    kind.read-kind.ensures kept.keep-answers.ensures end.end.ensures
+    read-row _ _ _ _ _ c.set_of-s.ensures c.mode.ensures
+    c.read_kind-kind.ensures c.keep_answers.ensures c.end.ensures
 
-pub read-end-spec : {M : Type 1} → statement M
-read-end-spec =
+pub read_end_spec : {M : Type 1} → statement M
+read_end_spec =
     tie.close
     (tie.spec
     (λ c κs. search rules)

@@ -4,16 +4,13 @@ use borrow.Author.Rules.{rules}
 use Rattle.ends.proofs.write.keep_value.Statement.{statement}
 use Rattle.ends.proofs.write.keep_value.Tie as tie
 
-returns : tie.Need-returns
+returns : tie.Need-returns-then-has
 returns c =
-    let stored = c.before.before in
-    let value = stored.before.before in
-    let found = value.before.before in
-    rw (sym found.before.has.ensures ∙ found.if1.true, ← value.value.ensures)
-    stored.put-last-value.ensures
+    rw (sym c.has.ensures ∙ c.if-has.true, ← c.value-written.ensures)
+    c.put_last_value.ensures
 
-pub keep-value-spec : {M : Type 1} → statement M
-keep-value-spec =
+pub keep_value_spec : {M : Type 1} → statement M
+keep_value_spec =
     tie.close
     (tie.spec
     (λ c κs. search rules)
@@ -21,4 +18,4 @@ keep-value-spec =
     (λ c κs. search rules)
     (λ c. search rules)
     returns
-    (λ c. rw (sym c.before.has.ensures ∙ c.if1.false)))
+    (λ c. rw (sym c.has.ensures ∙ c.if-has.false)))

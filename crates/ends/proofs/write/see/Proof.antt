@@ -6,21 +6,19 @@ use Rattle.ends.specs.Ends.{see_item}
 use Rattle.ends.proofs.write.see.Statement.{statement}
 use Rattle.ends.proofs.write.see.Tie as tie
 
-abbrev invariant-loop : tie.invariant-loop
+abbrev invariant-loop : tie.invariant-loop-k
 invariant-loop b₀ items d s stamp k₀ b k = Turns (see_item d s stamp) items b₀ b k
 
-abbrev decreases-loop : tie.decreases-loop
+abbrev decreases-loop : tie.decreases-loop-k
 decreases-loop b₀ items d s stamp k₀ b k = items - k
 
-loop-again : tie.Need-loop-preserved invariant-loop decreases-loop
+loop-again : tie.Need-loop-k-preserved invariant-loop decreases-loop
 loop-again c =
-    let turn = c.before.before in
-    let test = turn.before.before in
-    turns_next test.before.loop.invariant test.loop-test.true turn.see-item.ensures
-    turn.see-item.auto.0
+    turns_next c.loop-k.invariant c.loop-k-test.true c.see_item.ensures
+    c.see_item.auto.b
 
-pub see-spec : {M : Type 1} → statement M
-see-spec =
+pub see_spec : {M : Type 1} → statement M
+see_spec =
     tie.close
     (tie.spec
     invariant-loop
@@ -31,4 +29,4 @@ see-spec =
     (λ c. search rules)
     loop-again
     (λ c. search rules)
-    (λ c. turns-last c.before.loop.invariant c.loop-test.false))
+    (λ c. turns-last c.loop-k.invariant c.loop-k-test.false))

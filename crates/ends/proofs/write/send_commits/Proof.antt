@@ -6,21 +6,19 @@ use Rattle.ends.specs.Ends.{send_commit}
 use Rattle.ends.proofs.write.send_commits.Statement.{statement}
 use Rattle.ends.proofs.write.send_commits.Tie as tie
 
-abbrev invariant-loop : tie.invariant-loop
+abbrev invariant-loop : tie.invariant-loop-p
 invariant-loop b₀ partitions ps stamp p₀ b p = Turns (send_commit ps stamp) partitions b₀ b p
 
-abbrev decreases-loop : tie.decreases-loop
+abbrev decreases-loop : tie.decreases-loop-p
 decreases-loop b₀ partitions ps stamp p₀ b p = partitions - p
 
-loop-again : tie.Need-loop-preserved invariant-loop decreases-loop
+loop-again : tie.Need-loop-p-preserved invariant-loop decreases-loop
 loop-again c =
-    let turn = c.before.before in
-    let test = turn.before.before in
-    turns_next test.before.loop.invariant test.loop-test.true turn.send-commit.ensures
-    turn.send-commit.auto.0
+    turns_next c.loop-p.invariant c.loop-p-test.true c.send_commit.ensures
+    c.send_commit.auto.b
 
-pub send-commits-spec : {M : Type 1} → statement M
-send-commits-spec =
+pub send_commits_spec : {M : Type 1} → statement M
+send_commits_spec =
     tie.close
     (tie.spec
     invariant-loop
@@ -31,4 +29,4 @@ send-commits-spec =
     (λ c. search rules)
     loop-again
     (λ c. search rules)
-    (λ c. turns-last c.before.loop.invariant c.loop-test.false))
+    (λ c. turns-last c.loop-p.invariant c.loop-p-test.false))

@@ -10,28 +10,28 @@ use Rattle.ends.specs.Ends.{touch_item, touched}
 use Rattle.ends.proofs.write.touched.Statement.{statement}
 use Rattle.ends.proofs.write.touched.Tie as tie
 
-abbrev invariant-loop : tie.invariant-loop
+abbrev invariant-loop : tie.invariant-loop-k
 invariant-loop partitions items s ps₀ k₀ ps k = (k ≤ items) × (ps ≡ up_to (touch_item partitions s) 0 k)
 
-abbrev decreases-loop : tie.decreases-loop
+abbrev decreases-loop : tie.decreases-loop-k
 decreases-loop partitions items s ps₀ k₀ ps k = items - k
 
-loop-holds : tie.Need-loop-init invariant-loop decreases-loop
+loop-holds : tie.Need-loop-k-init invariant-loop decreases-loop
 loop-holds c = (omega arith, turn-first _ _)
 
-loop-again : tie.Need-loop-preserved invariant-loop decreases-loop
+loop-again : tie.Need-loop-k-preserved invariant-loop decreases-loop
 loop-again c =
-    let at = c.before.before.loop in
-    let call = c.touch-item in
+    let at = c.loop-k in
+    let call = c.touch_item-ps in
     (omega arith, turn-next _ _ _ _ _ at.invariant.1 call.ensures)
 
 returns : tie.Need-returns invariant-loop decreases-loop
 unfolding touched
-returns c = let at = c.before.loop in
-    turn_last _ _ _ _ _ at.invariant.1 at.invariant.0 c.loop-test.false
+returns c = let at = c.loop-k in
+    turn_last _ _ _ _ _ at.invariant.1 at.invariant.0 c.loop-k-test.false
 
-pub touched-spec : {M : Type 1} → statement M
-touched-spec =
+pub touched_spec : {M : Type 1} → statement M
+touched_spec =
     tie.close
     (tie.spec
     invariant-loop

@@ -7,13 +7,13 @@ use Rattle.ends.proofs.write.write_end.Tie as tie
 returns : tie.Need-returns
 returns c =
     write-row _ _ _ _ _ _ _
-    c.before.before.before.before.before.before.before.before.before.set-of.ensures
-    c.before.before.before.before.before.before.before.before.touched.ensures
-    c.before.before.before.before.before.before.write-Kept.ensures
-    c.before.before.send-commits.ensures
+    c.set_of-s.ensures
+    c.touched-ps.ensures
+    c.write_kept.ensures
+    c.send_commits.ensures
 
-pub write-end-spec : {M : Type 1} → statement M
-write-end-spec =
+pub write_end_spec : {M : Type 1} → statement M
+write_end_spec =
     tie.close
     (tie.spec
     (λ c κs. search rules)

@@ -6,15 +6,11 @@ use Rattle.ends.proofs.write.write_kept.Tie as tie
 
 returns : tie.Need-returns
 returns c =
-    let stamp = c.before.before in
-    let end = stamp.before.before.before.before in
-    let kept = end.before.before.before.before in
-    let seen = kept.before.before.before.before in
-    kept_row _ _ _ _ _ _ seen.see.ensures kept.keep-values.ensures end.end.ensures
-    stamp.put-last-stamp.ensures
+    kept_row _ _ _ _ _ _ c.see.ensures c.keep_values.ensures c.end.ensures
+    c.put_last_stamp.ensures
 
-pub write-kept-spec : {M : Type 1} → statement M
-write-kept-spec =
+pub write_kept_spec : {M : Type 1} → statement M
+write_kept_spec =
     tie.close
     (tie.spec
     (λ c κs. search rules)

@@ -55,7 +55,7 @@ At N = N invariant-writes decreases-writes invariant-shown decreases-shown invar
 
 -- ---- a line
 
-module _ (c : At tie.After-client) where
+module _ (c : At tie.After-client-of) where
   abbrev start : At tie.Start
   start = c.before.before.before.before.before.before.before.before.before
 
@@ -75,16 +75,16 @@ module _ (c : At tie.After-client) where
   m = start.args.m
 
   gathered : Gathered bytes starts n table m
-  gathered = start.pre.0.gathered
+  gathered = start.requires.0.gathered
 
   abbrev line : ℕ
-  line = c.before.before.before.before.lines.i
+  line = c.lines.i
 
   below : line < n
-  below = c.before.before.before.lines-test.true
+  below = c.lines-test.true
 
-  owned : Owned bytes starts n line c.before.before.before.before.lines.owners
-  owned = c.before.before.before.before.lines.invariant.3
+  owned : Owned bytes starts n line c.lines.owners
+  owned = c.lines.invariant.3
 
 -- no item of a line is at fault: the next line
 next-line : (c : At tie.After-shown)
@@ -95,21 +95,20 @@ next-line : (c : At tie.After-shown)
     (fault_at (frames_in (bytes c.before.before) (starts c.before.before)
     (n c.before.before)))
 next-line c =
-    let l = c.before.before in
-    let clean : fault_at (frames_in (bytes l) (starts l) (n l)) (line l) ≡ false =
-    sym (fault-search (bytes l) (starts l) (n l) (line l) (below l))
-    ∙ sym c.before.shown.invariant.0 ∙ some_from-end 64 _ _ c.shown-test.false in
-    sym (first_from-next (n l) (line l) _ (below l) clean)
-    ∙ l.before.before.before.before.lines.invariant.0
+    let clean : fault_at (frames_in (bytes c.before.before) (starts c.before.before) (n c.before.before)) (line c.before.before) ≡ false =
+    sym (fault-search (bytes c.before.before) (starts c.before.before) (n c.before.before) (line c.before.before) (below c.before.before))
+    ∙ sym c.shown.invariant.0 ∙ some_from-end 64 _ _ c.shown-test.false in
+    sym (first_from-next (n c.before.before) (line c.before.before) _ (below c.before.before) clean)
+    ∙ c.lines.invariant.0
 
 -- ---- an item
 
 module _ (c : At tie.In-shown) where
-  abbrev of-line : At tie.After-client
+  abbrev of-line : At tie.After-client-of
   of-line = c.before.before
 
   abbrev item : ℕ
-  item = c.before.shown.k
+  item = c.shown.k
 
   -- it is at fault: so is the line
   found : item_fault (bytes of-line) (starts of-line) (n of-line) (line of-line) item ≡ true
@@ -119,27 +118,27 @@ module _ (c : At tie.In-shown) where
       let fault : fault_at (frames_in (bytes of-line) (starts of-line) (n of-line))
       (line of-line) ≡ true =
       sym (fault-search (bytes of-line) (starts of-line) (n of-line) (line of-line) (below of-line))
-      ∙ sym c.before.shown.invariant.0 ∙ some_from-here 64 item _ c.shown-test.true e in
+      ∙ sym c.shown.invariant.0 ∙ some_from-here 64 item _ c.shown-test.true e in
       sym (first_from-here (n of-line) (line of-line) _ (below of-line) fault)
-      ∙ of-line.before.before.before.before.lines.inv.0
+      ∙ of-line.lines.invariant.0
 
   -- it isn't: the next item
   next-item : item_fault (bytes of-line) (starts of-line) (n of-line) (line of-line) item ≡ false
       → some_from (64 - (item + 1)) (item + 1)
       (item_fault (bytes of-line) (starts of-line) (n of-line) (line of-line)) ≡ some_from 64 0
       (item_fault (bytes of-line) (starts of-line) (n of-line) (line of-line))
-  next-item e = sym (some_from-next 64 item _ c.shown-test.true e) ∙ c.before.shown.invariant.0
+  next-item e = sym (some_from-next 64 item _ c.shown-test.true e) ∙ c.shown.invariant.0
 
-not-shown : (c : At tie.Else1) → item_fault (bytes (of-line c.before.before))
+not-shown : (c : At tie.Else-has) → item_fault (bytes (of-line c.before.before))
     (starts (of-line c.before.before)) (n (of-line c.before.before))
     (line (of-line c.before.before)) (item c.before.before) ≡ false
 not-shown c =
     let l = of-line c.before.before in
     item-not (bytes l) (starts l) (n l) _ _ (gathered l) (line l) (item c.before.before) _
-    l.before.before.frame.ensures _ l.before.shown2.ensures
-    _ c.before.has.ensures c.if1.false
+    l.frame-r.ensures _ l.shown-items.ensures
+    _ c.has.ensures c.if-has.false
 
-unwritten : (c : At tie.Then2) → item_fault
+unwritten : (c : At tie.Then-is_unwritten) → item_fault
     (bytes (of-line c.before.before.before.before.before.before))
     (starts (of-line c.before.before.before.before.before.before))
     (n (of-line c.before.before.before.before.before.before))
@@ -149,15 +148,15 @@ unwritten c =
     let l = of-line c.before.before.before.before.before.before in
     item-unwritten (bytes l) (starts l) (n l) _ _ (gathered l) (line l)
     (item c.before.before.before.before.before.before) _
-    l.before.before.frame.ensures _ _ _ l.before.shown2.ensures
-    _ c.before.before.before.before.before.has.ensures
-    c.before.before.before.before.if1.true
-    c.before.before.before.shown-stamp.ensures c.before.before.shown-value.ensures
-    _ c.before.is-unwritten.ensures c.if2.true
+    l.frame-r.ensures _ _ _ l.shown-items.ensures
+    _ c.has.ensures
+    c.if-has.true
+    c.shown_stamp-stamp.ensures c.shown_value-value.ensures
+    _ c.is_unwritten.ensures c.if-is_unwritten.true
 
 -- ---- the writes
 
-module _ (c : At tie.Else2) where
+module _ (c : At tie.Else-is_unwritten) where
   abbrev of-item : At tie.In-shown
   of-item = c.before.before.before.before.before.before
 
@@ -169,119 +168,119 @@ module _ (c : At tie.Else2) where
   writes =
       let l = of-line of-item in
       item-writes (bytes l) (starts l) (n l) _ _ (gathered l) (line l) (item of-item) _
-      l.before.before.frame.ensures _ _ _ l.before.shown2.ensures
-      _ c.before.before.before.before.before.has.ensures
-      c.before.before.before.before.if1.true
-      c.before.before.before.shown-stamp.ensures c.before.before.shown-value.ensures
-      _ c.before.is-unwritten.ensures c.if2.false
+      l.frame-r.ensures _ _ _ l.shown-items.ensures
+      _ c.has.ensures
+      c.if-has.true
+      c.shown_stamp-stamp.ensures c.shown_value-value.ensures
+      _ c.is_unwritten.ensures c.if-is_unwritten.false
 
 no_writes : (c : At tie.After-writes)
     → item_fault (bytes (of-line (of-item c.before.before)))
     (starts (of-line (of-item c.before.before))) (n (of-line (of-item c.before.before)))
     (line (of-line (of-item c.before.before)))
     (item (of-item c.before.before)) ≡ false
-no_writes c = writes c.before.before ∙ sym c.before.writes.invariant.0
+no_writes c = writes c.before.before ∙ sym c.writes.invariant.0
     ∙ some_from-end _ _ _ c.writes-test.false
 
-module _ (c : At tie.After-faults-at) where
-  abbrev of-write : At tie.Else2
-  of-write = c.before.before.before.before
+module _ (c : At tie.After-faults_at) where
+  abbrev of-write : At tie.Else-is_unwritten
+  of-write = c.before.before.before
 
-  abbrev of-read : At tie.After-client
+  abbrev of-read : At tie.After-client-of
   of-read = of-line (of-item of-write)
 
   abbrev write : ℕ
-  write = c.before.before.before.writes.j
+  write = c.writes.j
 
   inside : write < m of-read
-  inside = c.before.before.writes-test.true
+  inside = c.writes-test.true
 
   -- the test of one write
   abbrev fault : ℕ → Bool
   fault w = write_fault (bytes of-read) (starts of-read) (n of-read) (line of-read)
       (item (of-item of-write)) (line_of (table of-read) w)
 
-  tested : fault write ≡ c.faults-at.result
+  tested : fault write ≡ c.faults_at.result
   tested =
       let e = (gathered of-read).entries.entry write inside in
       write-fault (bytes of-read) (starts of-read) (n of-read) _ _ (gathered of-read) (line of-read)
-      (item (of-item of-write)) _ of-read.before.before.frame.ensures _ _ _ _ _ _
+      (item (of-item of-write)) _ of-read.frame-r.ensures _ _ _ _ _ _
       ((owned of-read).held _ ((gathered of-read).within write inside)) e.items e.stamp
-      of-read.client.ensures.0 of-write.before.before.before.shown-stamp.ensures
-      ∙ sym c.faults-at.ensures
+      of-read.client-of.ensures.0 of-write.shown_stamp-stamp.ensures
+      ∙ sym c.faults_at.ensures
 
-  next-write : c.faults-at.result ≡ false
+  next-write : c.faults_at.result ≡ false
       → some_from (m of-read - (write + 1)) (write + 1) fault ≡ some_from (m of-read) 0 fault
   next-write e = sym (some_from-next _ write _ inside (tested ∙ e))
-      ∙ c.before.before.before.writes.invariant.0
+      ∙ c.writes.invariant.0
 
-by-write : (c : At tie.Then3) → item_fault (bytes (of-read c.before))
+by-write : (c : At tie.Then-faults_at) → item_fault (bytes (of-read c.before))
     (starts (of-read c.before)) (n (of-read c.before)) (line (of-read c.before))
     (item (of-item (of-write c.before))) ≡ true
 by-write c =
-    writes (of-write c.before) ∙ sym c.before.before.before.before.writes.invariant.0
+    writes (of-write c.before) ∙ sym c.writes.invariant.0
     ∙ some_from-here _ (write c.before) _ (inside c.before)
-    (tested c.before ∙ c.if3.true)
+    (tested c.before ∙ c.if-faults_at.true)
 
 -- ---- the needs
 
 lines-holds : At tie.Need-lines-init
-lines-holds c = (rw sub-zero, refl, omega arith, c.before.before.before.before.requires.1, refl)
+lines-holds c = (rw sub-zero, refl, omega arith, c.requires.1, refl)
 
-add-i : At tie.Need-overflow-add-i
+add-i : At tie.Need-overflow_add-i
 add-i c = search rules
 
-frame-requires : At tie.Need-frame-requires
+frame-requires : At tie.Need-frame-r-requires
 frame-requires c κs = search rules
 
-shown-requires : At tie.Need-shown-requires
+shown-requires : At tie.Need-shown-items-requires
 shown-requires c κs = search rules
 
-client-requires : At tie.Need-client-requires
+client-requires : At tie.Need-client-of-requires
 client-requires c κs = search rules
 
 shown-holds : At tie.Need-shown-init
-shown-holds c = (refl, c.before.before.before.before.lines.invariant.1)
+shown-holds c = (refl, c.lines.invariant.1)
 
-add-k : At tie.Need-overflow-add-k
+add-k : At tie.Need-overflow_add-k
 add-k c = search rules
 
 has-requires : At tie.Need-has-requires
 has-requires c κs = search rules
 
-shown-stamp-requires : At tie.Need-shown-stamp-requires
+shown-stamp-requires : At tie.Need-shown_stamp-stamp-requires
 shown-stamp-requires c κs = search rules
 
-shown-value-requires : At tie.Need-shown-value-requires
+shown-value-requires : At tie.Need-shown_value-value-requires
 shown-value-requires c κs = search rules
 
-is-unwritten-requires : At tie.Need-is-unwritten-requires
+is-unwritten-requires : At tie.Need-is_unwritten-requires
 is-unwritten-requires c κs = search rules
 
 writes-holds : At tie.Need-writes-init
 writes-holds c = (
   rw sub-zero,
-  c.before.before.before.before.before.before.before.shown.invariant.1,
+  c.shown.invariant.1,
 )
 
 shown-less : At tie.Need-shown-smaller
 shown-less c = search rules
 
 shown-again : At tie.Need-shown-preserved
-shown-again c = (next-item (of-item c.before.before) (no_writes c), c.before.writes.invariant.1)
+shown-again c = (next-item (of-item c.before.before) (no_writes c), c.writes.invariant.1)
 
-add-j : At tie.Need-overflow-add-j
+add-j : At tie.Need-overflow_add-j
 add-j c = search rules
 
-faults-at-requires : At tie.Need-faults-at-requires
+faults-at-requires : At tie.Need-faults_at-requires
 faults-at-requires c κs =
-    let l = of-line (of-item c.before.before.before) in
-    let t = (start l).pre.0 in
-    let inside = c.before.writes-test.true in (
+    let l = of-line (of-item c.before.before) in
+    let t = (start l).requires.0 in
+    let inside = c.writes-test.true in (
       omega (arith, t.gathered.entries.long, inside),
       omega (
         arith,
-        t.gathered.within c.before.before.writes.j inside,
+        t.gathered.within c.writes.j inside,
         (owned l).long,
       ),
     )
@@ -291,25 +290,25 @@ writes-less c = search rules
 
 writes_again : At tie.Need-writes-preserved
 writes_again c = (
-  next-write c.before c.if3.false,
-  c.before.before.before.before.writes.invariant.1,
+  next-write c.before c.if-faults_at.false,
+  c.writes.invariant.1,
 )
 
-shown-less-2 : At tie.Need-shown-smaller-2
+shown-less-2 : At tie.Need-shown-smaller-else-has
 shown-less-2 c = search rules
 
-shown-again-2 : At tie.Need-shown-preserved-2
+shown-again-2 : At tie.Need-shown-preserved-else-has
 shown-again-2 c = (
   next-item c.before.before (not-shown c),
-  c.before.before.before.shown.invariant.1,
+  c.shown.invariant.1,
 )
 
-pass-line-requires : At tie.Need-pass-line-requires
+pass-line-requires : At tie.Need-pass_line-requires
 pass-line-requires c κs =
-    let l = c.before.before.before in (
-      omega (arith, (owned l).long, below l),
-      subst SmallClients (sym l.before.before.frame.ensures)
-          ((start l).requires.0.small (line l) (below l)),
+    (
+      omega (arith, (owned c.before.before.before).long, below c.before.before.before),
+      subst SmallClients (sym c.frame-r.ensures)
+          ((start c.before.before.before).requires.0.small (line c.before.before.before) (below c.before.before.before)),
     )
 
 lines-less : At tie.Need-lines-smaller
@@ -317,51 +316,47 @@ lines-less c = search rules
 
 lines-again : At tie.Need-lines-preserved
 lines-again c =
-    let p = c.before.before in
-    let s = p.before.before in
-    let l = s.before.before in
-    let to = p.pass-line.ensures in (
-      next-line s,
-      s.before.shown.invariant.1,
-      omega (arith, below l),
-      owned-next (bytes l) (starts l) (n l) (line l) _ (below l)
-          l.before.before.frame.ensures _ _ (owned l) to,
-      to.long ∙ l.before.before.before.before.lines.invariant.4,
+    let to = c.pass_line.ensures in (
+      next-line c.before.before.before.before,
+      c.shown.invariant.1,
+      omega (arith, below c.before.before.before.before.before.before),
+      owned-next (bytes c.before.before.before.before.before.before) (starts c.before.before.before.before.before.before) (n c.before.before.before.before.before.before) (line c.before.before.before.before.before.before) _ (below c.before.before.before.before.before.before)
+          c.frame-r.ensures _ _ (owned c.before.before.before.before.before.before) to,
+      to.long ∙ c.lines.invariant.4,
     )
 
-same_length : At tie.Need-same-length
+same_length : At tie.Need-shape_of-owners-after-lines
 same_length c = search rules
 
-returns : At tie.Need-returns
+returns : At tie.Need-returns-after-lines
 returns c =
-    let a = c.before.before.before.before.before.before.args in
-    let last : c.before.lines.i ≡ a.n =
-    le_antisymm c.before.lines.invariant.2 c.lines-test.false in (
-      c.before.lines.invariant.1 ∙ sym last
+    let a = c.args in
+    let last : c.lines.i ≡ a.n =
+    le_antisymm c.lines.invariant.2 c.lines-test.false in (
+      c.lines.invariant.1 ∙ sym last
           ∙ sym (first_from-end _ _ _ c.lines-test.false)
-          ∙ c.before.lines.invariant.0,
-      subst (λ (i : ℕ). Owned a.bytes.now a.starts.now a.n i c.before.lines.owners)
-          (last ∙ sym c.before.lines.invariant.1) c.before.lines.invariant.3,
+          ∙ c.lines.invariant.0,
+      subst (λ (i : ℕ). Owned a.bytes.now a.starts.now a.n i c.lines.owners)
+          (last ∙ sym c.lines.invariant.1) c.lines.invariant.3,
     )
 
-same-length-2 : At tie.Need-same-length-2
+same-length-2 : At tie.Need-shape_of-owners-then-is_unwritten
 same-length-2 c = search rules
 
-returns-2 : At tie.Need-returns-2
+returns-2 : At tie.Need-returns-then-is_unwritten
 returns-2 c =
-    let i = c.before.before.before.before.before.before in
-    (found i (unwritten c), owned (of-line i))
+    (found c.before.before.before.before.before.before (unwritten c), owned (of-line c.before.before.before.before.before.before))
 
-same-length-3 : At tie.Need-same-length-3
+same-length-3 : At tie.Need-shape_of-owners-then-faults_at
 same-length-3 c = search rules
 
-returns-3 : At tie.Need-returns-3
+returns-3 : At tie.Need-returns-then-faults_at
 returns-3 c =
     let i = of-item (of-write c.before) in
     (found i (by-write c), owned (of-line i))
 
-pub first-fault-spec : {M : Type 1} → statement M
-first-fault-spec =
+pub first_fault_spec : {M : Type 1} → statement M
+first_fault_spec =
     tie.close
     (tie.spec
     invariant-writes

@@ -14,21 +14,21 @@ use borrow.Author.Rules.{rules}
 use Rattle.judge.proofs.search.holds_at.Statement.{statement}
 use Rattle.judge.proofs.search.holds_at.Tie as tie
 
-abbrev invariant-loop : tie.invariant-loop
+abbrev invariant-loop : tie.invariant-loop-k
 invariant-loop finding bytes starts writes m owners n line items k₀ k =
     some_from (64 - k) k (λ j. has items j && finding_of finding (frames_in bytes starts n) line j)
     ≡ some_from 64 0 (λ j. has items j && finding_of finding (frames_in bytes starts n) line j)
 
-abbrev decreases-loop : tie.decreases-loop
+abbrev decreases-loop : tie.decreases-loop-k
 decreases-loop finding bytes starts writes m owners n line items k₀ k = 64 - k
 
 frame-requires : tie.Need-frame-requires invariant-loop decreases-loop
 frame-requires c κs = search rules
 
-shown-requires : tie.Need-shown-requires invariant-loop decreases-loop
+shown-requires : tie.Need-shown-items-requires invariant-loop decreases-loop
 shown-requires c κs = search rules
 
-loop-holds : tie.Need-loop-init invariant-loop decreases-loop
+loop-holds : tie.Need-loop-k-init invariant-loop decreases-loop
 loop-holds c = refl
 
 has-requires : tie.Need-has-requires invariant-loop decreases-loop
@@ -37,44 +37,41 @@ has-requires c κs = search rules
 holds-requires : tie.Need-holds-requires invariant-loop decreases-loop
 holds-requires c κs = search rules
 
-returns : tie.Need-returns invariant-loop decreases-loop
+returns : tie.Need-returns-then-has-holds invariant-loop decreases-loop
 returns c =
-    let l = c.before.before.before.before.before in
-    let s = l.before.before.before.before.before.before in
-    let a = s.args in
-    sym (some_from-here 64 _ _ c.before.before.before.loop-test.true
+    let a = c.args in
+    sym (some_from-here 64 _ _ c.loop-k-test.true
     (both-tests _ _ _
     (finding_of a.finding (frames_in a.bytes.now a.starts.now a.n) a.line _) _
-    c.before.before.has.ensures c.before.holds.ensures c.if1.true))
-    ∙ c.before.before.before.before.loop.invariant
-    ∙ holds-search a.bytes.now a.starts.now a.n a.line a.finding _ s.requires.2
-    (l.shown.ensures ∙ ap shown l.before.frame.ensures)
+    c.has.ensures c.holds.ensures c.if-has-holds.true))
+    ∙ c.loop-k.invariant
+    ∙ holds-search a.bytes.now a.starts.now a.n a.line a.finding _ c.requires.2
+    (c.shown-items.ensures ∙ ap shown c.frame.ensures)
 
-add-k : tie.Need-overflow-add-k invariant-loop decreases-loop
+add-k : tie.Need-overflow_add-k invariant-loop decreases-loop
 add-k c = search rules
 
-loop-less : tie.Need-loop-smaller invariant-loop decreases-loop
+loop-less : tie.Need-loop-k-smaller invariant-loop decreases-loop
 loop-less c = search rules
 
-loop-again : tie.Need-loop-preserved invariant-loop decreases-loop
+loop-again : tie.Need-loop-k-preserved invariant-loop decreases-loop
 loop-again c =
-    sym (some_from-next 64 _ _ c.before.before.before.loop-test.true
-    (both-tests _ _ _ _ _ c.before.before.has.ensures c.before.holds.ensures
-    c.if1.false))
-    ∙ c.before.before.before.before.loop.invariant
+    sym (some_from-next 64 _ _ c.loop-k-test.true
+    (both-tests _ _ _ _ _ c.has.ensures c.holds.ensures
+    c.if-has-holds.false))
+    ∙ c.loop-k.invariant
 
-returns-2 : tie.Need-returns-2 invariant-loop decreases-loop
+returns-2 : tie.Need-returns invariant-loop decreases-loop
 returns-2 c =
-    let s = c.before.before.before.before.before.before.before.before in
-    sym (some_from-end 64 _ _ c.loop-test.false)
-    ∙ c.before.loop.invariant
-    ∙ holds-search s.args.bytes.now s.args.starts.now s.args.n s.args.line
-    s.args.finding _ s.requires.2
-    (c.before.before.shown.ensures
-    ∙ ap shown c.before.before.before.frame.ensures)
+    sym (some_from-end 64 _ _ c.loop-k-test.false)
+    ∙ c.loop-k.invariant
+    ∙ holds-search c.args.bytes.now c.args.starts.now c.args.n c.args.line
+    c.args.finding _ c.requires.2
+    (c.shown-items.ensures
+    ∙ ap shown c.frame.ensures)
 
-pub holds-at-spec : {M : Type 1} → statement M
-holds-at-spec =
+pub holds_at_spec : {M : Type 1} → statement M
+holds_at_spec =
     tie.close
     (tie.spec
     invariant-loop
