@@ -8,76 +8,69 @@ use Rattle.check_block.proofs.Whole.{read-awaits, write-awaits}
 use Rattle.check_block.proofs.good_client.Statement.{statement}
 use Rattle.check_block.proofs.good_client.Tie as tie
 
-good-firsts-requires : tie.Need-good-firsts-requires
+good-firsts-requires : tie.Need-good_firsts-requires
 good-firsts-requires c κs = search rules
 
-good-stamp-requires : tie.Need-good-stamp-requires
+good-stamp-requires : tie.Need-good_stamp-requires
 good-stamp-requires c κs =
-    let start = c.before.before.before.before.before.before.before in
-    let b = start.args.b.now in
-    let valid = start.requires.0.known.held.valid in (
-      start.requires.1,
-      start.requires.2,
+    let b = c.args.b.now in
+    let valid = c.requires.0.known.held.valid in (
+      c.requires.1,
+      c.requires.2,
       few-clients b valid,
-      count_fits b start.args.d start.requires.1 start.requires.2 valid,
+      count_fits b c.args.d c.requires.1 c.requires.2 valid,
     )
 
-good-items-requires : tie.Need-good-items-requires
+good-items-requires : tie.Need-good_items-requires
 good-items-requires c κs =
-    let start = c.before.before.before.before.before.before.before.before in
-    let b = start.args.b.now in
-    let valid = start.requires.0.known.held.valid in
-    (start.requires.0.keyed, start.requires.1, start.requires.2)
+    let b = c.args.b.now in
+    let valid = c.requires.0.known.held.valid in
+    (c.requires.0.keyed, c.requires.1, c.requires.2)
 
-read-awaited-requires : tie.Need-read-awaited-requires
+read-awaited-requires : tie.Need-read_awaited-requires
 read-awaited-requires c κs =
-    let start = c.before.before.before.before.before.before.before.before.before in
-    let b = start.args.b.now in
-    let valid = start.requires.0.known.held.valid in
-    (start.requires.1, omega (arith, start.requires.2, few-clients b valid))
+    let b = c.args.b.now in
+    let valid = c.requires.0.known.held.valid in
+    (c.requires.1, omega (arith, c.requires.2, few-clients b valid))
 
-one-each-requires : tie.Need-one-each-requires
+one-each-requires : tie.Need-one_each-requires
 one-each-requires c κs =
-    let start = c.before.before.before.before.before.before.before.before.before.before in
-    let b = start.args.b.now in
-    let valid = start.requires.0.known.held.valid in (
+    let b = c.args.b.now in
+    let valid = c.requires.0.known.held.valid in (
       valid,
-      start.requires.1,
-      start.requires.2,
-      read-awaits b start.args.d start.requires.1 start.requires.2 c.read-awaited.ensures,
+      c.requires.1,
+      c.requires.2,
+      read-awaits b c.args.d c.requires.1 c.requires.2 c.read_awaited.ensures,
     )
 
-write-awaited-requires : tie.Need-write-awaited-requires
+write-awaited-requires : tie.Need-write_awaited-requires
 write-awaited-requires c κs =
-    let start = c.before.before.before.before.before.before.before.before.before.before.before in
-    let b = start.args.b.now in
-    let valid = start.requires.0.known.held.valid in
-    (start.requires.1, omega (arith, start.requires.2, few-clients b valid))
+    let b = c.args.b.now in
+    let valid = c.requires.0.known.held.valid in
+    (c.requires.1, omega (arith, c.requires.2, few-clients b valid))
 
-one-each-requires-2 : tie.Need-one-each-requires-2
+one-each-requires-2 : tie.Need-one_each-requires-2
 one-each-requires-2 c κs =
-    let start = c.before.before.before.before.before.before.before.before.before.before.before.before in
-    let b = start.args.b.now in
-    let valid = start.requires.0.known.held.valid in (
+    let b = c.args.b.now in
+    let valid = c.requires.0.known.held.valid in (
       valid,
-      start.requires.1,
-      start.requires.2,
-      write-awaits b start.args.d start.requires.1 start.requires.2 c.write-awaited.ensures,
+      c.requires.1,
+      c.requires.2,
+      write-awaits b c.args.d c.requires.1 c.requires.2 c.write_awaited.ensures,
     )
 
 returns : tie.Need-returns
 returns c =
-    let start = c.before.before.before.before.before.before.before.before.before.before.before.before.before in
-    let b = start.args.b.now in
-    client-passes (tables_of b) start.args.d _ _ (items-are b)
-    (set_is b start.args.d start.requires.1 start.requires.2)
-    c.before.before.before.before.before.before.good-firsts.ensures
-    c.before.before.before.before.before.good-stamp.ensures
-    c.before.before.before.before.good-items.ensures c.before.before.one_each.ensures
-    c.one-each2.ensures
+    let b = c.args.b.now in
+    client-passes (tables_of b) c.args.d _ _ (items-are b)
+    (set_is b c.args.d c.requires.1 c.requires.2)
+    c.good_firsts.ensures
+    c.good_stamp.ensures
+    c.good_items.ensures c.one_each.ensures
+    c.one_each-2.ensures
 
-pub good-client-spec : {M : Type 1} → statement M
-good-client-spec =
+pub good_client_spec : {M : Type 1} → statement M
+good_client_spec =
     tie.close
     (tie.spec
     good-firsts-requires

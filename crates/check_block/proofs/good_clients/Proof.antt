@@ -11,48 +11,47 @@ use Rattle.check_stamps.specs.Parts.{good_client}
 use Rattle.check_block.proofs.good_clients.Statement.{statement}
 use Rattle.check_block.proofs.good_clients.Tie as tie
 
-abbrev invariant-loop : tie.invariant-loop
+abbrev invariant-loop : tie.invariant-loop-i
 invariant-loop b stamps links wholes keys paths clients ok₀ i₀ ok i =
     SoFar clients (λ i. good_client (tables_of b) (suc i)) i ok
 
-abbrev decreases-loop : tie.decreases-loop
+abbrev decreases-loop : tie.decreases-loop-i
 decreases-loop b stamps links wholes keys paths clients ok₀ i₀ ok i = clients - i
 
-clients-requires : tie.Need-clients-requires invariant-loop decreases-loop
+clients-requires : tie.Need-clients-clients-requires invariant-loop decreases-loop
 clients-requires c κs = search rules
 
-loop-holds : tie.Need-loop-init invariant-loop decreases-loop
+loop-holds : tie.Need-loop-i-init invariant-loop decreases-loop
 loop-holds c = tested-none
 
-add-good-client : tie.Need-overflow-add-good-client invariant-loop decreases-loop
+add-good-client : tie.Need-overflow_add-i invariant-loop decreases-loop
 add-good-client c = search rules
 
-good-client-requires : tie.Need-good-client-requires invariant-loop decreases-loop
+good-client-requires : tie.Need-good_client-ok-requires invariant-loop decreases-loop
 good-client-requires c κs =
-    let start = c.before.before.before.before.before.before.before.before.before in (
-      start.requires,
+    (
+      c.requires,
       omega arith,
-      omega (arith, c.before.before.clients.ensures, c.loop-test.true),
+      omega (arith, c.clients-clients.ensures, c.loop-i-test.true),
     )
 
-add-i : tie.Need-overflow-add-i invariant-loop decreases-loop
+add-i : tie.Need-overflow_add-i-in-loop-i invariant-loop decreases-loop
 add-i c = search rules
 
-loop-less : tie.Need-loop-smaller invariant-loop decreases-loop
+loop-less : tie.Need-loop-i-smaller invariant-loop decreases-loop
 loop-less c = search rules
 
-loop-again : tie.Need-loop-preserved invariant-loop decreases-loop
+loop-again : tie.Need-loop-i-preserved invariant-loop decreases-loop
 loop-again c =
-    tested-next c.before.before.loop.invariant c.before.loop-test.true
-    (rw add-one at c.good-client.ensures)
+    tested-next c.loop-i.invariant c.loop-i-test.true
+    (rw add-one at c.good_client-ok.ensures)
 
 returns : tie.Need-returns invariant-loop decreases-loop
 returns c =
-    let l = c.before in
-    tested-all l.loop.invariant c.loop-test.false ∙ every-to _ l.before.clients.ensures
+    tested-all c.loop-i.invariant c.loop-i-test.false ∙ every-to _ c.clients-clients.ensures
 
-pub good-clients-spec : {M : Type 1} → statement M
-good-clients-spec =
+pub good_clients_spec : {M : Type 1} → statement M
+good_clients_spec =
     tie.close
     (tie.spec
     invariant-loop

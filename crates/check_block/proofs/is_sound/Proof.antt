@@ -5,27 +5,27 @@ use Rattle.check_block.proofs.Whole.{all_sound, clients-are}
 use Rattle.check_block.proofs.is_sound.Statement.{statement}
 use Rattle.check_block.proofs.is_sound.Tie as tie
 
-good-entries-requires : tie.Need-good-entries-requires
+good-entries-requires : tie.Need-good_entries-requires
 good-entries-requires c κs = search rules
 
 holders-requires : tie.Need-holders-requires
 holders-requires c κs = search rules
 
-good-clients-requires : tie.Need-good-clients-requires
+good-clients-requires : tie.Need-good_clients-requires
 good-clients-requires c κs = search rules
 
-good-messages-requires : tie.Need-good-messages-requires
+good-messages-requires : tie.Need-good_messages-requires
 good-messages-requires c κs = search rules
 
 returns : tie.Need-returns
 returns c =
-    let b = c.before.before.before.before.before.before.before.before.before.before.args.b.now in
-    all_sound (tables_of b) _ (clients-are b) c.before.before.before.good-entries.ensures
-    c.before.before.holders.ensures c.before.good-clients.ensures
-    c.good-messages.ensures
+    let b = c.args.b.now in
+    all_sound (tables_of b) _ (clients-are b) c.good_entries.ensures
+    c.holders.ensures c.good_clients.ensures
+    c.good_messages.ensures
 
-pub is-sound-spec : {M : Type 1} → statement M
-is-sound-spec =
+pub is_sound_spec : {M : Type 1} → statement M
+is_sound_spec =
     tie.close
     (tie.spec
     good-entries-requires

@@ -6,24 +6,24 @@ use native.Mathlib.Omega.{arith}
 use Rattle.check_clients.proofs.good_item.Statement.{statement}
 use Rattle.check_clients.proofs.good_item.Tie as tie
 
-write-awaited-requires : tie.Need-write-awaited-requires
+write-awaited-requires : tie.Need-write_awaited-awaited-requires
 write-awaited-requires c κs =
-    let start = c.before.before.before in (
-      start.requires.1,
+    (
+      c.requires.1,
       omega (
         arith,
-        start.requires.2,
-        few-clients start.args.b.now
-            start.requires.0.valid,
+        c.requires.2,
+        few-clients c.args.b.now
+            c.requires.0.valid,
       ),
     )
 
-write-value-requires : tie.Need-write-value-requires
+write-value-requires : tie.Need-write_value-value-requires
 write-value-requires c κs =
-    let start = c.before.before.before.before in (
-      start.requires.1,
-      omega (arith, start.requires.2, few-clients start.args.b.now start.requires.0.valid),
-      start.requires.3,
+    (
+      c.requires.1,
+      omega (arith, c.requires.2, few-clients c.args.b.now c.requires.0.valid),
+      c.requires.3,
     )
 
 has-requires : tie.Need-has-requires
@@ -34,12 +34,16 @@ holds-requires c κs = search rules
 
 returns : tie.Need-returns
 returns c =
-    let start = c.before.before.before.before.before.before.before in
-    item-is _ _ start.requires.1 start.requires.2 _ start.requires.5
-    c.before.before.write-value.ensures c.before.before.before.write-awaited.ensures
-    c.before.has.ensures c.holds.ensures
+    item-is _ _ c.requires.1 c.requires.2 _ c.requires.5
+    c.write_value-value.ensures c.write_awaited-awaited.ensures
+    c.has.ensures c.holds.ensures
 
-pub good-item-spec : {M : Type 1} → statement M
-good-item-spec =
+pub good_item_spec : {M : Type 1} → statement M
+good_item_spec =
     tie.close
-    (tie.spec write-awaited-requires write-value-requires has-requires holds-requires returns)
+    (tie.spec
+    write-awaited-requires
+    write-value-requires
+    has-requires
+    holds-requires
+    returns)

@@ -5,40 +5,43 @@ use native.Mathlib.Omega.{arith}
 use Rattle.check_clients.proofs.good_stamp.Statement.{statement}
 use Rattle.check_clients.proofs.good_stamp.Tie as tie
 
-write-set-requires : tie.Need-write-set-requires
+write-set-requires : tie.Need-write_set-set-requires
 write-set-requires c κs = search rules
 
-write-stamp-requires : tie.Need-write-stamp-requires
+write-stamp-requires : tie.Need-write_stamp-stamp-requires
 write-stamp-requires c κs = search rules
 
-count-requires : tie.Need-count-requires
+count-requires : tie.Need-count-count-requires
 count-requires c κs = search rules
 
-mul-result : tie.Need-overflow-mul-result
+mul-result : tie.Need-overflow_mul-result
 mul-result c =
-    let start = c.before.before.before.before in
-    omega (arith, c.count.ensures, count-is start.args.b.now start.args.d, start.requires.3)
+    omega (arith, c.count-count.ensures, count-is c.args.b.now c.args.d, c.requires.3)
 
-add-result : tie.Need-overflow-add-result
+add-result : tie.Need-overflow_add-result
 add-result c =
-    let start = c.before.before.before.before in
     omega (
       arith,
-      c.count.ensures,
-      count-is start.args.b.now
-          start.args.d,
-      start.requires.3,
-      start.requires.1,
-      start.requires.2,
+      c.count-count.ensures,
+      count-is c.args.b.now
+          c.args.d,
+      c.requires.3,
+      c.requires.1,
+      c.requires.2,
     )
 
 returns : tie.Need-returns
 returns c =
-    let start = c.before.before.before.before in
-    stamp-is _ _ start.requires.0 start.requires.1 c.before.before.write-set.ensures
-    c.before.write-stamp.ensures c.count.ensures
+    stamp-is _ _ c.requires.0 c.requires.1 c.write_set-set.ensures
+    c.write_stamp-stamp.ensures c.count-count.ensures
 
-pub good-stamp-spec : {M : Type 1} → statement M
-good-stamp-spec =
+pub good_stamp_spec : {M : Type 1} → statement M
+good_stamp_spec =
     tie.close
-    (tie.spec write-set-requires write-stamp-requires count-requires mul-result add-result returns)
+    (tie.spec
+    write-set-requires
+    write-stamp-requires
+    count-requires
+    mul-result
+    add-result
+    returns)

@@ -4,27 +4,26 @@ use Rattle.check_messages.proofs.Seen.{of-side}
 use Rattle.check_messages.proofs.is_of.Statement.{statement}
 use Rattle.check_messages.proofs.is_of.Tie as tie
 
-message-word-requires : tie.Need-message-word-requires
+message-word-requires : tie.Need-message_word-requires
 message-word-requires c κs = search rules
 
-message-word-requires-2 : tie.Need-message-word-requires-2
+message-word-requires-2 : tie.Need-message_word-requires-2
 message-word-requires-2 c κs = search rules
 
-message-word-requires-3 : tie.Need-message-word-requires-3
+message-word-requires-3 : tie.Need-message_word-requires-3
 message-word-requires-3 c κs = search rules
 
-is-side-requires : tie.Need-is-side-requires
+is-side-requires : tie.Need-is_side-requires
 is-side-requires c κs = search rules
 
 returns : tie.Need-returns
-returns c = let start = c.before.before.before.before.before in
-    of-side start.args.b.now start.args.i start.args.write start.args.d
-    start.requires.2 start.requires.3 c.is-side.ensures
-    c.before.before.before.message-word.ensures c.before.before.message-word2.ensures
-    c.before.message-word3.ensures
+returns c = of-side c.args.b.now c.args.i c.args.write c.args.d
+    c.requires.2 c.requires.3 c.is_side.ensures
+    c.message_word.ensures c.message_word-2.ensures
+    c.message_word-3.ensures
 
-pub is-of-spec : {M : Type 1} → statement M
-is-of-spec =
+pub is_of_spec : {M : Type 1} → statement M
+is_of_spec =
     tie.close
     (tie.spec
     message-word-requires

@@ -8,74 +8,70 @@ use Rattle.check_messages.specs.Sides.{side_if}
 use Rattle.check_messages.proofs.one_each.Statement.{statement}
 use Rattle.check_messages.proofs.one_each.Tie as tie
 
-abbrev invariant-loop : tie.invariant-loop
+abbrev invariant-loop : tie.invariant-loop-i
 invariant-loop b write d awaited n ok₀ seen₀ i₀ ok seen i = Met b (side_if write) d n i ok seen
 
-abbrev decreases-loop : tie.decreases-loop
+abbrev decreases-loop : tie.decreases-loop-i
 decreases-loop b write d awaited n ok₀ seen₀ i₀ ok seen i = n - i
 
-message-count-requires : tie.Need-message-count-requires invariant-loop decreases-loop
+message-count-requires : tie.Need-message_count-n-requires invariant-loop decreases-loop
 message-count-requires c κs = search rules
 
-loop-holds : tie.Need-loop-init invariant-loop decreases-loop
+loop-holds : tie.Need-loop-i-init invariant-loop decreases-loop
 loop-holds c = met-none _ _ _ _
 
-is-of-requires : tie.Need-is-of-requires invariant-loop decreases-loop
-is-of-requires c κs = let start = c.before.before.before.before in
-    let valid = start.requires.0 in
-    let count = c.before.before.message-count.ensures in
-    let one = c.loop-test.true in (
-      read-few start.args.b.now valid count one,
-      long start.args.b.now valid,
-      read_low start.args.b.now valid count one,
-      read-high start.args.b.now valid count one,
+is-of-requires : tie.Need-is_of-own-requires invariant-loop decreases-loop
+is-of-requires c κs = let valid = c.requires.0 in
+    let count = c.message_count-n.ensures in
+    let one = c.loop-i-test.true in (
+      read-few c.args.b.now valid count one,
+      long c.args.b.now valid,
+      read_low c.args.b.now valid count one,
+      read-high c.args.b.now valid count one,
     )
 
-message-word-requires : tie.Need-message-word-requires invariant-loop decreases-loop
-message-word-requires c κs = let start = c.before.before.before.before.before in
-    let valid = start.requires.0 in (
-      read-few start.args.b.now valid c.before.before.before.message-count.ensures
-          c.before.loop-test.true,
+message-word-requires : tie.Need-message_word-item-requires invariant-loop decreases-loop
+message-word-requires c κs = let valid = c.requires.0 in (
+      read-few c.args.b.now valid c.message_count-n.ensures
+          c.loop-i-test.true,
       omega arith,
-      long start.args.b.now valid,
+      long c.args.b.now valid,
     )
 
 has-requires : tie.Need-has-requires invariant-loop decreases-loop
 has-requires c κs = search rules
 
-met-requires : tie.Need-met-requires invariant-loop decreases-loop
+met-requires : tie.Need-met-seen-requires invariant-loop decreases-loop
 met-requires c κs = search rules
 
-add-i : tie.Need-overflow-add-i invariant-loop decreases-loop
+add-i : tie.Need-overflow_add-i invariant-loop decreases-loop
 add-i c = search rules
 
-loop-less : tie.Need-loop-smaller invariant-loop decreases-loop
+loop-less : tie.Need-loop-i-smaller invariant-loop decreases-loop
 loop-less c = search rules
 
-loop-again : tie.Need-loop-preserved invariant-loop decreases-loop
-loop-again c = let start = c.before.before.before.before.before.before.before.before in
-    let valid = start.requires.0 in
-    let b = start.args.b.now in
-    let write = start.args.write in
-    let d = start.args.d in
-    let count = c.before.before.before.before.before.before.message-count.ensures in
-    let one = c.before.before.before.before.loop-test.true in
-    let own = c.before.before.before.is-of.ensures in
-    let item = c.before.before.message-word.ensures in
-    met_next b write d _ _ c.before.before.before.before.before.loop.invariant one
+loop-again : tie.Need-loop-i-preserved invariant-loop decreases-loop
+loop-again c = let valid = c.requires.0 in
+    let b = c.args.b.now in
+    let write = c.args.write in
+    let d = c.args.d in
+    let count = c.message_count-n.ensures in
+    let one = c.loop-i-test.true in
+    let own = c.is_of-own.ensures in
+    let item = c.message_word-item.ensures in
+    met_next b write d _ _ c.loop-i.invariant one
     (read_low b valid count one) own item
-    (read_small b valid count one write d own item) c.before.has.ensures c.met.ensures
+    (read_small b valid count one write d own item) c.has.ensures c.met-seen.ensures
 
 returns : tie.Need-returns invariant-loop decreases-loop
-returns c = let start = c.before.before.before.before in
-    met_all start.args.b.now start.requires.0 start.args.write start.args.d
-    start.requires.1
-    start.requires.2 c.before.before.message-count.ensures c.before.loop.invariant
-    c.loop-test.false
-    start.requires.3
+returns c = met_all c.args.b.now c.requires.0 c.args.write c.args.d
+    c.requires.1
+    c.requires.2 c.message_count-n.ensures c.loop-i.invariant
+    c.loop-i-test.false
+    c.requires.3
 
-pub one-each-spec : {M : Type 1} → statement M
-one-each-spec =
+pub one_each_spec : {M : Type 1} → statement M
+one_each_spec =
     tie.close
     (tie.spec
     invariant-loop

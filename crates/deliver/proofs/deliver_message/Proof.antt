@@ -7,26 +7,24 @@ use Rattle.deliver.specs.Deliver.{message_delivered}
 use Rattle.deliver.proofs.deliver_message.Statement.{statement}
 use Rattle.deliver.proofs.deliver_message.Tie as tie
 
-take-out-requires : tie.Need-take-out-requires
+take-out-requires : tie.Need-take_out-requires
 take-out-requires c κs = search rules
 
 work-requires : tie.Need-work-requires
 work-requires c κs = search rules
 
-same_length : tie.Need-same-length
+same_length : tie.Need-shape_of-b
 same_length c = search rules
 
 returns : tie.Need-returns
 returns c =
-    let worked = c.before.before in
-    let taken = worked.before.before.before.before in
-    let a = taken.before.before.before.args in
-    worked.work.ensures
+    let a = c.args in
+    c.work.ensures
     ∙ ap (λ (w : List ℕ). message_delivered w a.counts a.found a.m)
-    taken.take_out.ensures
+    c.take_out.ensures
 
-pub deliver-message-spec : {M : Type 1} → statement M
-deliver-message-spec =
+pub deliver_message_spec : {M : Type 1} → statement M
+deliver_message_spec =
     tie.close
     (tie.spec
     take-out-requires

@@ -8,32 +8,31 @@ use Rattle.block_calls.proofs.Given.{refused-given, tables-given}
 use Rattle.deliver_call.proofs.deliver.Statement.{statement}
 use Rattle.deliver_call.proofs.deliver.Tie as tie
 
-valid-block-requires : tie.Need-valid-block-requires
+valid-block-requires : tie.Need-valid_block-requires
 valid-block-requires c κs = search rules
 
-deliver-valid-requires : tie.Need-deliver-valid-requires
-deliver-valid-requires c κs = sym c.before.before.valid-block.ensures ∙ c.before.if1.true
+deliver-valid-requires : tie.Need-deliver_valid-requires
+deliver-valid-requires c κs = sym c.valid_block.ensures ∙ c.if-valid_block.true
 
-same_length : tie.Need-same-length
+same_length : tie.Need-shape_of-b-then-valid_block
 same_length c = search rules
 
-returns : tie.Need-returns
-returns c = let x = c.before.before.deliver-valid.ensures in
+returns : tie.Need-returns-then-valid_block
+returns c = let x = c.deliver_valid.ensures in
     (x.0, (x.1, tables-given _ _ _ x.1))
 
-same-length-2 : tie.Need-same-length-2
+same-length-2 : tie.Need-shape_of-b-else-valid_block
 same-length-2 c = search rules
 
-returns-2 : tie.Need-returns-2
+returns-2 : tie.Need-returns-else-valid_block
 returns-2 c =
-    let start = c.before.before.before.before in
-    let x = refused-given start.args.b.now (deliver start.args.i) 1
-    (sym (refused-invalid _ _ (sym c.before.valid-block.ensures ∙ c.if1.false)))
+    let x = refused-given c.args.b.now (deliver c.args.i) 1
+    (sym (refused-invalid _ _ (sym c.valid_block.ensures ∙ c.if-valid_block.false)))
     (λ e. omega arith) in
     (x.0, (x.1, tables-given _ _ _ x.1))
 
-pub deliver-spec : {M : Type 1} → statement M
-deliver-spec =
+pub deliver_spec : {M : Type 1} → statement M
+deliver_spec =
     tie.close
     (tie.spec
     valid-block-requires

@@ -12,61 +12,54 @@ use Rattle.block_calls.proofs.Places.{long-enough}
 use Rattle.deliver_call.proofs.deliver_at.Statement.{statement}
 use Rattle.deliver_call.proofs.deliver_at.Tie as tie
 
-message-requires : tie.Need-message-requires
-message-requires c κs = let start = c.before.before in
-    few-places start.args.b.now start.args.i (search rules) (search rules)
+message-requires : tie.Need-message-m-requires
+message-requires c κs = few-places c.args.b.now c.args.i (search rules) (search rules)
 
-version-count-requires : tie.Need-version-count-requires
+version-count-requires : tie.Need-version_count-requires
 version-count-requires c κs = search rules
 
-test-requires : tie.Need-test-requires
+test-requires : tie.Need-test-t-requires
 test-requires c κs =
-    let start = c.before.before.before.before.before in (
+    (
       omega (
         arith,
-        c.version-count.ensures,
-        few-versions start.args.b.now start.args.i
+        c.version_count.ensures,
+        few-versions c.args.b.now c.args.i
             (search rules) (search rules),
       ),
-      subst Bounded (sym c.before.before.message.ensures)
-          (bounded-message start.args.b.now start.args.i (search rules) (search rules)),
-      long-enough start.args.b.now start.args.i (search rules) (search rules),
+      subst Bounded (sym c.message-m.ensures)
+          (bounded-message c.args.b.now c.args.i (search rules) (search rules)),
+      long-enough c.args.b.now c.args.i (search rules) (search rules),
     )
 
-deliver-on-requires : tie.Need-deliver-on-requires
+deliver-on-requires : tie.Need-deliver_on-requires
 deliver-on-requires c κs =
-    let test = c.before.before.before in
-    let read = test.before.before.before in
-    let start = read.before.before.before in
-    let counted = test.before.version-count.ensures in (
-      sym (told-refusal start.args.b.now start.args.i (search rules) (search rules) _ _ _
-          read.message.ensures counted test.test.ensures) ∙ c.before.if1.true,
-      read.message.ensures,
-      test.test.ensures ∙ ap (λ (n : ℕ). tested_in start.args.b.now n
-          read.message.result) counted,
+    let counted = c.version_count.ensures in (
+      sym (told-refusal c.args.b.now c.args.i (search rules) (search rules) _ _ _
+          c.message-m.ensures counted c.test-t.ensures) ∙ c.if-t-eq0.true,
+      c.message-m.ensures,
+      c.test-t.ensures ∙ ap (λ (n : ℕ). tested_in c.args.b.now n
+          c.message-m.result) counted,
     )
 
-same_length : tie.Need-same-length
+same_length : tie.Need-shape_of-b-then-t-eq0
 same_length c = search rules
 
-returns : tie.Need-returns
+returns : tie.Need-returns-then-t-eq0
 returns c = search rules
 
-same-length-2 : tie.Need-same-length-2
+same-length-2 : tie.Need-shape_of-b-else-t-eq0
 same-length-2 c = search rules
 
-returns-2 : tie.Need-returns-2
+returns-2 : tie.Need-returns-else-t-eq0
 returns-2 c =
-    let test = c.before.before in
-    let read = test.before.before.before in
-    let start = read.before.before.before in
-    refused-given start.args.b.now (deliver start.args.i) _
-    (told-refusal start.args.b.now start.args.i (search rules) (search rules) _ _ _
-    read.message.ensures test.before.version-count.ensures test.test.ensures)
-    c.if1.false
+    refused-given c.args.b.now (deliver c.args.i) _
+    (told-refusal c.args.b.now c.args.i (search rules) (search rules) _ _ _
+    c.message-m.ensures c.version_count.ensures c.test-t.ensures)
+    c.if-t-eq0.false
 
-pub deliver-at-spec : {M : Type 1} → statement M
-deliver-at-spec =
+pub deliver_at_spec : {M : Type 1} → statement M
+deliver_at_spec =
     tie.close
     (tie.spec
     message-requires

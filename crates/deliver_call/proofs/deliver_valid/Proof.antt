@@ -8,37 +8,36 @@ use Rattle.block_calls.proofs.Places.{past_end}
 use Rattle.deliver_call.proofs.deliver_valid.Statement.{statement}
 use Rattle.deliver_call.proofs.deliver_valid.Tie as tie
 
-message-count-requires : tie.Need-message-count-requires
+message-count-requires : tie.Need-message_count-requires
 message-count-requires c κs = search rules
 
-deliver-at-requires : tie.Need-deliver-at-requires
+deliver-at-requires : tie.Need-deliver_at-requires
 deliver-at-requires c κs = (
   search rules,
   omega (
     arith,
-    c.before.before.message-count.ensures,
-    c.before.if1.true,
+    c.message_count.ensures,
+    c.if-i-message_count.true,
   ),
 )
 
-same_length : tie.Need-same-length
+same_length : tie.Need-shape_of-b-then-i-message_count
 same_length c = search rules
 
-returns : tie.Need-returns
-returns c = c.before.before.deliver-at.ensures
+returns : tie.Need-returns-then-i-message_count
+returns c = c.deliver_at.ensures
 
-same-length-2 : tie.Need-same-length-2
+same-length-2 : tie.Need-shape_of-b-else-i-message_count
 same-length-2 c = search rules
 
-returns-2 : tie.Need-returns-2
+returns-2 : tie.Need-returns-else-i-message_count
 returns-2 c =
-    let start = c.before.before.before.before in
-    refused-given start.args.b.now (deliver start.args.i) 10
-    (sym (past_end start.args.b.now start.args.i (search rules)
-    (omega (arith, c.before.message-count.ensures, c.if1.false)))) (λ e. omega arith)
+    refused-given c.args.b.now (deliver c.args.i) 10
+    (sym (past_end c.args.b.now c.args.i (search rules)
+    (omega (arith, c.message_count.ensures, c.if-i-message_count.false)))) (λ e. omega arith)
 
-pub deliver-valid-spec : {M : Type 1} → statement M
-deliver-valid-spec =
+pub deliver_valid_spec : {M : Type 1} → statement M
+deliver_valid_spec =
     tie.close
     (tie.spec
     message-count-requires

@@ -8,5 +8,6 @@ returns : tie.Need-returns
 unfolding blank
 returns c = refl
 
-pub blank-output-spec : {M : Type 1} → statement M
-blank-output-spec = tie.close (tie.spec returns)
+pub blank_output_spec : {M : Type 1} → statement M
+blank_output_spec = tie.close (tie.spec
+    returns)

@@ -21,7 +21,7 @@ use Rattle.lines.proofs.carry_out.Tie as tie
 
 -- ---- a line with a frame
 
-module _ (p : tie.After-parsed) where
+module _ (p : tie.In-Frame-2) where
   abbrev entry : tie.Start
   entry = p.before.before.before.before.before.before.before.before
 
@@ -29,33 +29,33 @@ module _ (p : tie.After-parsed) where
   line = entry.args.line.now
 
   abbrev room : List ℕ
-  room = p.before.before.before.before.blank-frame.result
+  room = p.blank_frame-bytes.result
 
   abbrev bytes : List ℕ
-  bytes = p.before.before.read-frame.last.1.0
+  bytes = p.read_frame-parsed.last.bytes
 
   abbrev frame : StoreFrame
-  frame = p.parsed.given.0.0
+  frame = p.in-Frame.frame
 
   abbrev n : ℕ
-  n = p.parsed.given.0.1.0
+  n = p.in-Frame.length
 
   is-frame : Frame frame n ≡ store_frame_of line
-  is-frame = sym p.parsed.given.1 ∙ p.before.before.read-frame.ensures.0
+  is-frame = sym p.in-Frame.is ∙ p.read_frame-parsed.ensures.0
 
   stored : Stored line n
   stored = frame-stored line frame n is-frame
 
   wide : length bytes ≡ most_frame
   wide =
-      ap length p.before.before.read-frame.ensures.1 ∙ length-sets room 0 (stored_bytes line)
-      ∙ sym p.before.before.before.before.blank-frame.ensures
+      ap length p.read_frame-parsed.ensures.1 ∙ length-sets room 0 (stored_bytes line)
+      ∙ sym p.blank_frame-bytes.ensures
 
   its-bytes : take (n - 0) bytes ≡ frame_bytes line
   its-bytes =
       ap (λ (k : ℕ). take k bytes) (sub-zero n)
-      ∙ stored-front line room n stored p.before.before.read-frame.ensures.1
-      (omega (arith, p.before.before.before.before.blank-frame.ensures))
+      ∙ stored-front line room n stored p.read_frame-parsed.ensures.1
+      (omega (arith, p.blank_frame-bytes.ensures))
 
   its-frame : Frame frame (length (take (n - 0) bytes)) ≡ parsed (take (n - 0) bytes)
   its-frame =
@@ -66,26 +66,26 @@ module _ (p : tie.After-parsed) where
 
 -- ---- the needs
 
-blank-frame-requires : tie.Need-blank-frame-requires
+blank-frame-requires : tie.Need-blank_frame-bytes-requires
 blank-frame-requires c κs = search rules
 
-read-frame-requires : tie.Need-read-frame-requires
+read-frame-requires : tie.Need-read_frame-parsed-requires
 read-frame-requires c κs = search rules
 
-enum-known-parsed : tie.Need-enum-known-parsed
+enum-known-parsed : tie.Need-enum_known-parsed
 enum-known-parsed c = search rules
 
-enum_told : tie.Need-enum-told
+enum_told : tie.Need-enum_told-1
 enum_told c = search rules
 
-returns : tie.Need-returns
+returns : tie.Need-returns-in_default
 unfolding parsed_answer parsed_block parsed_output
 returns c =
-    let a = c.before.before.before.before.before.before.before.before.args in
+    let a = c.args in
     let b = a.b.now in
     let f = frame_bytes a.line.now in
     let o = a.shown.now in
-    let bad = sym c.before.before.read-frame.ensures.0 ∙ c.enum_told.given.1 in (
+    let bad = sym c.read_frame-parsed.ensures.0 ∙ c.in_default.is in (
       sym (ap (parsed_answer b f o) bad),
       (
         sym (ap (parsed_block b f o) bad),
@@ -93,42 +93,40 @@ returns c =
       ),
     )
 
-sub-call : tie.Need-overflow-sub-call
+sub-call : tie.Need-slice_bounds-call-count
 sub-call c = search rules
 
-part-call-start : tie.Need-slice-bounds-call-start
+part-call-start : tie.Need-slice_bounds-call-start
 part-call-start c = search rules
 
-part-call-end : tie.Need-slice-bounds-call-end
+part-call-end : tie.Need-slice_bounds-call-end
 part-call-end c =
-    let p = c.before.before.before in
-    omega (arith, (stored p).ranges, wide p)
+    omega (arith, (stored c.before).ranges, wide c.before)
 
 call-requires : tie.Need-call-requires
-call-requires c κs = its-frame c.before.before.before.before.before
+call-requires c κs = its-frame c.before.before.before
 
-same_length : tie.Need-same-length
+same_length : tie.Need-shape_of-b
 same_length c = search rules
 
-same-length-2 : tie.Need-same-length-2
+same-length-2 : tie.Need-shape_of-shown
 same-length-2 c = search rules
 
-returns-2 : tie.Need-returns-2
+returns-2 : tie.Need-returns
 returns-2 c =
-    let p = c.before.before.before.before.before.before.before.before.before.before in
-    let a = (entry p).args in
+    let a = (entry c.before.before.before.before.before.before.before.before).args in
     let b = a.b.now in
     let o = a.shown.now in
-    let called = c.before.before.before.before.call.ensures in (
-      carried-answer b o (line p) (frame p) (n p) (is-frame p) (its-bytes p) called.0,
+    let called = c.call.ensures in (
+      carried-answer b o (line c.before.before.before.before.before.before.before.before) (frame c.before.before.before.before.before.before.before.before) (n c.before.before.before.before.before.before.before.before) (is-frame c.before.before.before.before.before.before.before.before) (its-bytes c.before.before.before.before.before.before.before.before) called.0,
       (
-        carried-block b o (line p) (frame p) (n p) (is-frame p) (its-bytes p) called.1.0,
-        carried-output b o (line p) (frame p) (n p) (is-frame p) (its-bytes p) called.1.1,
+        carried-block b o (line c.before.before.before.before.before.before.before.before) (frame c.before.before.before.before.before.before.before.before) (n c.before.before.before.before.before.before.before.before) (is-frame c.before.before.before.before.before.before.before.before) (its-bytes c.before.before.before.before.before.before.before.before) called.1.0,
+        carried-output b o (line c.before.before.before.before.before.before.before.before) (frame c.before.before.before.before.before.before.before.before) (n c.before.before.before.before.before.before.before.before) (is-frame c.before.before.before.before.before.before.before.before) (its-bytes c.before.before.before.before.before.before.before.before) called.1.1,
       ),
     )
 
-pub carry-out-spec : {M : Type 1} → statement M
-carry-out-spec =
+pub carry_out_spec : {M : Type 1} → statement M
+carry_out_spec =
     tie.close
     (tie.spec
     blank-frame-requires

@@ -6,7 +6,10 @@ use Rattle.refusals.proofs.are_clients.Statement.{statement}
 use Rattle.refusals.proofs.are_clients.Tie as tie
 
 returns : tie.Need-returns
-returns c = ap₂ ◌&&◌ c.before.is-client.ensures c.is-client2.ensures
+returns c = ap₂ ◌&&◌ c.is_client.ensures c.is_client-2.ensures
 
-pub are-clients-spec : {M : Type 1} → statement M
-are-clients-spec = tie.close (tie.spec (λ c κs. search rules) (λ c κs. search rules) returns)
+pub are_clients_spec : {M : Type 1} → statement M
+are_clients_spec = tie.close (tie.spec
+    (λ c κs. search rules)
+    (λ c κs. search rules)
+    returns)

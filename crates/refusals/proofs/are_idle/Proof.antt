@@ -9,7 +9,10 @@ use Rattle.refusals.proofs.are_idle.Tie as tie
 
 returns : tie.Need-returns
 returns c =
-    ap₂ (λ (m n : ℕ). eqb m 0 && eqb n 0) c.before.mode.ensures c.mode2.ensures
+    ap₂ (λ (m n : ℕ). eqb m 0 && eqb n 0) c.mode.ensures c.mode-2.ensures
 
-pub are-idle-spec : {M : Type 1} → statement M
-are-idle-spec = tie.close (tie.spec (λ c κs. search rules) (λ c κs. search rules) returns)
+pub are_idle_spec : {M : Type 1} → statement M
+are_idle_spec = tie.close (tie.spec
+    (λ c κs. search rules)
+    (λ c κs. search rules)
+    returns)

@@ -10,14 +10,17 @@ use Rattle.refusals.proofs.bad_set.Tie as tie
 items-requires : tie.Need-items-requires
 items-requires c κs = search rules
 
-all-below-requires : tie.Need-all-below-requires
+all-below-requires : tie.Need-all_below-requires
 all-below-requires c κs = search rules
 
 returns : tie.Need-returns
 returns c =
-    let s = c.before.before.before.args.s in
+    let s = c.args.s in
     ap (λ (t : Bool). eqb s 0 || not t)
-    (c.all-below.ensures ∙ ap (all_below s) c.before.items.ensures)
+    (c.all_below.ensures ∙ ap (all_below s) c.items.ensures)
 
-pub bad-set-spec : {M : Type 1} → statement M
-bad-set-spec = tie.close (tie.spec items-requires all-below-requires returns)
+pub bad_set_spec : {M : Type 1} → statement M
+bad_set_spec = tie.close (tie.spec
+    items-requires
+    all-below-requires
+    returns)

@@ -13,5 +13,7 @@ mode-requires c κs = search rules
 returns : tie.Need-returns
 returns c = ap (λ (m : ℕ). not (eqb m 0)) c.mode.ensures
 
-pub busy-spec : {M : Type 1} → statement M
-busy-spec = tie.close (tie.spec mode-requires returns)
+pub busy_spec : {M : Type 1} → statement M
+busy_spec = tie.close (tie.spec
+    mode-requires
+    returns)

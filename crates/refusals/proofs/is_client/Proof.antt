@@ -12,8 +12,10 @@ clients-requires c κs = search rules
 
 returns : tie.Need-returns
 returns c =
-    let d = c.before.before.args.d in
+    let d = c.args.d in
     ap (λ (n : ℕ). leb 1 d && leb d n) c.clients.ensures
 
-pub is-client-spec : {M : Type 1} → statement M
-is-client-spec = tie.close (tie.spec clients-requires returns)
+pub is_client_spec : {M : Type 1} → statement M
+is_client_spec = tie.close (tie.spec
+    clients-requires
+    returns)

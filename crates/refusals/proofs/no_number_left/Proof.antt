@@ -13,16 +13,16 @@ items-requires c κs = search rules
 
 greatest-requires : tie.Need-greatest-requires
 greatest-requires c κs =
-    let start = c.before.before in
-    view-words start.args.b.now start.requires.0 start.args.d start.requires.1 _
+    view-words c.args.b.now c.requires.0 c.args.d c.requires.1 _
     c.items.ensures
 
 returns : tie.Need-returns
 returns c =
-    let read = c.before in
-    let start = read.before.before in
     ap (λ (n : ℕ). eqb n 4294967295) (c.greatest.ensures
-    ∙ ap (greatest_on start.args.b.now start.args.d) read.items.ensures)
+    ∙ ap (greatest_on c.args.b.now c.args.d) c.items.ensures)
 
-pub no-number-left-spec : {M : Type 1} → statement M
-no-number-left-spec = tie.close (tie.spec items-requires greatest-requires returns)
+pub no_number_left_spec : {M : Type 1} → statement M
+no_number_left_spec = tie.close (tie.spec
+    items-requires
+    greatest-requires
+    returns)

@@ -6,14 +6,17 @@ use Rattle.block_calls.proofs.Given.{clear-accepted}
 use Rattle.refusals.proofs.of_clear.Statement.{statement}
 use Rattle.refusals.proofs.of_clear.Tie as tie
 
-valid-block-requires : tie.Need-valid-block-requires
+valid-block-requires : tie.Need-valid_block-requires
 valid-block-requires c κs = search rules
 
-returns : tie.Need-returns
-returns c = sym (clear-accepted _ (sym c.before.valid-block.ensures ∙ c.if1.true))
+returns : tie.Need-returns-then-valid_block
+returns c = sym (clear-accepted _ (sym c.valid_block.ensures ∙ c.if-valid_block.true))
 
-returns-2 : tie.Need-returns-2
-returns-2 c = sym (refused-invalid _ _ (sym c.before.valid-block.ensures ∙ c.if1.false))
+returns-2 : tie.Need-returns-else-valid_block
+returns-2 c = sym (refused-invalid _ _ (sym c.valid_block.ensures ∙ c.if-valid_block.false))
 
-pub of-clear-spec : {M : Type 1} → statement M
-of-clear-spec = tie.close (tie.spec valid-block-requires returns returns-2)
+pub of_clear_spec : {M : Type 1} → statement M
+of_clear_spec = tie.close (tie.spec
+    valid-block-requires
+    returns
+    returns-2)

@@ -18,22 +18,20 @@ load-requires c κs = search rules
 count-requires : tie.Need-count-requires
 count-requires c κs = search rules
 
-add-full : tie.Need-overflow-add-full
+add-full : tie.Need-overflow_add-full
 add-full c =
-    let start = c.before.before.before in
     omega (
       arith,
-      load-few start.args.b.now (search rules) _
-          c.before.load.ensures,
-      count-le start.args.s 64 (search rules),
+      load-few c.args.b.now (search rules) _
+          c.load.ensures,
+      count-le c.args.s 64 (search rules),
       c.count.ensures,
     )
 
 busy-requires : tie.Need-busy-requires
-busy-requires c κs = let start = c.before.before.before in
-    has_words start.args.b.now (search rules) start.args.d (search rules)
+busy-requires c κs = has_words c.args.b.now (search rules) c.args.d (search rules)
 
-bad-set-requires : tie.Need-bad-set-requires
+bad-set-requires : tie.Need-bad_set-requires
 bad-set-requires c κs = search rules
 
 refuse-requires : tie.Need-refuse-requires
@@ -47,21 +45,16 @@ refuse-requires-3 c κs = search rules
 
 returns : tie.Need-returns
 returns c =
-    let bad = c.before.before.before in
-    let busy = bad.before in
-    let counted = busy.before in
-    let loaded = counted.before in
-    let start = loaded.before.before in
-    let full = ap₂ (λ (l n : ℕ). ltb most_messages (l + n)) loaded.load.ensures
-    counted.count.ensures in
-    chain _ _ 4 _ _ _ c.refuse3.ensures busy.busy.ensures
-    (chain _ _ 5 _ _ _ c.before.refuse2.ensures bad.bad-set.ensures
-    (chain _ _ 8 _ _ _ c.before.before.refuse.ensures full refl))
-    ∙ sym (read-tests start.args.b.now start.args.d (search rules) start.args.s
+    let full = ap₂ (λ (l n : ℕ). ltb most_messages (l + n)) c.load.ensures
+    c.count.ensures in
+    chain _ _ 4 _ _ _ c.refuse-3.ensures c.busy.ensures
+    (chain _ _ 5 _ _ _ c.refuse-2.ensures c.bad_set.ensures
+    (chain _ _ 8 _ _ _ c.refuse.ensures full refl))
+    ∙ sym (read-tests c.args.b.now c.args.d (search rules) c.args.s
     (search rules))
 
-pub of-client-read-spec : {M : Type 1} → statement M
-of-client-read-spec =
+pub of_client_read_spec : {M : Type 1} → statement M
+of_client_read_spec =
     tie.close
     (tie.spec
     load-requires

@@ -9,23 +9,20 @@ use Rattle.block_calls.proofs.Tested.{hand-over-tests}
 use Rattle.refusals.proofs.of_clients_hand_over.Statement.{statement}
 use Rattle.refusals.proofs.of_clients_hand_over.Tie as tie
 
-are-idle-requires : tie.Need-are-idle-requires
-are-idle-requires c κs = let start = c.before in
-    both_words start.args.b.now (search rules) start.args.giver start.args.receiver
+are-idle-requires : tie.Need-are_idle-idle-requires
+are-idle-requires c κs = both_words c.args.b.now (search rules) c.args.giver c.args.receiver
     (search rules)
 
 returns : tie.Need-returns
 returns c =
-    let idle = c.before.before in
-    let start = idle.before.before in
-    let equal = eqb start.args.giver start.args.receiver in
-    chain equal equal 18 _ _ _ c.refuse2.ensures refl
-    (chain _ _ 4 _ _ _ c.before.refuse.ensures (ap not idle.are-idle.ensures) refl)
-    ∙ sym (hand-over-tests start.args.b.now start.args.giver start.args.receiver
+    let equal = eqb c.args.giver c.args.receiver in
+    chain equal equal 18 _ _ _ c.refuse-2.ensures refl
+    (chain _ _ 4 _ _ _ c.refuse.ensures (ap not c.are_idle-idle.ensures) refl)
+    ∙ sym (hand-over-tests c.args.b.now c.args.giver c.args.receiver
     (search rules) (search rules))
 
-pub of-clients-hand-over-spec : {M : Type 1} → statement M
-of-clients-hand-over-spec =
+pub of_clients_hand_over_spec : {M : Type 1} → statement M
+of_clients_hand_over_spec =
     tie.close
     (tie.spec
     are-idle-requires

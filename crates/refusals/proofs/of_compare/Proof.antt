@@ -5,20 +5,24 @@ use Rattle.block_calls.proofs.Accepted.{refused-invalid, refusal-valid}
 use Rattle.refusals.proofs.of_compare.Statement.{statement}
 use Rattle.refusals.proofs.of_compare.Tie as tie
 
-valid-block-requires : tie.Need-valid-block-requires
+valid-block-requires : tie.Need-valid_block-requires
 valid-block-requires c κs = search rules
 
-of-valid-compare-requires : tie.Need-of-valid-compare-requires
-of-valid-compare-requires c κs = sym c.before.valid-block.ensures ∙ c.if1.true
+of-valid-compare-requires : tie.Need-of_valid_compare-requires
+of-valid-compare-requires c κs = sym c.valid_block.ensures ∙ c.if-valid_block.true
 
-returns : tie.Need-returns
-returns c = c.of-valid-compare.ensures
-    ∙ sym (refusal-valid _ _ (sym c.before.before.valid-block.ensures
-    ∙ c.before.if1.true))
+returns : tie.Need-returns-then-valid_block
+returns c = c.of_valid_compare.ensures
+    ∙ sym (refusal-valid _ _ (sym c.valid_block.ensures
+    ∙ c.if-valid_block.true))
 
-returns-2 : tie.Need-returns-2
-returns-2 c = sym (refused-invalid _ _ (sym c.before.valid-block.ensures ∙ c.if1.false))
+returns-2 : tie.Need-returns-else-valid_block
+returns-2 c = sym (refused-invalid _ _ (sym c.valid_block.ensures ∙ c.if-valid_block.false))
 
-pub of-compare-spec : {M : Type 1} → statement M
-of-compare-spec =
-    tie.close (tie.spec valid-block-requires of-valid-compare-requires returns returns-2)
+pub of_compare_spec : {M : Type 1} → statement M
+of_compare_spec =
+    tie.close (tie.spec
+    valid-block-requires
+    of-valid-compare-requires
+    returns
+    returns-2)

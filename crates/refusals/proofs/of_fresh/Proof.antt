@@ -19,10 +19,12 @@ refuse-requires-2 c κs = search rules
 returns : tie.Need-returns
 unfolding fresh_refusal_on first sizes_in_range
 returns c =
-    let start = c.before.before.before in
-    c.refuse2.ensures ∙ ap {B = ℕ}
-    (λ (m : ℕ). cond (not (sizes_in_range (sizes start.args.clients start.args.partitions
-    start.args.items))) 2 m) c.before.refuse.ensures
+    c.refuse-2.ensures ∙ ap {B = ℕ}
+    (λ (m : ℕ). cond (not (sizes_in_range (sizes c.args.clients c.args.partitions
+    c.args.items))) 2 m) c.refuse.ensures
 
-pub of-fresh-spec : {M : Type 1} → statement M
-of-fresh-spec = tie.close (tie.spec refuse-requires refuse-requires-2 returns)
+pub of_fresh_spec : {M : Type 1} → statement M
+of_fresh_spec = tie.close (tie.spec
+    refuse-requires
+    refuse-requires-2
+    returns)

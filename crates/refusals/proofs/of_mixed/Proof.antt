@@ -5,19 +5,23 @@ use Rattle.block_calls.proofs.Accepted.{refused-invalid, refusal-valid}
 use Rattle.refusals.proofs.of_mixed.Statement.{statement}
 use Rattle.refusals.proofs.of_mixed.Tie as tie
 
-valid-block-requires : tie.Need-valid-block-requires
+valid-block-requires : tie.Need-valid_block-requires
 valid-block-requires c κs = search rules
 
-of-valid-mixed-requires : tie.Need-of-valid-mixed-requires
-of-valid-mixed-requires c κs = sym c.before.valid-block.ensures ∙ c.if1.true
+of-valid-mixed-requires : tie.Need-of_valid_mixed-requires
+of-valid-mixed-requires c κs = sym c.valid_block.ensures ∙ c.if-valid_block.true
 
-returns : tie.Need-returns
-returns c = c.of-valid-mixed.ensures
-    ∙ sym (refusal-valid _ _ (sym c.before.before.valid-block.ensures
-    ∙ c.before.if1.true))
+returns : tie.Need-returns-then-valid_block
+returns c = c.of_valid_mixed.ensures
+    ∙ sym (refusal-valid _ _ (sym c.valid_block.ensures
+    ∙ c.if-valid_block.true))
 
-returns-2 : tie.Need-returns-2
-returns-2 c = sym (refused-invalid _ _ (sym c.before.valid-block.ensures ∙ c.if1.false))
+returns-2 : tie.Need-returns-else-valid_block
+returns-2 c = sym (refused-invalid _ _ (sym c.valid_block.ensures ∙ c.if-valid_block.false))
 
-pub of-mixed-spec : {M : Type 1} → statement M
-of-mixed-spec = tie.close (tie.spec valid-block-requires of-valid-mixed-requires returns returns-2)
+pub of_mixed_spec : {M : Type 1} → statement M
+of_mixed_spec = tie.close (tie.spec
+    valid-block-requires
+    of-valid-mixed-requires
+    returns
+    returns-2)

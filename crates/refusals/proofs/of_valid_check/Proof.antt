@@ -8,15 +8,16 @@ use Rattle.refusals.proofs.of_valid_check.Tie as tie
 check-requires : tie.Need-check-requires
 check-requires c κs = search rules
 
-returns : tie.Need-returns
-returns c = let start = c.before.before.before in
-    sym (check-passes start.args.b.now start.requires
-    (sym c.before.check.ensures ∙ c.if1.true))
+returns : tie.Need-returns-then-check
+returns c = sym (check-passes c.args.b.now c.requires
+    (sym c.check.ensures ∙ c.if-check.true))
 
-returns-2 : tie.Need-returns-2
-returns-2 c = let start = c.before.before.before in
-    sym (check-fails start.args.b.now start.requires
-    (sym c.before.check.ensures ∙ c.if1.false))
+returns-2 : tie.Need-returns-else-check
+returns-2 c = sym (check-fails c.args.b.now c.requires
+    (sym c.check.ensures ∙ c.if-check.false))
 
-pub of-valid-check-spec : {M : Type 1} → statement M
-of-valid-check-spec = tie.close (tie.spec check-requires returns returns-2)
+pub of_valid_check_spec : {M : Type 1} → statement M
+of_valid_check_spec = tie.close (tie.spec
+    check-requires
+    returns
+    returns-2)

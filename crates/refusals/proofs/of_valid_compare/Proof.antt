@@ -5,18 +5,19 @@ use Rattle.block_calls.proofs.Tested.{compare-nobody, compare-tests}
 use Rattle.refusals.proofs.of_valid_compare.Statement.{statement}
 use Rattle.refusals.proofs.of_valid_compare.Tie as tie
 
-are-clients-requires : tie.Need-are-clients-requires
+are-clients-requires : tie.Need-are_clients-requires
 are-clients-requires c κs = search rules
 
-returns : tie.Need-returns
-returns c = let start = c.before.before.before in
-    sym (compare-tests start.args.b.now start.args.first start.args.second
-    (search rules) (sym c.before.are-clients.ensures ∙ c.if1.true))
+returns : tie.Need-returns-then-are_clients
+returns c = sym (compare-tests c.args.b.now c.args.first c.args.second
+    (search rules) (sym c.are_clients.ensures ∙ c.if-are_clients.true))
 
-returns-2 : tie.Need-returns-2
-returns-2 c = let start = c.before.before.before in
-    sym (compare-nobody start.args.b.now start.args.first start.args.second
-    (search rules) (sym c.before.are-clients.ensures ∙ c.if1.false))
+returns-2 : tie.Need-returns-else-are_clients
+returns-2 c = sym (compare-nobody c.args.b.now c.args.first c.args.second
+    (search rules) (sym c.are_clients.ensures ∙ c.if-are_clients.false))
 
-pub of-valid-compare-spec : {M : Type 1} → statement M
-of-valid-compare-spec = tie.close (tie.spec are-clients-requires returns returns-2)
+pub of_valid_compare_spec : {M : Type 1} → statement M
+of_valid_compare_spec = tie.close (tie.spec
+    are-clients-requires
+    returns
+    returns-2)

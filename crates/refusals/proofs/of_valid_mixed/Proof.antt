@@ -7,56 +7,44 @@ use Rattle.block_calls.proofs.Tested.{mixed-nobody, mixed-refusal}
 use Rattle.refusals.proofs.of_valid_mixed.Statement.{statement}
 use Rattle.refusals.proofs.of_valid_mixed.Tie as tie
 
-sum : tie.Need-overflow-add-of-client-writing
+sum : tie.Need-overflow_add-reads
 sum c =
-    let writes = c.before.before in
-    let reads = writes.before in
-    let start = reads.before.before.before.before.before in
     omega (
       arith,
-      count-le start.args.s 64 (search rules),
-      count-le start.args.r 64 (search rules),
-      writes.count2.ensures,
-      reads.count.ensures,
+      count-le c.args.s 64 (search rules),
+      count-le c.args.r 64 (search rules),
+      c.count-writes.ensures,
+      c.count-reads.ensures,
     )
 
-writing-requires : tie.Need-of-client-writing-requires
+writing-requires : tie.Need-of_client_writing-requires
 writing-requires c κs =
-    let writes = c.before.before in
-    let reads = writes.before in
-    let taken = reads.before in
-    let start = taken.before.before.before.before in (
+    (
       search rules,
-      sym taken.before.is-client.ensures ∙ taken.if1.true,
+      sym c.is_client.ensures ∙ c.if-is_client.true,
       omega (
         arith,
-        count-le start.args.s 64 (search rules),
-        count-le start.args.r 64 (search rules),
-        writes.count2.ensures,
-        reads.count.ensures,
+        count-le c.args.s 64 (search rules),
+        count-le c.args.r 64 (search rules),
+        c.count-writes.ensures,
+        c.count-reads.ensures,
       ),
     )
 
-returns : tie.Need-returns
+returns : tie.Need-returns-then-is_client
 returns c =
-    let bad_writes = c.before in
-    let bad_reads = bad_writes.before in
-    let writes = bad_reads.before in
-    let reads = writes.before in
-    let start = reads.before.before.before.before.before in
-    c.of-client-writing.ensures
-    ∙ mixed-refusal start.args.b.now start.args.d (search rules) start.args.r
-    start.args.s start.args.bytes.now bad_reads.bad-set.ensures
-    bad_writes.bad-set2.ensures reads.count.ensures writes.count2.ensures
+    c.of_client_writing.ensures
+    ∙ mixed-refusal c.args.b.now c.args.d (search rules) c.args.r
+    c.args.s c.args.bytes.now c.bad_set-bad_reads.ensures
+    c.bad_set-bad_writes.ensures c.count-reads.ensures c.count-writes.ensures
 
-returns-2 : tie.Need-returns-2
+returns-2 : tie.Need-returns-else-is_client
 returns-2 c =
-    let start = c.before.before.before.before in
-    sym (mixed-nobody start.args.b.now start.args.d (search rules) start.args.r
-    start.args.s start.args.bytes.now (sym c.before.is-client.ensures ∙ c.if1.false))
+    sym (mixed-nobody c.args.b.now c.args.d (search rules) c.args.r
+    c.args.s c.args.bytes.now (sym c.is_client.ensures ∙ c.if-is_client.false))
 
-pub of-valid-mixed-spec : {M : Type 1} → statement M
-of-valid-mixed-spec =
+pub of_valid_mixed_spec : {M : Type 1} → statement M
+of_valid_mixed_spec =
     tie.close
     (tie.spec
     (λ c κs. search rules)

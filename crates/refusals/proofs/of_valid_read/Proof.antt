@@ -5,21 +5,24 @@ use Rattle.block_calls.proofs.Tested.{read-nobody}
 use Rattle.refusals.proofs.of_valid_read.Statement.{statement}
 use Rattle.refusals.proofs.of_valid_read.Tie as tie
 
-is-client-requires : tie.Need-is-client-requires
+is-client-requires : tie.Need-is_client-requires
 is-client-requires c κs = search rules
 
-of-client-read-requires : tie.Need-of-client-read-requires
-of-client-read-requires c κs = (search rules, sym c.before.is-client.ensures ∙ c.if1.true)
+of-client-read-requires : tie.Need-of_client_read-requires
+of-client-read-requires c κs = (search rules, sym c.is_client.ensures ∙ c.if-is_client.true)
 
-returns : tie.Need-returns
-returns c = c.of-client-read.ensures
+returns : tie.Need-returns-then-is_client
+returns c = c.of_client_read.ensures
 
-returns-2 : tie.Need-returns-2
+returns-2 : tie.Need-returns-else-is_client
 returns-2 c =
-    let start = c.before.before.before in
-    sym (read-nobody start.args.b.now start.args.d (search rules) start.args.s
-    (sym c.before.is-client.ensures ∙ c.if1.false))
+    sym (read-nobody c.args.b.now c.args.d (search rules) c.args.s
+    (sym c.is_client.ensures ∙ c.if-is_client.false))
 
-pub of-valid-read-spec : {M : Type 1} → statement M
-of-valid-read-spec =
-    tie.close (tie.spec is-client-requires of-client-read-requires returns returns-2)
+pub of_valid_read_spec : {M : Type 1} → statement M
+of_valid_read_spec =
+    tie.close (tie.spec
+    is-client-requires
+    of-client-read-requires
+    returns
+    returns-2)

@@ -7,33 +7,27 @@ use Rattle.block_calls.proofs.Tested.{write-nobody, write-refusal}
 use Rattle.refusals.proofs.of_valid_write.Statement.{statement}
 use Rattle.refusals.proofs.of_valid_write.Tie as tie
 
-writing-requires : tie.Need-of-client-writing-requires
+writing-requires : tie.Need-of_client_writing-requires
 writing-requires c κs =
-    let counted = c.before in
-    let taken = counted.before in
-    let start = taken.before.before.before.before in (
+    (
       search rules,
-      sym taken.before.is-client.ensures ∙ taken.if1.true,
-      omega (arith, count-le start.args.s 64 (search rules), counted.count.ensures),
+      sym c.is_client.ensures ∙ c.if-is_client.true,
+      omega (arith, count-le c.args.s 64 (search rules), c.count-joining.ensures),
     )
 
-returns : tie.Need-returns
+returns : tie.Need-returns-then-is_client
 returns c =
-    let bad = c.before in
-    let counted = bad.before in
-    let start = counted.before.before.before.before.before in
-    c.of-client-writing.ensures
-    ∙ write-refusal start.args.b.now start.args.d (search rules) start.args.s
-    start.args.bytes.now bad.bad-set.ensures counted.count.ensures
+    c.of_client_writing.ensures
+    ∙ write-refusal c.args.b.now c.args.d (search rules) c.args.s
+    c.args.bytes.now c.bad_set.ensures c.count-joining.ensures
 
-returns-2 : tie.Need-returns-2
+returns-2 : tie.Need-returns-else-is_client
 returns-2 c =
-    let start = c.before.before.before.before in
-    sym (write-nobody start.args.b.now start.args.d (search rules) start.args.s
-    start.args.bytes.now (sym c.before.is-client.ensures ∙ c.if1.false))
+    sym (write-nobody c.args.b.now c.args.d (search rules) c.args.s
+    c.args.bytes.now (sym c.is_client.ensures ∙ c.if-is_client.false))
 
-pub of-valid-write-spec : {M : Type 1} → statement M
-of-valid-write-spec =
+pub of_valid_write_spec : {M : Type 1} → statement M
+of_valid_write_spec =
     tie.close
     (tie.spec
     (λ c κs. search rules)

@@ -4,14 +4,12 @@ use borrow.Author.Rules.{rules}
 use Rattle.second_part.proofs.ask_item.Statement.{statement}
 use Rattle.second_part.proofs.ask_item.Tie as tie
 
-returns : tie.Need-returns
+returns : tie.Need-returns-then-has
 returns c =
-    let asked = c.before.before in
-    let found = asked.before.before.before in
-    rw (sym found.before.has.ensures ∙ found.if1.true) asked.put-asked.ensures
+    rw (sym c.has.ensures ∙ c.if-has.true) c.put_asked.ensures
 
-pub ask-item-spec : {M : Type 1} → statement M
-ask-item-spec =
+pub ask_item_spec : {M : Type 1} → statement M
+ask_item_spec =
     tie.close
     (tie.spec
     (λ c κs. search rules)
@@ -20,4 +18,4 @@ ask-item-spec =
     (λ c κs. search rules)
     (λ c. search rules)
     returns
-    (λ c. rw (sym c.before.has.ensures ∙ c.if1.false)))
+    (λ c. rw (sym c.has.ensures ∙ c.if-has.false)))

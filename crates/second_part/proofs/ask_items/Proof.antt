@@ -7,22 +7,20 @@ use Rattle.second_part.specs.SecondPart.{ask_again}
 use Rattle.second_part.proofs.ask_items.Statement.{statement}
 use Rattle.second_part.proofs.ask_items.Tie as tie
 
-abbrev invariant-loop : tie.invariant-loop
+abbrev invariant-loop : tie.invariant-loop-k
 invariant-loop b₀ d s stamps items k₀ b k =
     Turns (ask_again d s (λ j. get_or stamps j 0)) items b₀ b k
 
-abbrev decreases-loop : tie.decreases-loop
+abbrev decreases-loop : tie.decreases-loop-k
 decreases-loop b₀ d s stamps items k₀ b k = items - k
 
-loop-again : tie.Need-loop-preserved invariant-loop decreases-loop
+loop-again : tie.Need-loop-k-preserved invariant-loop decreases-loop
 loop-again c =
-    let turn = c.before.before in
-    let test = turn.before.before in
-    turns_next test.before.loop.invariant test.loop-test.true turn.ask-item.ensures
-    turn.ask-item.auto.0
+    turns_next c.loop-k.invariant c.loop-k-test.true c.ask_item.ensures
+    c.ask_item.auto.b
 
-pub ask-items-spec : {M : Type 1} → statement M
-ask-items-spec =
+pub ask_items_spec : {M : Type 1} → statement M
+ask_items_spec =
     tie.close
     (tie.spec
     invariant-loop
@@ -33,4 +31,4 @@ ask-items-spec =
     (λ c. search rules)
     loop-again
     (λ c. search rules)
-    (λ c. turns-last c.before.loop.invariant c.loop-test.false))
+    (λ c. turns-last c.loop-k.invariant c.loop-k-test.false))

@@ -6,11 +6,8 @@ use Rattle.second_part.proofs.fetch.Tie as tie
 
 returns : tie.Need-returns
 returns c =
-    let sent = c.before.before in
-    let awaited = sent.before.before.before.before in
-    let mode = awaited.before.before.before.before in
-    fetched-row _ _ _ _ _ _ _ mode.put-mode.ensures awaited.put-awaited.ensures
-    sent.get-items.ensures
+    fetched-row _ _ _ _ _ _ _ c.put_mode.ensures c.put_awaited.ensures
+    c.get_items.ensures
 
 pub fetch_spec : {M : Type 1} → statement M
 fetch_spec =

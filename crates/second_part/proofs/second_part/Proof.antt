@@ -5,32 +5,20 @@ use Rattle.second_part.proofs.Rows.{second-ends, second-fetches}
 use Rattle.second_part.proofs.second_part.Statement.{statement}
 use Rattle.second_part.proofs.second_part.Tie as tie
 
-returns : tie.Need-returns
+returns : tie.Need-returns-then-stale-eq0
 returns c =
-    let ended = c.before.before in
-    let test = ended.before.before in
-    let asked = test.before.before.before in
-    let stale = asked.before.before.before in
-    let chosen = stale.before.before.before.before in
-    let set = chosen.before.before.before in
-    second-ends _ _ _ _ _ _ _ _ set.set-of.ensures set.before.before.before.requires.0
-    chosen.choose.ensures stale.stale-items.ensures asked.ask-items.ensures
-    test.if1.true ended.read-end.ensures
+    second-ends _ _ _ _ _ _ _ _ c.set_of-s.ensures c.requires.0
+    c.choose.ensures c.stale_items-stale.ensures c.ask_items.ensures
+    c.if-stale-eq0.true c.read_end.ensures
 
-returns-2 : tie.Need-returns-2
+returns-2 : tie.Need-returns-else-stale-eq0
 returns-2 c =
-    let fetched = c.before.before in
-    let test = fetched.before.before in
-    let asked = test.before.before.before in
-    let stale = asked.before.before.before in
-    let chosen = stale.before.before.before.before in
-    let set = chosen.before.before.before in
-    second-fetches _ _ _ _ _ _ _ _ set.set-of.ensures set.before.before.before.requires.0
-    chosen.choose.ensures stale.stale-items.ensures asked.ask-items.ensures
-    test.if1.false fetched.fetch.ensures
+    second-fetches _ _ _ _ _ _ _ _ c.set_of-s.ensures c.requires.0
+    c.choose.ensures c.stale_items-stale.ensures c.ask_items.ensures
+    c.if-stale-eq0.false c.fetch.ensures
 
-pub second-part-spec : {M : Type 1} → statement M
-second-part-spec =
+pub second_part_spec : {M : Type 1} → statement M
+second_part_spec =
     tie.close
     (tie.spec
     (λ c κs. search rules)

@@ -6,19 +6,17 @@ use Rattle.itemset.proofs.Laws.{insert64-lt}
 use Rattle.second_part.proofs.stale_item.Statement.{statement}
 use Rattle.second_part.proofs.stale_item.Tie as tie
 
-returns : tie.Need-returns
+returns : tie.Need-returns-then-has-reply
 returns c =
-    let found = c.before in
-    let test = found.before.before in
     rw (
-      ← ap (λ (e : Entry). e.stamp) test.before.first.ensures,
-      ← test.has.ensures,
-      found.if1.true,
+      ← ap (λ (e : Entry). e.stamp) c.first-reply.ensures,
+      ← c.has.ensures,
+      c.if-has-reply.true,
     )
     (c.insert.ensures ∙ insert64-lt _ _ (search rules))
 
-pub stale-item-spec : {M : Type 1} → statement M
-stale-item-spec =
+pub stale_item_spec : {M : Type 1} → statement M
+stale_item_spec =
     tie.close
     (tie.spec
     (λ c κs. search rules)
@@ -26,7 +24,7 @@ stale-item-spec =
     (λ c κs. search rules)
     returns
     (λ c. rw (
-      ← ap (λ (e : Entry). e.stamp) c.before.before.before.first.ensures,
-      ← c.before.before.has.ensures,
-      c.if1.false,
+      ← ap (λ (e : Entry). e.stamp) c.first-reply.ensures,
+      ← c.has.ensures,
+      c.if-has-reply.false,
     )))

@@ -6,11 +6,13 @@ use Rattle.start_mixed.proofs.begin.Tie as tie
 
 returns : tie.Need-returns
 returns c =
-    let sent = c.before.before in
-    let got = sent.before.before.before.before in
-    mixed-begun _ _ _ _ _ _ _ _ got.get-items.ensures sent.prepare-items.ensures
+    mixed-begun _ _ _ _ _ _ _ _ c.get_items.ensures c.prepare_items.ensures
 
-pub begin-spec : {M : Type 1} → statement M
-begin-spec =
+pub begin_spec : {M : Type 1} → statement M
+begin_spec =
     tie.close
-    (tie.spec (λ c κs. search rules) (λ c κs. search rules) (λ c. search rules) returns)
+    (tie.spec
+    (λ c κs. search rules)
+    (λ c κs. search rules)
+    (λ c. search rules)
+    returns)

@@ -5,21 +5,16 @@ use Rattle.start_mixed.proofs.put_mixed.Tie as tie
 
 returns : tie.Need-returns
 returns c =
-    let stamped = c.before.before in
-    let counted = stamped.before.before.before.before in
-    let awaited = counted.before.before.before.before in
-    let written = awaited.before.before.before.before in
-    let busy = written.before.before.before.before in
     rw (
-      ← busy.put-busy.ensures,
-      ← written.put-write-set.ensures,
-      ← awaited.put-write-awaited.ensures,
-      ← counted.put_count.ensures,
+      ← c.put_busy.ensures,
+      ← c.put_write_set.ensures,
+      ← c.put_write_awaited.ensures,
+      ← c.put_count.ensures,
     )
-    stamped.put-stamp.ensures
+    c.put_stamp.ensures
 
-pub put-mixed-spec : {M : Type 1} → statement M
-put-mixed-spec =
+pub put_mixed_spec : {M : Type 1} → statement M
+put_mixed_spec =
     tie.close
     (tie.spec
     (λ c κs. search rules)

@@ -9,22 +9,17 @@ use Rattle.start_mixed.proofs.start_mixed.Tie as tie
 
 returns : tie.Need-returns
 returns c =
-    let sent = c.before.before in
-    let set = sent.before.before.before.before in
-    let kept = set.before.before.before.before in
-    let asked = kept.before.before.before.before in
-    let known = asked.before.before.greatest in
-    let start = asked.before.before.before.before.before.before in
-    mixed-started start.args.b.now _ _ _ _ start.requires.3 start.args.bytes.now
+    let known = c.greatest-number in
+    mixed-started c.args.b.now _ _ _ _ c.requires.3 c.args.bytes.now
     (known.result + 1) _ _ _ _
     (add-one known.result ∙ ap suc known.ensures)
-    asked.ask.ensures
-    kept.keep-items.ensures
-    set.put-mixed.ensures
-    sent.begin.ensures
+    c.ask.ensures
+    c.keep_items.ensures
+    c.put_mixed.ensures
+    c.begin.ensures
 
-pub start-mixed-spec : {M : Type 1} → statement M
-start-mixed-spec =
+pub start_mixed_spec : {M : Type 1} → statement M
+start_mixed_spec =
     tie.close
     (tie.spec
     (λ c κs. search rules)

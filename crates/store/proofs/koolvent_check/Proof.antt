@@ -10,12 +10,15 @@ use Rattle.store.proofs.koolvent_check.Tie as tie
 check-requires : tie.Need-check-requires
 check-requires c κs = search rules
 
-number-of-requires : tie.Need-number-of-requires
+number-of-requires : tie.Need-number_of-requires
 number-of-requires c κs = subst Fits (sym c.check.ensures.0) (answer-fits _ _)
 
 returns : tie.Need-returns
-returns c = let x = c.before.check.ensures in
-    (c.number_of_lem.ensures ∙ ap number_of_answer x.0, x.1)
+returns c = let x = c.check.ensures in
+    (c.number_of.ensures ∙ ap number_of_answer x.0, x.1)
 
-pub koolvent-check-spec : {M : Type 1} → statement M
-koolvent-check-spec = tie.close (tie.spec check-requires number-of-requires returns)
+pub koolvent_check_spec : {M : Type 1} → statement M
+koolvent_check_spec = tie.close (tie.spec
+    check-requires
+    number-of-requires
+    returns)

@@ -10,12 +10,15 @@ use Rattle.store.proofs.koolvent_compare.Tie as tie
 compare-requires : tie.Need-compare-requires
 compare-requires c κs = search rules
 
-number-of-requires : tie.Need-number-of-requires
+number-of-requires : tie.Need-number_of-requires
 number-of-requires c κs = subst Fits (sym c.compare.ensures.0) (answer-fits _ _)
 
 returns : tie.Need-returns
-returns c = let x = c.before.compare.ensures in
-    (c.number_of_lem.ensures ∙ ap number_of_answer x.0, x.1)
+returns c = let x = c.compare.ensures in
+    (c.number_of.ensures ∙ ap number_of_answer x.0, x.1)
 
-pub koolvent-compare-spec : {M : Type 1} → statement M
-koolvent-compare-spec = tie.close (tie.spec compare-requires number-of-requires returns)
+pub koolvent_compare_spec : {M : Type 1} → statement M
+koolvent_compare_spec = tie.close (tie.spec
+    compare-requires
+    number-of-requires
+    returns)

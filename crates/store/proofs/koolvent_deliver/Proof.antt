@@ -10,17 +10,21 @@ use Rattle.store.proofs.koolvent_deliver.Tie as tie
 deliver-requires : tie.Need-deliver-requires
 deliver-requires c κs = search rules
 
-number-of-requires : tie.Need-number-of-requires
-number-of-requires c κs = subst Fits (sym c.before.before.deliver.ensures.0)
+number-of-requires : tie.Need-number_of-requires
+number-of-requires c κs = subst Fits (sym c.deliver.ensures.0)
     (answer-fits _ _)
 
-same_length : tie.Need-same-length
+same_length : tie.Need-shape_of-b
 same_length c = search rules
 
 returns : tie.Need-returns
-returns c = let x = c.before.before.before.deliver.ensures in
-    (c.number_of_lem.ensures ∙ ap number_of_answer x.0, (x.1.0, x.1.1))
+returns c = let x = c.deliver.ensures in
+    (c.number_of.ensures ∙ ap number_of_answer x.0, (x.1.0, x.1.1))
 
-pub koolvent-deliver-spec : {M : Type 1} → statement M
-koolvent-deliver-spec =
-    tie.close (tie.spec deliver-requires number-of-requires same_length returns)
+pub koolvent_deliver_spec : {M : Type 1} → statement M
+koolvent_deliver_spec =
+    tie.close (tie.spec
+    deliver-requires
+    number-of-requires
+    same_length
+    returns)

@@ -7,20 +7,24 @@ use Rattle.block_calls.proofs.Fits.{answer-fits}
 use Rattle.store.proofs.koolvent_hand_over.Statement.{statement}
 use Rattle.store.proofs.koolvent_hand_over.Tie as tie
 
-hand-over-requires : tie.Need-hand-over-requires
+hand-over-requires : tie.Need-hand_over-requires
 hand-over-requires c κs = search rules
 
-number-of-requires : tie.Need-number-of-requires
-number-of-requires c κs = subst Fits (sym c.before.before.hand-over.ensures.0)
+number-of-requires : tie.Need-number_of-requires
+number-of-requires c κs = subst Fits (sym c.hand_over.ensures.0)
     (answer-fits _ _)
 
-same_length : tie.Need-same-length
+same_length : tie.Need-shape_of-b
 same_length c = search rules
 
 returns : tie.Need-returns
-returns c = let x = c.before.before.before.hand-over.ensures in
-    (c.number_of_lem.ensures ∙ ap number_of_answer x.0, (x.1.0, x.1.1))
+returns c = let x = c.hand_over.ensures in
+    (c.number_of.ensures ∙ ap number_of_answer x.0, (x.1.0, x.1.1))
 
-pub koolvent-hand-over-spec : {M : Type 1} → statement M
-koolvent-hand-over-spec =
-    tie.close (tie.spec hand-over-requires number-of-requires same_length returns)
+pub koolvent_hand_over_spec : {M : Type 1} → statement M
+koolvent_hand_over_spec =
+    tie.close (tie.spec
+    hand-over-requires
+    number-of-requires
+    same_length
+    returns)

@@ -10,15 +10,19 @@ use Rattle.store.proofs.koolvent_show.Tie as tie
 show-requires : tie.Need-show-requires
 show-requires c κs = search rules
 
-number-of-requires : tie.Need-number-of-requires
-number-of-requires c κs = subst Fits (sym c.before.before.show.ensures.0) (answer-fits _ _)
+number-of-requires : tie.Need-number_of-requires
+number-of-requires c κs = subst Fits (sym c.show.ensures.0) (answer-fits _ _)
 
-same_length : tie.Need-same-length
+same_length : tie.Need-shape_of-output
 same_length c = search rules
 
 returns : tie.Need-returns
-returns c = let x = c.before.before.before.show.ensures in
-    (c.number_of_lem.ensures ∙ ap number_of_answer x.0, (x.1.0, x.1.1))
+returns c = let x = c.show.ensures in
+    (c.number_of.ensures ∙ ap number_of_answer x.0, (x.1.0, x.1.1))
 
-pub koolvent-show-spec : {M : Type 1} → statement M
-koolvent-show-spec = tie.close (tie.spec show-requires number-of-requires same_length returns)
+pub koolvent_show_spec : {M : Type 1} → statement M
+koolvent_show_spec = tie.close (tie.spec
+    show-requires
+    number-of-requires
+    same_length
+    returns)

@@ -7,20 +7,24 @@ use Rattle.block_calls.proofs.Fits.{answer-fits}
 use Rattle.store.proofs.koolvent_start_write.Statement.{statement}
 use Rattle.store.proofs.koolvent_start_write.Tie as tie
 
-start-write-requires : tie.Need-start-write-requires
+start-write-requires : tie.Need-start_write-requires
 start-write-requires c κs = search rules
 
-number-of-requires : tie.Need-number-of-requires
-number-of-requires c κs = subst Fits (sym c.before.before.start-write.ensures.0)
+number-of-requires : tie.Need-number_of-requires
+number-of-requires c κs = subst Fits (sym c.start_write.ensures.0)
     (answer-fits _ _)
 
-same_length : tie.Need-same-length
+same_length : tie.Need-shape_of-b
 same_length c = search rules
 
 returns : tie.Need-returns
-returns c = let x = c.before.before.before.start-write.ensures in
-    (c.number_of_lem.ensures ∙ ap number_of_answer x.0, (x.1.0, (x.1.1, refl)))
+returns c = let x = c.start_write.ensures in
+    (c.number_of.ensures ∙ ap number_of_answer x.0, (x.1.0, (x.1.1, refl)))
 
-pub koolvent-start-write-spec : {M : Type 1} → statement M
-koolvent-start-write-spec =
-    tie.close (tie.spec start-write-requires number-of-requires same_length returns)
+pub koolvent_start_write_spec : {M : Type 1} → statement M
+koolvent_start_write_spec =
+    tie.close (tie.spec
+    start-write-requires
+    number-of-requires
+    same_length
+    returns)

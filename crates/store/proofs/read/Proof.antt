@@ -10,17 +10,21 @@ use Rattle.store.proofs.read.Tie as tie
 read-requires : tie.Need-read-requires
 read-requires c κs = search rules
 
-number-of-requires : tie.Need-number-of-requires
-number-of-requires c κs = subst Fits (sym c.before.before.read.ensures.0)
+number-of-requires : tie.Need-number_of-requires
+number-of-requires c κs = subst Fits (sym c.read.ensures.0)
     (answer-fits _ _)
 
-same_length : tie.Need-same-length
+same_length : tie.Need-shape_of-b
 same_length c = search rules
 
 returns : tie.Need-returns
-returns c = let x = c.before.before.before.read.ensures in
-    (c.number_of_lem.ensures ∙ ap number_of_answer x.0, (x.1.0, x.1.1))
+returns c = let x = c.read.ensures in
+    (c.number_of.ensures ∙ ap number_of_answer x.0, (x.1.0, x.1.1))
 
 pub read_spec : {M : Type 1} → statement M
 read_spec =
-    tie.close (tie.spec read-requires number-of-requires same_length returns)
+    tie.close (tie.spec
+    read-requires
+    number-of-requires
+    same_length
+    returns)

@@ -3,16 +3,16 @@ use borrow.Author.Rules.{rules}
 use Rattle.store_calls.proofs.begin_read.Statement.{statement}
 use Rattle.store_calls.proofs.begin_read.Tie as tie
 
-returns : tie.Need-returns
-returns c = rw c.before.before.before.before.if1.true
-    c.before.before.start-fast-read.ensures
+returns : tie.Need-returns-then-fast
+returns c = rw c.if-fast.true
+    c.start_fast_read.ensures
 
-returns-2 : tie.Need-returns-2
-returns-2 c = rw c.before.before.before.before.if1.false
-    c.before.before.start-read.ensures
+returns-2 : tie.Need-returns-else-fast
+returns-2 c = rw c.if-fast.false
+    c.start_read.ensures
 
-pub begin-read-spec : {M : Type 1} → statement M
-begin-read-spec =
+pub begin_read_spec : {M : Type 1} → statement M
+begin_read_spec =
     tie.close
     (tie.spec
     (λ c κs. search rules)

@@ -6,16 +6,19 @@ use Rattle.block_calls.proofs.Given.{clear-given}
 use Rattle.store_calls.proofs.clear_on.Statement.{statement}
 use Rattle.store_calls.proofs.clear_on.Tie as tie
 
-clear-requires : tie.Need-clear-requires
+clear-requires : tie.Need-clear-gone-requires
 clear-requires c κs = accepted-valid _ clear (search rules)
 
-same_length : tie.Need-same-length
+same_length : tie.Need-shape_of-b
 same_length c = search rules
 
 returns : tie.Need-returns
 returns c =
-    let x = c.before.before.clear.ensures in
+    let x = c.clear-gone.ensures in
     clear-given _ _ _ (search rules) x.0 x.1
 
-pub clear-on-spec : {M : Type 1} → statement M
-clear-on-spec = tie.close (tie.spec clear-requires same_length returns)
+pub clear_on_spec : {M : Type 1} → statement M
+clear_on_spec = tie.close (tie.spec
+    clear-requires
+    same_length
+    returns)

@@ -4,20 +4,21 @@ use Rattle.block_calls.proofs.Given.{compare-ready, compare-given}
 use Rattle.store_calls.proofs.compare_on.Statement.{statement}
 use Rattle.store_calls.proofs.compare_on.Tie as tie
 
-items-requires : tie.Need-items-requires
+items-requires : tie.Need-items-items-requires
 items-requires c κs = search rules
 
-compare-requires : tie.Need-compare-requires
+compare-requires : tie.Need-compare-standing-requires
 compare-requires c κs =
-    let start = c.before.before in
-    compare-ready start.args.b.now start.args.first start.args.second
-    (search rules) _ c.items.ensures
+    compare-ready c.args.b.now c.args.first c.args.second
+    (search rules) _ c.items-items.ensures
 
 returns : tie.Need-returns
 returns c =
-    let start = c.before.before.before in
-    compare-given start.args.b.now start.args.first start.args.second
-    (search rules) _ c.compare.ensures
+    compare-given c.args.b.now c.args.first c.args.second
+    (search rules) _ c.compare-standing.ensures
 
-pub compare-on-spec : {M : Type 1} → statement M
-compare-on-spec = tie.close (tie.spec items-requires compare-requires returns)
+pub compare_on_spec : {M : Type 1} → statement M
+compare_on_spec = tie.close (tie.spec
+    items-requires
+    compare-requires
+    returns)

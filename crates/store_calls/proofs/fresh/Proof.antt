@@ -6,39 +6,42 @@ use Rattle.block_calls.proofs.Fresh.{fresh-accepted, fresh-given, fresh-refused}
 use Rattle.store_calls.proofs.fresh.Statement.{statement}
 use Rattle.store_calls.proofs.fresh.Tie as tie
 
-of-fresh-requires : tie.Need-of-fresh-requires
+of-fresh-requires : tie.Need-of_fresh-refusal-requires
 of-fresh-requires c κs = search rules
 
-make-fresh-requires : tie.Need-make-fresh-requires
+make-fresh-requires : tie.Need-make_fresh-requires
 make-fresh-requires c κs =
-    let start = c.before.before.before.before.before in
-    (fresh-accepted start.args.b.now
-    (sizes start.args.clients start.args.partitions start.args.items)
-    (sym c.before.before.of-fresh.ensures ∙ c.before.if1.true)).1
+    (fresh-accepted c.args.b.now
+    (sizes c.args.clients c.args.partitions c.args.items)
+    (sym c.of_fresh-refusal.ensures ∙ c.if-refusal-eq0.true)).1
 
-same_length : tie.Need-same-length
+same_length : tie.Need-shape_of-b-then-refusal-eq0
 same_length c = search rules
 
-returns : tie.Need-returns
+returns : tie.Need-returns-then-refusal-eq0
 returns c =
-    let start = c.before.before.before.before.before.before.before.before in
-    fresh-given start.args.b.now
-    (sizes start.args.clients start.args.partitions start.args.items)
-    (sym c.before.before.before.before.before.of-fresh.ensures
-    ∙ c.before.before.before.before.if1.true) _
-    c.before.before.make-fresh.ensures
+    fresh-given c.args.b.now
+    (sizes c.args.clients c.args.partitions c.args.items)
+    (sym c.of_fresh-refusal.ensures
+    ∙ c.if-refusal-eq0.true) _
+    c.make_fresh.ensures
 
-same-length-2 : tie.Need-same-length-2
+same-length-2 : tie.Need-shape_of-b-else-refusal-eq0
 same-length-2 c = search rules
 
-returns-2 : tie.Need-returns-2
+returns-2 : tie.Need-returns-else-refusal-eq0
 returns-2 c =
-    let start = c.before.before.before.before in
-    fresh-refused start.args.b.now
-    (sizes start.args.clients start.args.partitions start.args.items) _
-    c.before.of-fresh.ensures c.if1.false
+    fresh-refused c.args.b.now
+    (sizes c.args.clients c.args.partitions c.args.items) _
+    c.of_fresh-refusal.ensures c.if-refusal-eq0.false
 
-pub fresh-spec : {M : Type 1} → statement M
-fresh-spec =
+pub fresh_spec : {M : Type 1} → statement M
+fresh_spec =
     tie.close
-    (tie.spec of-fresh-requires make-fresh-requires same_length returns same-length-2 returns-2)
+    (tie.spec
+    of-fresh-requires
+    make-fresh-requires
+    same_length
+    returns
+    same-length-2
+    returns-2)

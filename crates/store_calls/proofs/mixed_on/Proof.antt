@@ -5,22 +5,19 @@ use Rattle.block_calls.proofs.Given.{mixed-ready, mixed-given}
 use Rattle.store_calls.proofs.mixed_on.Statement.{statement}
 use Rattle.store_calls.proofs.mixed_on.Tie as tie
 
-start-mixed-requires : tie.Need-start-mixed-requires
+start-mixed-requires : tie.Need-start_mixed-requires
 start-mixed-requires c κs =
-    let start = c.before.before.before.before.before in
-    mixed-ready start.args.b.now start.args.d start.args.r start.args.s
-    start.args.bytes.now (search rules) _ c.before.items.ensures
+    mixed-ready c.args.b.now c.args.d c.args.r c.args.s
+    c.args.bytes.now (search rules) _ c.items-items.ensures
 
 returns : tie.Need-returns
 returns c =
-    let begun = c.before.before.before.before in
-    let start = begun.before.before.before.before.before.before in
-    mixed-given start.args.b.now start.args.d start.args.r start.args.s
-    start.args.bytes.now (search rules) _ _ begun.start-mixed.ensures
-    c.message-count.ensures
+    mixed-given c.args.b.now c.args.d c.args.r c.args.s
+    c.args.bytes.now (search rules) _ _ c.start_mixed.ensures
+    c.message_count-length.ensures
 
-pub mixed-on-spec : {M : Type 1} → statement M
-mixed-on-spec =
+pub mixed_on_spec : {M : Type 1} → statement M
+mixed_on_spec =
     tie.close
     (tie.spec
     (λ c κs. search rules)

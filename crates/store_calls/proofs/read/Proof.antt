@@ -6,35 +6,39 @@ use Rattle.block_calls.proofs.Given.{refused-given, tables-given, read-refusal}
 use Rattle.store_calls.proofs.read.Statement.{statement}
 use Rattle.store_calls.proofs.read.Tie as tie
 
-of-read-requires : tie.Need-of-read-requires
+of-read-requires : tie.Need-of_read-refusal-requires
 of-read-requires c κs = search rules
 
-read-on-requires : tie.Need-read-on-requires
+read-on-requires : tie.Need-read_on-requires
 read-on-requires c κs =
-    let start = c.before.before.before.before.before in
-    let a = start.args in
+    let a = c.args in
     sym (read-refusal a.b.now a.fast a.d a.s)
-    ∙ (sym c.before.before.of-read.ensures ∙ c.before.if1.true)
+    ∙ (sym c.of_read-refusal.ensures ∙ c.if-refusal-eq0.true)
 
-same_length : tie.Need-same-length
+same_length : tie.Need-shape_of-b-then-refusal-eq0
 same_length c = search rules
 
-returns : tie.Need-returns
-returns c = let x = c.before.before.read-on.ensures in (x.0, (x.1, tables-given _ _ _ x.1))
+returns : tie.Need-returns-then-refusal-eq0
+returns c = let x = c.read_on.ensures in (x.0, (x.1, tables-given _ _ _ x.1))
 
-same-length-2 : tie.Need-same-length-2
+same-length-2 : tie.Need-shape_of-b-else-refusal-eq0
 same-length-2 c = search rules
 
-returns-2 : tie.Need-returns-2
+returns-2 : tie.Need-returns-else-refusal-eq0
 returns-2 c =
-    let start = c.before.before.before.before in
-    let a = start.args in
+    let a = c.args in
     let x = refused-given a.b.now (read_call a.fast a.d a.s) _
-    (c.before.of-read.ensures ∙ read-refusal a.b.now a.fast a.d a.s)
-    c.if1.false in
+    (c.of_read-refusal.ensures ∙ read-refusal a.b.now a.fast a.d a.s)
+    c.if-refusal-eq0.false in
     (x.0, (x.1, tables-given _ _ _ x.1))
 
 pub read_spec : {M : Type 1} → statement M
 read_spec =
     tie.close
-    (tie.spec of-read-requires read-on-requires same_length returns same-length-2 returns-2)
+    (tie.spec
+    of-read-requires
+    read-on-requires
+    same_length
+    returns
+    same-length-2
+    returns-2)

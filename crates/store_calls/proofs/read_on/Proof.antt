@@ -5,22 +5,19 @@ use Rattle.block_calls.proofs.Given.{read-ready, read-given}
 use Rattle.store_calls.proofs.read_on.Statement.{statement}
 use Rattle.store_calls.proofs.read_on.Tie as tie
 
-begin-read-requires : tie.Need-begin-read-requires
+begin-read-requires : tie.Need-begin_read-requires
 begin-read-requires c κs =
-    let start = c.before.before.before.before in
-    let a = start.args in
-    read-ready a.b.now a.fast a.d a.s (search rules) _ c.before.items.ensures
+    let a = c.args in
+    read-ready a.b.now a.fast a.d a.s (search rules) _ c.items-items.ensures
 
 returns : tie.Need-returns
 returns c =
-    let begun = c.before.before.before.before in
-    let start = begun.before.before.before.before.before in
-    let a = start.args in
+    let a = c.args in
     read-given a.b.now a.fast a.d a.s (search rules) _ _
-    begun.begin-read.ensures c.message-count.ensures
+    c.begin_read.ensures c.message_count-length.ensures
 
-pub read-on-spec : {M : Type 1} → statement M
-read-on-spec =
+pub read_on_spec : {M : Type 1} → statement M
+read_on_spec =
     tie.close
     (tie.spec
     (λ c κs. search rules)

@@ -5,25 +5,26 @@ use Rattle.block_calls.proofs.Given.{show-ready, show-given}
 use Rattle.store_calls.proofs.show_on.Statement.{statement}
 use Rattle.store_calls.proofs.show_on.Tie as tie
 
-write-frame-requires : tie.Need-write-frame-requires
-write-frame-requires c κs = let start = c.before.before.before in
-    show-ready start.args.b.now start.args.d start.args.out.now (search rules)
+write-frame-requires : tie.Need-write_frame-requires
+write-frame-requires c κs = show-ready c.args.b.now c.args.d c.args.out.now (search rules)
 
-frame-length-requires : tie.Need-frame-length-requires
+frame-length-requires : tie.Need-frame_length-requires
 frame-length-requires c κs =
-    let start = c.before.before.before.before.before.before in
-    let r = show-ready start.args.b.now start.args.d start.args.out.now
+    let r = show-ready c.args.b.now c.args.d c.args.out.now
     (search rules) in
     (r.0, r.1)
 
-same_length : tie.Need-same-length
+same_length : tie.Need-shape_of-out
 same_length c = search rules
 
 returns : tie.Need-returns
 returns c =
-    let start = c.before.before.before.before.before.before.before in
-    show-given start.args.b.now start.args.d start.args.out.now (search rules) _ _
-    c.before.before.before.write-frame.ensures c.frame-length.ensures
+    show-given c.args.b.now c.args.d c.args.out.now (search rules) _ _
+    c.write_frame.ensures c.frame_length.ensures
 
-pub show-on-spec : {M : Type 1} → statement M
-show-on-spec = tie.close (tie.spec write-frame-requires frame-length-requires same_length returns)
+pub show_on_spec : {M : Type 1} → statement M
+show_on_spec = tie.close (tie.spec
+    write-frame-requires
+    frame-length-requires
+    same_length
+    returns)

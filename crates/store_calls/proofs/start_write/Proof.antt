@@ -5,31 +5,36 @@ use Rattle.block_calls.proofs.Given.{refused-given, tables-given}
 use Rattle.store_calls.proofs.start_write.Statement.{statement}
 use Rattle.store_calls.proofs.start_write.Tie as tie
 
-of-write-requires : tie.Need-of-write-requires
+of-write-requires : tie.Need-of_write-refusal-requires
 of-write-requires c κs = search rules
 
-write-on-requires : tie.Need-write-on-requires
+write-on-requires : tie.Need-write_on-requires
 write-on-requires c κs = search rules
 
-same_length : tie.Need-same-length
+same_length : tie.Need-shape_of-b-then-refusal-eq0
 same_length c = search rules
 
-returns : tie.Need-returns
-returns c = let x = c.before.before.write-on.ensures in
+returns : tie.Need-returns-then-refusal-eq0
+returns c = let x = c.write_on.ensures in
     (x.0, (x.1, tables-given _ _ _ x.1))
 
-same-length-2 : tie.Need-same-length-2
+same-length-2 : tie.Need-shape_of-b-else-refusal-eq0
 same-length-2 c = search rules
 
-returns-2 : tie.Need-returns-2
+returns-2 : tie.Need-returns-else-refusal-eq0
 returns-2 c =
-    let start = c.before.before.before.before.before in
-    let x = refused-given start.args.b.now
-    (start_write start.args.d start.args.s start.args.bytes.now) _
-    c.before.of-write.ensures c.if1.false in
+    let x = refused-given c.args.b.now
+    (start_write c.args.d c.args.s c.args.bytes.now) _
+    c.of_write-refusal.ensures c.if-refusal-eq0.false in
     (x.0, (x.1, tables-given _ _ _ x.1))
 
-pub start-write-spec : {M : Type 1} → statement M
-start-write-spec =
+pub start_write_spec : {M : Type 1} → statement M
+start_write_spec =
     tie.close
-    (tie.spec of-write-requires write-on-requires same_length returns same-length-2 returns-2)
+    (tie.spec
+    of-write-requires
+    write-on-requires
+    same_length
+    returns
+    same-length-2
+    returns-2)

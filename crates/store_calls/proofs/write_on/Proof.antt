@@ -5,23 +5,20 @@ use Rattle.block_calls.proofs.Given.{write-ready, write-given}
 use Rattle.store_calls.proofs.write_on.Statement.{statement}
 use Rattle.store_calls.proofs.write_on.Tie as tie
 
-start-write-requires : tie.Need-start-write-requires
+start-write-requires : tie.Need-start_write-requires
 start-write-requires c κs =
-    let start = c.before.before.before.before.before in
-    let a = start.args in
+    let a = c.args in
     write-ready a.b.now a.d a.s a.bytes.now (search rules) _
-    c.before.items.ensures
+    c.items-items.ensures
 
 returns : tie.Need-returns
 returns c =
-    let begun = c.before.before.before.before in
-    let start = begun.before.before.before.before.before.before in
-    let a = start.args in
+    let a = c.args in
     write-given a.b.now a.d a.s a.bytes.now (search rules) _ _
-    begun.start-write.ensures c.message-count.ensures
+    c.start_write.ensures c.message_count-length.ensures
 
-pub write-on-spec : {M : Type 1} → statement M
-write-on-spec =
+pub write_on_spec : {M : Type 1} → statement M
+write_on_spec =
     tie.close
     (tie.spec
     (λ c κs. search rules)

@@ -4,33 +4,30 @@ use Rattle.check_messages.proofs.Told.{brought-is}
 use Rattle.check_messages.proofs.kinds.brought.Statement.{statement}
 use Rattle.check_messages.proofs.kinds.brought.Tie as tie
 
-good-entry-requires : tie.Need-good-entry-requires
+good-entry-requires : tie.Need-good_entry-requires
 good-entry-requires c κs =
-    let start = c.before.before.before.before.before.before in
-    (start.requires.0.known, start.requires.2)
+    (c.requires.0.known, c.requires.2)
 
-good-entry-requires-2 : tie.Need-good-entry-requires-2
+good-entry-requires-2 : tie.Need-good_entry-requires-2
 good-entry-requires-2 c κs =
-    let start = c.before.before.before.before.before.before.before in
-    (start.requires.0.known, start.requires.3)
+    (c.requires.0.known, c.requires.3)
 
-stored-value-requires : tie.Need-stored-value-requires
+stored-value-requires : tie.Need-stored_value-requires
 stored-value-requires c κs =
-    let start = c.before.before.before.before.before.before.before.before in (
-      start.requires.0.keyed,
-      start.requires.1,
-      stamp-small start.args.b.now start.args.v.stamp start.requires.2,
+    (
+      c.requires.0.keyed,
+      c.requires.1,
+      stamp-small c.args.b.now c.args.v.stamp c.requires.2,
     )
 
 returns : tie.Need-returns
 returns c =
-    let start = c.before.before.before.before.before.before.before.before.before in
-    brought-is start.args.b.now start.args.v start.args.latest
-    c.before.before.good-entry.ensures c.before.good-entry2.ensures
-    c.stored-value.ensures
+    brought-is c.args.b.now c.args.v c.args.latest
+    c.good_entry.ensures c.good_entry-2.ensures
+    c.stored_value.ensures
 
-pub brought-spec : {M : Type 1} → statement M
-brought-spec =
+pub brought_spec : {M : Type 1} → statement M
+brought_spec =
     tie.close
     (tie.spec
     good-entry-requires

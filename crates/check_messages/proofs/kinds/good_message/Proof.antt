@@ -5,93 +5,81 @@ use Rattle.check_messages.proofs.Told.{message-inside}
 use Rattle.check_messages.proofs.kinds.good_message.Statement.{statement}
 use Rattle.check_messages.proofs.kinds.good_message.Tie as tie
 
-message-word-requires : tie.Need-message-word-requires
+message-word-requires : tie.Need-message_word-requires
 message-word-requires c κs =
-    let start = c.before.before.before.before.before.before in
-    word-ready start.args.b.now start.requires.0.known.held.valid start.args.i start.requires.1 0
+    word-ready c.args.b.now c.requires.0.known.held.valid c.args.i c.requires.1 0
     (omega arith)
 
-message-word-requires-2 : tie.Need-message-word-requires-2
+message-word-requires-2 : tie.Need-message_word-requires-2
 message-word-requires-2 c κs =
-    let start = c.before.before.before.before.before.before.before in
-    word-ready start.args.b.now start.requires.0.known.held.valid start.args.i start.requires.1 1
+    word-ready c.args.b.now c.requires.0.known.held.valid c.args.i c.requires.1 1
     (omega arith)
 
-message-word-requires-3 : tie.Need-message-word-requires-3
+message-word-requires-3 : tie.Need-message_word-requires-3
 message-word-requires-3 c κs =
-    let start = c.before.before.before.before.before.before.before.before in
-    word-ready start.args.b.now start.requires.0.known.held.valid start.args.i start.requires.1 2
+    word-ready c.args.b.now c.requires.0.known.held.valid c.args.i c.requires.1 2
     (omega arith)
 
-message-word-requires-4 : tie.Need-message-word-requires-4
+message-word-requires-4 : tie.Need-message_word-requires-4
 message-word-requires-4 c κs =
-    let start = c.before.before.before.before.before.before.before.before.before in
-    word-ready start.args.b.now start.requires.0.known.held.valid start.args.i start.requires.1 3
+    word-ready c.args.b.now c.requires.0.known.held.valid c.args.i c.requires.1 3
     (omega arith)
 
-message-word-requires-5 : tie.Need-message-word-requires-5
+message-word-requires-5 : tie.Need-message_word-requires-5
 message-word-requires-5 c κs =
-    let start = c.before.before.before.before.before.before.before.before.before.before in
-    word-ready start.args.b.now start.requires.0.known.held.valid start.args.i start.requires.1 4
+    word-ready c.args.b.now c.requires.0.known.held.valid c.args.i c.requires.1 4
     (omega arith)
 
-message-word-requires-6 : tie.Need-message-word-requires-6
+message-word-requires-6 : tie.Need-message_word-requires-6
 message-word-requires-6 c κs =
-    let start = c.before.before.before.before.before.before.before.before.before.before.before in
-    word-ready start.args.b.now start.requires.0.known.held.valid start.args.i start.requires.1 5
+    word-ready c.args.b.now c.requires.0.known.held.valid c.args.i c.requires.1 5
     (omega arith)
 
-message-word-requires-7 : tie.Need-message-word-requires-7
+message-word-requires-7 : tie.Need-message_word-requires-7
 message-word-requires-7 c κs =
-    let start = c.before.before.before.before.before.before.before.before.before.before.before.before in
-    word-ready start.args.b.now start.requires.0.known.held.valid start.args.i start.requires.1 6
+    word-ready c.args.b.now c.requires.0.known.held.valid c.args.i c.requires.1 6
     (omega arith)
 
-message-word-requires-8 : tie.Need-message-word-requires-8
+message-word-requires-8 : tie.Need-message_word-requires-8
 message-word-requires-8 c κs =
-    let start = c.before.before.before.before.before.before.before.before.before.before.before.before.before in
-    word-ready start.args.b.now start.requires.0.known.held.valid start.args.i start.requires.1 7
+    word-ready c.args.b.now c.requires.0.known.held.valid c.args.i c.requires.1 7
     (omega arith)
 
-good-words-requires : tie.Need-good-words-requires
+good-words-requires : tie.Need-good_words-requires
 good-words-requires c κs =
-    let start = c.before.before.before.before.before.before.before.before.before.before.before.before.before.before in
-    let a = start.args in
-    let valid = start.requires.0.known.held.valid in
-    let w = c in
-    let kind = kind-read a.b.now valid a.i start.requires.1
-    w.before.before.before.before.before.before.before.message-word.ensures in (
-      start.requires.0,
+    let a = c.args in
+    let valid = c.requires.0.known.held.valid in
+    let kind = kind-read a.b.now valid a.i c.requires.1
+    c.message_word.ensures in (
+      c.requires.0,
       kind.0,
       kind.1,
-      message-inside a.b.now valid a.i start.requires.1 (message-read a.b.now a.i
-          w.before.before.before.before.before.before.before.message-word.ensures
-          w.before.before.before.before.before.before.message-word2.ensures
-          w.before.before.before.before.before.message-word3.ensures
-          w.before.before.before.before.message-word4.ensures
-          w.before.before.before.message-word5.ensures
-          w.before.before.message-word6.ensures
-          w.before.message-word7.ensures
-          w.message-word8.ensures),
+      message-inside a.b.now valid a.i c.requires.1 (message-read a.b.now a.i
+          c.message_word.ensures
+          c.message_word-2.ensures
+          c.message_word-3.ensures
+          c.message_word-4.ensures
+          c.message_word-5.ensures
+          c.message_word-6.ensures
+          c.message_word-7.ensures
+          c.message_word-8.ensures),
     )
 
 returns : tie.Need-returns
 returns c =
-    let start = c.before.before.before.before.before.before.before.before.before.before.before.before.before.before.before in
-    let a = start.args in
-    let w = c.before in
+    let a = c.args in
     message-tested a.b.now a.i
-    w.before.before.before.before.before.before.before.message-word.ensures
-    w.before.before.before.before.before.before.message-word2.ensures
-    w.before.before.before.before.before.message-word3.ensures
-    w.before.before.before.before.message-word4.ensures
-    w.before.before.before.message-word5.ensures
-    w.before.before.message-word6.ensures
-    w.before.message-word7.ensures
-    w.message-word8.ensures c.good-words.ensures
+    c.message_word.ensures
+    c.message_word-2.ensures
+    c.message_word-3.ensures
+    c.message_word-4.ensures
+    c.message_word-5.ensures
+    c.message_word-6.ensures
+    c.message_word-7.ensures
+    c.message_word-8.ensures c.good_words.ensures
 
-pub good-message-spec : {M : Type 1} → statement M
-good-message-spec =
+pub good_message_spec : {M : Type 1} → statement M
+good_message_spec =
     tie.close
     (tie.spec
     message-word-requires

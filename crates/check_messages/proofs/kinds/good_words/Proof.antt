@@ -16,144 +16,128 @@ use Rattle.check_messages.proofs.kinds.good_words.Tie as tie
 prepare-requires : tie.Need-prepare-requires
 unfolding message_of
 prepare-requires c κs =
-    let start = c.before.before.before.before.before.before.before in
-    let a = start.args in
-    (start.requires.0.known.held, start.requires.0.keyed, of-kind a.b.now a.kind a.who a.v a.latest 1 (omega arith) start.requires.3)
+    let a = c.args in
+    (c.requires.0.known.held, c.requires.0.keyed, of-kind a.b.now a.kind a.who a.v a.latest 1 (omega arith) c.requires.3)
 
-returns : tie.Need-returns
+returns : tie.Need-returns-then-kind-eq-PREPARE
 unfolding message_of
 returns c =
-    let start = c.before.before.before.before.before.before.before.before in
-    let a = start.args in
+    let a = c.args in
     test-kind a.b.now a.kind a.who a.v a.latest 1 (omega arith) c.prepare.ensures
 
 prepared-requires : tie.Need-prepared-requires
 unfolding message_of
 prepared-requires c κs =
-    let start = c.before.before.before.before.before.before.before.before in
-    let a = start.args in
-    (start.requires.0.keyed, of-kind a.b.now a.kind a.who a.v a.latest 2 (omega arith) start.requires.3)
+    let a = c.args in
+    (c.requires.0.keyed, of-kind a.b.now a.kind a.who a.v a.latest 2 (omega arith) c.requires.3)
 
-returns-2 : tie.Need-returns-2
+returns-2 : tie.Need-returns-then-kind-eq-PREPARED
 unfolding message_of
 returns-2 c =
-    let start = c.before.before.before.before.before.before.before.before.before in
-    let a = start.args in
+    let a = c.args in
     test-kind a.b.now a.kind a.who a.v a.latest 2 (omega arith) c.prepared.ensures
 
 committed-requires : tie.Need-committed-requires
 unfolding message_of
 committed-requires c κs =
-    let start = c.before.before.before.before.before.before.before.before.before in
-    let a = start.args in
-    let valid = start.requires.0.known.held.valid in
+    let a = c.args in
+    let valid = c.requires.0.known.held.valid in
     let m = Commit a.who a.v.stamp in
-    let r = of-kind a.b.now a.kind a.who a.v a.latest 3 (omega arith) start.requires.3 in (
-      start.requires.0.known,
+    let r = of-kind a.b.now a.kind a.who a.v a.latest 3 (omega arith) c.requires.3 in (
+      c.requires.0.known,
       some-stamp a.b.now valid m r (omega arith),
       stamp-ranged a.b.now valid m r,
     )
 
-returns-3 : tie.Need-returns-3
+returns-3 : tie.Need-returns-then-kind-eq-COMMIT
 unfolding message_of
 returns-3 c =
-    let start = c.before.before.before.before.before.before.before.before.before.before in
-    let a = start.args in
+    let a = c.args in
     test-kind a.b.now a.kind a.who a.v a.latest 3 (omega arith)
-    (commit-is a.b.now start.requires.0.known.held.valid a.who a.v.stamp c.committed.ensures)
+    (commit-is a.b.now c.requires.0.known.held.valid a.who a.v.stamp c.committed.ensures)
 
-good-ask-requires : tie.Need-good-ask-requires
+good-ask-requires : tie.Need-good_ask-requires
 unfolding message_of
 good-ask-requires c κs =
-    let start = c.before.before.before.before.before.before.before.before.before.before in
-    let a = start.args in
+    let a = c.args in
     let m = Get a.who a.v.item a.v.stamp in
-    (start.requires.0.known, stamp-ranged a.b.now start.requires.0.known.held.valid m (of-kind a.b.now a.kind a.who a.v a.latest 4 (omega arith) start.requires.3))
+    (c.requires.0.known, stamp-ranged a.b.now c.requires.0.known.held.valid m (of-kind a.b.now a.kind a.who a.v a.latest 4 (omega arith) c.requires.3))
 
-is-asked-requires : tie.Need-is-asked-requires
+is-asked-requires : tie.Need-is_asked-requires
 unfolding message_of
 is-asked-requires c κs =
-    let start = c.before.before.before.before.before.before.before.before.before.before.before in
-    let a = start.args in
-    let valid = start.requires.0.known.held.valid in
+    let a = c.args in
+    let valid = c.requires.0.known.held.valid in
     let m = Get a.who a.v.item a.v.stamp in
-    let r = of-kind a.b.now a.kind a.who a.v a.latest 4 (omega arith) start.requires.3 in
+    let r = of-kind a.b.now a.kind a.who a.v a.latest 4 (omega arith) c.requires.3 in
     let few = owner-few a.b.now valid m r in
     (few.0, few.1, item-few a.b.now valid m r)
 
-returns-4 : tie.Need-returns-4
+returns-4 : tie.Need-returns-then-kind-eq-GET
 unfolding message_of
 returns-4 c =
-    let start = c.before.before.before.before.before.before.before.before.before.before.before.before in
-    let a = start.args in
+    let a = c.args in
     test-kind a.b.now a.kind a.who a.v a.latest 4 (omega arith)
-    (get-is a.b.now start.requires.0.known.held.valid a.who a.v.item a.v.stamp (of-kind a.b.now a.kind a.who a.v a.latest 4 (omega arith) start.requires.3)
-    c.before.good-ask.ensures c.is-asked.ensures)
+    (get-is a.b.now c.requires.0.known.held.valid a.who a.v.item a.v.stamp (of-kind a.b.now a.kind a.who a.v a.latest 4 (omega arith) c.requires.3)
+    c.good_ask.ensures c.is_asked.ensures)
 
-in-first-part-requires : tie.Need-in-first-part-requires
+in-first-part-requires : tie.Need-in_first_part-requires
 unfolding message_of
 in-first-part-requires c κs =
-    let start = c.before.before.before.before.before.before.before.before.before.before.before in
-    let a = start.args in
-    owner-few a.b.now start.requires.0.known.held.valid (FirstGet a.who a.v.item) (of-kind a.b.now a.kind a.who a.v a.latest 6 (omega arith) start.requires.3)
+    let a = c.args in
+    owner-few a.b.now c.requires.0.known.held.valid (FirstGet a.who a.v.item) (of-kind a.b.now a.kind a.who a.v a.latest 6 (omega arith) c.requires.3)
 
-returns-5 : tie.Need-returns-5
+returns-5 : tie.Need-returns-then-kind-eq-FIRST_GET
 unfolding message_of
 returns-5 c =
-    let start = c.before.before.before.before.before.before.before.before.before.before.before.before in
-    let a = start.args in
+    let a = c.args in
     test-kind a.b.now a.kind a.who a.v a.latest 6 (omega arith)
-    (first-get-is a.b.now start.requires.0.known.held.valid a.who a.v.item (of-kind a.b.now a.kind a.who a.v a.latest 6 (omega arith) start.requires.3)
-    c.in-first-part.ensures)
+    (first-get-is a.b.now c.requires.0.known.held.valid a.who a.v.item (of-kind a.b.now a.kind a.who a.v a.latest 6 (omega arith) c.requires.3)
+    c.in_first_part.ensures)
 
-brought-requires : tie.Need-brought-requires
+brought-requires : tie.Need-brought-good-requires
 unfolding message_of
 brought-requires c κs =
-    let start = c.before.before.before.before.before.before.before.before.before.before.before in
-    let a = start.args in
-    let r = of-reply a.b.now a.kind a.who a.v a.latest start.requires.0.known.held.valid
+    let a = c.args in
+    let r = of-reply a.b.now a.kind a.who a.v a.latest c.requires.0.known.held.valid
     (by-test (eqb a.kind 5) (λ e. inl (eqb-true a.kind 5 e))
-    (λ e. inr (omega (arith, eqb-false a.kind 5 e, start.requires.1, start.requires.2)))) start.requires.3 in
-    (start.requires.0, r.0, r.1, r.2)
+    (λ e. inr (omega (arith, eqb-false a.kind 5 e, c.requires.1, c.requires.2)))) c.requires.3 in
+    (c.requires.0, r.0, r.1, r.2)
 
-is-asked-requires-2 : tie.Need-is-asked-requires-2
+is-asked-requires-2 : tie.Need-is_asked-requires-then-kind-eq-GOT
 unfolding message_of
 is-asked-requires-2 c κs =
-    let start = c.before.before.before.before.before.before.before.before.before.before.before.before.before in
-    let a = start.args in
-    let valid = start.requires.0.known.held.valid in
+    let a = c.args in
+    let valid = c.requires.0.known.held.valid in
     let m = Got a.who a.v a.latest in
-    let r = of-kind a.b.now a.kind a.who a.v a.latest 5 (omega arith) start.requires.3 in
+    let r = of-kind a.b.now a.kind a.who a.v a.latest 5 (omega arith) c.requires.3 in
     let few = owner-few a.b.now valid m r in
     (few.0, few.1, item-few a.b.now valid m r)
 
-returns-6 : tie.Need-returns-6
+returns-6 : tie.Need-returns-then-kind-eq-GOT
 unfolding message_of
 returns-6 c =
-    let start = c.before.before.before.before.before.before.before.before.before.before.before.before.before.before in
-    let a = start.args in
+    let a = c.args in
     test-kind a.b.now a.kind a.who a.v a.latest 5 (omega arith)
-    (got-is a.b.now start.requires.0.known.held.valid a.who a.v a.latest
-    c.before.before.brought.ensures (of-kind a.b.now a.kind a.who a.v a.latest 5 (omega arith) start.requires.3) c.is-asked2.ensures)
+    (got-is a.b.now c.requires.0.known.held.valid a.who a.v a.latest
+    c.brought-good.ensures (of-kind a.b.now a.kind a.who a.v a.latest 5 (omega arith) c.requires.3) c.is_asked-then-kind-eq-GOT.ensures)
 
-in-first-part-requires-2 : tie.Need-in-first-part-requires-2
+in-first-part-requires-2 : tie.Need-in_first_part-requires-2
 unfolding message_of
 in-first-part-requires-2 c κs =
-    let start = c.before.before.before.before.before.before.before.before.before.before.before.before.before in
-    let a = start.args in
-    owner-few a.b.now start.requires.0.known.held.valid (FirstReply a.who a.v a.latest) (of-kind a.b.now a.kind a.who a.v a.latest 7 (omega arith) start.requires.3)
+    let a = c.args in
+    owner-few a.b.now c.requires.0.known.held.valid (FirstReply a.who a.v a.latest) (of-kind a.b.now a.kind a.who a.v a.latest 7 (omega arith) c.requires.3)
 
-returns-7 : tie.Need-returns-7
+returns-7 : tie.Need-returns
 unfolding message_of
 returns-7 c =
-    let start = c.before.before.before.before.before.before.before.before.before.before.before.before.before.before in
-    let a = start.args in
+    let a = c.args in
     test-kind a.b.now a.kind a.who a.v a.latest 7 (omega arith)
-    (first-reply-is a.b.now start.requires.0.known.held.valid a.who a.v a.latest
-    c.before.before.brought.ensures (of-kind a.b.now a.kind a.who a.v a.latest 7 (omega arith) start.requires.3) c.in-first-part2.ensures)
+    (first-reply-is a.b.now c.requires.0.known.held.valid a.who a.v a.latest
+    c.brought-good.ensures (of-kind a.b.now a.kind a.who a.v a.latest 7 (omega arith) c.requires.3) c.in_first_part-2.ensures)
 
-pub good-words-spec : {M : Type 1} → statement M
-good-words-spec =
+pub good_words_spec : {M : Type 1} → statement M
+good_words_spec =
     tie.close
     (tie.spec
     prepare-requires

@@ -12,5 +12,7 @@ stage-requires c κs = search rules
 returns : tie.Need-returns
 returns c = ap (λ (x : ℕ). eqb x 1) c.stage.ensures
 
-pub in-first-part-spec : {M : Type 1} → statement M
-in-first-part-spec = tie.close (tie.spec stage-requires returns)
+pub in_first_part_spec : {M : Type 1} → statement M
+in_first_part_spec = tie.close (tie.spec
+    stage-requires
+    returns)

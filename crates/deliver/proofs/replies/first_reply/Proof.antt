@@ -4,24 +4,18 @@ use Rattle.deliver.proofs.Rows.{first-last, first_more}
 use Rattle.deliver.proofs.replies.first_reply.Statement.{statement}
 use Rattle.deliver.proofs.replies.first_reply.Tie as tie
 
-returns : tie.Need-returns
+returns : tie.Need-returns-then-rest-eq0
 returns c =
-    let test = c.before.before.before.before in
-    let kept = test.before.before.before in
-    let struck = kept.before.before in
-    first-last _ _ _ _ _ _ _ _ _ struck.before.awaited.ensures struck.remove.ensures
-    kept.keep-first.ensures test.if1.true c.before.before.second-part.ensures
+    first-last _ _ _ _ _ _ _ _ _ c.awaited.ensures c.remove-rest.ensures
+    c.keep_first.ensures c.if-rest-eq0.true c.second_part.ensures
 
-returns-2 : tie.Need-returns-2
+returns-2 : tie.Need-returns-else-rest-eq0
 returns-2 c =
-    let test = c.before.before.before.before in
-    let kept = test.before.before.before in
-    let struck = kept.before.before in
-    first_more _ _ _ _ _ _ _ _ _ struck.before.awaited.ensures struck.remove.ensures
-    kept.keep-first.ensures test.if1.false c.before.before.put-awaited.ensures
+    first_more _ _ _ _ _ _ _ _ _ c.awaited.ensures c.remove-rest.ensures
+    c.keep_first.ensures c.if-rest-eq0.false c.put_awaited.ensures
 
-pub first-reply-spec : {M : Type 1} → statement M
-first-reply-spec =
+pub first_reply_spec : {M : Type 1} → statement M
+first_reply_spec =
     tie.close
     (tie.spec
     (λ c κs. search rules)

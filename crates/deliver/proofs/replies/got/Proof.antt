@@ -4,20 +4,18 @@ use Rattle.deliver.proofs.Rows.{got-mixed, got_other}
 use Rattle.deliver.proofs.replies.got.Statement.{statement}
 use Rattle.deliver.proofs.replies.got.Tie as tie
 
-returns : tie.Need-returns
+returns : tie.Need-returns-then-mode-eq-MIXING
 returns c =
-    let taken = c.before.before.before.before in
-    got-mixed _ _ _ _ _ _ _ _ taken.before.mode.ensures taken.if1.true
-    c.before.before.mixed-got.ensures
+    got-mixed _ _ _ _ _ _ _ _ c.mode.ensures c.if-mode-eq-MIXING.true
+    c.mixed_got.ensures
 
-returns-2 : tie.Need-returns-2
+returns-2 : tie.Need-returns-else-mode-eq-MIXING
 returns-2 c =
-    let left = c.before.before.before.before in
-    got_other _ _ _ _ _ _ _ _ left.before.mode.ensures left.if1.false
-    c.before.before.read-got.ensures
+    got_other _ _ _ _ _ _ _ _ c.mode.ensures c.if-mode-eq-MIXING.false
+    c.read_got.ensures
 
-pub got-spec : {M : Type 1} → statement M
-got-spec =
+pub got_spec : {M : Type 1} → statement M
+got_spec =
     tie.close
     (tie.spec
     (λ c κs. search rules)

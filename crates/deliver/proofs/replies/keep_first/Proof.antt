@@ -5,11 +5,13 @@ use Rattle.deliver.proofs.replies.keep_first.Tie as tie
 
 returns : tie.Need-returns
 returns c =
-    let first = c.before.before in
-    let answer = first.before.before.before.before in
-    rw (← answer.answer.ensures) first.put_first.ensures
+    rw (← c.answer.ensures) c.put_first.ensures
 
-pub keep-first-spec : {M : Type 1} → statement M
-keep-first-spec =
+pub keep_first_spec : {M : Type 1} → statement M
+keep_first_spec =
     tie.close
-    (tie.spec (λ c κs. search rules) (λ c κs. search rules) (λ c. search rules) returns)
+    (tie.spec
+    (λ c κs. search rules)
+    (λ c κs. search rules)
+    (λ c. search rules)
+    returns)

@@ -4,28 +4,20 @@ use Rattle.deliver.proofs.Rows.{mixed-got-last, mixed-got-more}
 use Rattle.deliver.proofs.replies.mixed_got.Statement.{statement}
 use Rattle.deliver.proofs.replies.mixed_got.Tie as tie
 
-returns : tie.Need-returns
+returns : tie.Need-returns-then-rest-replies
 returns c =
-    let test = c.before.before.before.before in
-    let answer = test.before.before.before in
-    let replies = answer.before.before in
-    let rest = replies.before.before in
-    mixed-got-last _ _ _ _ _ _ _ _ _ _ _ rest.before.awaited.ensures rest.remove.ensures
-    replies.write-awaited.ensures answer.answer.ensures test.if1.true
-    c.before.before.mixed-end.ensures
+    mixed-got-last _ _ _ _ _ _ _ _ _ _ _ c.awaited.ensures c.remove-rest.ensures
+    c.write_awaited-replies.ensures c.answer.ensures c.if-rest-replies.true
+    c.mixed_end.ensures
 
-returns-2 : tie.Need-returns-2
+returns-2 : tie.Need-returns-else-rest-replies
 returns-2 c =
-    let test = c.before.before.before.before in
-    let answer = test.before.before.before in
-    let replies = answer.before.before in
-    let rest = replies.before.before in
-    mixed-got-more _ _ _ _ _ _ _ _ _ _ _ rest.before.awaited.ensures rest.remove.ensures
-    replies.write-awaited.ensures answer.answer.ensures test.if1.false
-    c.before.before.put-awaited.ensures
+    mixed-got-more _ _ _ _ _ _ _ _ _ _ _ c.awaited.ensures c.remove-rest.ensures
+    c.write_awaited-replies.ensures c.answer.ensures c.if-rest-replies.false
+    c.put_awaited.ensures
 
-pub mixed-got-spec : {M : Type 1} → statement M
-mixed-got-spec =
+pub mixed_got_spec : {M : Type 1} → statement M
+mixed_got_spec =
     tie.close
     (tie.spec
     (λ c κs. search rules)

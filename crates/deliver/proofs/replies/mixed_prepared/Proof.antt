@@ -4,26 +4,20 @@ use Rattle.deliver.proofs.Rows.{mixed-prepared-last, mixed-prepared-more}
 use Rattle.deliver.proofs.replies.mixed_prepared.Statement.{statement}
 use Rattle.deliver.proofs.replies.mixed_prepared.Tie as tie
 
-returns : tie.Need-returns
+returns : tie.Need-returns-then-gots-rest
 returns c =
-    let test = c.before.before.before.before in
-    let rest = test.before in
-    let awaited = rest.before in
-    mixed-prepared-last _ _ _ _ _ _ _ _ _ awaited.before.before.awaited.ensures
-    awaited.write-awaited.ensures rest.remove.ensures test.if1.true
-    c.before.before.mixed-end.ensures
+    mixed-prepared-last _ _ _ _ _ _ _ _ _ c.awaited-gots.ensures
+    c.write_awaited.ensures c.remove-rest.ensures c.if-gots-rest.true
+    c.mixed_end.ensures
 
-returns-2 : tie.Need-returns-2
+returns-2 : tie.Need-returns-else-gots-rest
 returns-2 c =
-    let test = c.before.before.before.before in
-    let rest = test.before in
-    let awaited = rest.before in
-    mixed-prepared-more _ _ _ _ _ _ _ _ _ awaited.before.before.awaited.ensures
-    awaited.write-awaited.ensures rest.remove.ensures test.if1.false
-    c.before.before.put-write-awaited.ensures
+    mixed-prepared-more _ _ _ _ _ _ _ _ _ c.awaited-gots.ensures
+    c.write_awaited.ensures c.remove-rest.ensures c.if-gots-rest.false
+    c.put_write_awaited.ensures
 
-pub mixed-prepared-spec : {M : Type 1} → statement M
-mixed-prepared-spec =
+pub mixed_prepared_spec : {M : Type 1} → statement M
+mixed_prepared_spec =
     tie.close
     (tie.spec
     (λ c κs. search rules)

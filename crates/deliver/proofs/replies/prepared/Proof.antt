@@ -4,20 +4,18 @@ use Rattle.deliver.proofs.Rows.{prepared-mixed, prepared-other}
 use Rattle.deliver.proofs.replies.prepared.Statement.{statement}
 use Rattle.deliver.proofs.replies.prepared.Tie as tie
 
-returns : tie.Need-returns
+returns : tie.Need-returns-then-mode-eq-MIXING
 returns c =
-    let taken = c.before.before.before.before in
-    prepared-mixed _ _ _ _ _ _ _ taken.before.mode.ensures taken.if1.true
-    c.before.before.mixed-prepared.ensures
+    prepared-mixed _ _ _ _ _ _ _ c.mode.ensures c.if-mode-eq-MIXING.true
+    c.mixed_prepared.ensures
 
-returns-2 : tie.Need-returns-2
+returns-2 : tie.Need-returns-else-mode-eq-MIXING
 returns-2 c =
-    let left = c.before.before.before.before in
-    prepared-other _ _ _ _ _ _ _ left.before.mode.ensures left.if1.false
-    c.before.before.written.ensures
+    prepared-other _ _ _ _ _ _ _ c.mode.ensures c.if-mode-eq-MIXING.false
+    c.written.ensures
 
-pub prepared-spec : {M : Type 1} → statement M
-prepared-spec =
+pub prepared_spec : {M : Type 1} → statement M
+prepared_spec =
     tie.close
     (tie.spec
     (λ c κs. search rules)

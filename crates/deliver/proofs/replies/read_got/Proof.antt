@@ -7,40 +7,38 @@ use Rattle.deliver.proofs.replies.read_got.Tie as tie
 awaited-requires : tie.Need-awaited-requires
 awaited-requires c κs = search rules
 
-remove-requires : tie.Need-remove-requires
+remove-requires : tie.Need-remove-rest-requires
 remove-requires c κs = search rules
 
 answer-requires : tie.Need-answer-requires
 answer-requires c κs = search rules
 
-read-end-requires : tie.Need-read-end-requires
+read-end-requires : tie.Need-read_end-requires
 read-end-requires c κs = search rules
 
-put-awaited-requires : tie.Need-put-awaited-requires
+put-awaited-requires : tie.Need-put_awaited-requires
 put-awaited-requires c κs = search rules
 
-same_length : tie.Need-same-length
+same_length : tie.Need-shape_of-b-then-rest-eq0
 same_length c = search rules
 
-returns : tie.Need-returns
+returns : tie.Need-returns-then-rest-eq0
 returns c =
-    let answered = c.before.before.before.before.before.before.before in
-    read-last _ _ _ _ _ _ _ _ _ answered.before.before.before.awaited.ensures
-    answered.before.before.remove.ensures answered.answer.ensures
-    c.before.before.before.before.if1.true c.before.before.read-end.ensures
+    read-last _ _ _ _ _ _ _ _ _ c.awaited.ensures
+    c.remove-rest.ensures c.answer.ensures
+    c.if-rest-eq0.true c.read_end.ensures
 
-same-length-2 : tie.Need-same-length-2
+same-length-2 : tie.Need-shape_of-b-else-rest-eq0
 same-length-2 c = search rules
 
-returns-2 : tie.Need-returns-2
+returns-2 : tie.Need-returns-else-rest-eq0
 returns-2 c =
-    let answered = c.before.before.before.before.before.before.before in
-    read_more _ _ _ _ _ _ _ _ _ answered.before.before.before.awaited.ensures
-    answered.before.before.remove.ensures answered.answer.ensures
-    c.before.before.before.before.if1.false c.before.before.put-awaited.ensures
+    read_more _ _ _ _ _ _ _ _ _ c.awaited.ensures
+    c.remove-rest.ensures c.answer.ensures
+    c.if-rest-eq0.false c.put_awaited.ensures
 
-pub read-got-spec : {M : Type 1} → statement M
-read-got-spec =
+pub read_got_spec : {M : Type 1} → statement M
+read_got_spec =
     tie.close
     (tie.spec
     awaited-requires

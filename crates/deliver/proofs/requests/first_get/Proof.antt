@@ -12,15 +12,17 @@ use Rattle.deliver.proofs.requests.first_get.Tie as tie
 returns : tie.Need-returns
 unfolding first_get_delivered
 returns c =
-    let sent = c.before.before in
-    let read = sent.before.before in
-    let a = read.before.before.before.args in
-    sent.send.ensures
+    let a = c.args in
+    c.send.ensures
     ∙ ap (λ (e : Entry). send a.b.now
     (FirstReply a.d (version a.item a.found.value e.stamp a.found.set) e))
-    read.latest.ensures
+    c.latest-entry.ensures
 
-pub first-get-spec : {M : Type 1} → statement M
-first-get-spec =
+pub first_get_spec : {M : Type 1} → statement M
+first_get_spec =
     tie.close
-    (tie.spec (λ c κs. search rules) (λ c κs. search rules) (λ c. search rules) returns)
+    (tie.spec
+    (λ c κs. search rules)
+    (λ c κs. search rules)
+    (λ c. search rules)
+    returns)

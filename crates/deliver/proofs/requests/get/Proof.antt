@@ -9,25 +9,27 @@ use Rattle.deliver.specs.Deliver.{get_delivered}
 use Rattle.deliver.proofs.requests.get.Statement.{statement}
 use Rattle.deliver.proofs.requests.get.Tie as tie
 
-latest-requires : tie.Need-latest-requires
+latest-requires : tie.Need-latest-entry-requires
 latest-requires c κs = search rules
 
 send-requires : tie.Need-send-requires
 send-requires c κs = search rules
 
-same_length : tie.Need-same-length
+same_length : tie.Need-shape_of-b
 same_length c = search rules
 
 returns : tie.Need-returns
 unfolding get_delivered
 returns c =
-    let sent = c.before.before in
-    let read = sent.before.before in
-    let a = read.before.before.before.args in
-    sent.send.ensures
+    let a = c.args in
+    c.send.ensures
     ∙ ap (λ (e : Entry). send a.b.now
     (Got a.d (version a.item a.found.value a.stamp a.found.set) e))
-    read.latest.ensures
+    c.latest-entry.ensures
 
 pub get_spec : {M : Type 1} → statement M
-get_spec = tie.close (tie.spec latest-requires send-requires same_length returns)
+get_spec = tie.close (tie.spec
+    latest-requires
+    send-requires
+    same_length
+    returns)

@@ -15,17 +15,19 @@ keep-requires c κs = search rules
 send-requires : tie.Need-send-requires
 send-requires c κs = search rules
 
-same_length : tie.Need-same-length
+same_length : tie.Need-shape_of-b
 same_length c = search rules
 
 returns : tie.Need-returns
 unfolding prepare_delivered
 returns c =
-    let sent = c.before.before in
-    let kept = sent.before.before.before.before in
-    let v = kept.before.before.before.args.v in
-    sent.send.ensures
-    ∙ ap (λ (w : List ℕ). send w (Prepared v.item v.stamp)) kept.keep.ensures
+    let v = c.args.v in
+    c.send.ensures
+    ∙ ap (λ (w : List ℕ). send w (Prepared v.item v.stamp)) c.keep.ensures
 
-pub prepare-spec : {M : Type 1} → statement M
-prepare-spec = tie.close (tie.spec keep-requires send-requires same_length returns)
+pub prepare_spec : {M : Type 1} → statement M
+prepare_spec = tie.close (tie.spec
+    keep-requires
+    send-requires
+    same_length
+    returns)

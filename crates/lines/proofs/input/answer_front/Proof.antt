@@ -10,42 +10,42 @@ use Rattle.lines.proofs.Kept.{answered-same}
 use Rattle.lines.proofs.input.answer_front.Statement.{statement}
 use Rattle.lines.proofs.input.answer_front.Tie as tie
 
-sub-answer-line : tie.Need-overflow-sub-answer-line
+sub-answer-line : tie.Need-slice_bounds-answer_line-count
 sub-answer-line c = search rules
 
-part-answer-line-start : tie.Need-slice-bounds-answer-line-start
+part-answer-line-start : tie.Need-slice_bounds-answer_line-start
 part-answer-line-start c = search rules
 
-part-answer-line-end : tie.Need-slice-bounds-answer-line-end
+part-answer-line-end : tie.Need-slice_bounds-answer_line-end
 part-answer-line-end c = search rules
 
-answer-line-requires : tie.Need-answer-line-requires
+answer-line-requires : tie.Need-answer_line-requires
 answer-line-requires c κs = search rules
 
-answer-line-requires-2 : tie.Need-answer-line-requires-2
+answer-line-requires-2 : tie.Need-answer_line-requires-else-at-line
 answer-line-requires-2 c κs = search rules
 
-same_length : tie.Need-same-length
+same_length : tie.Need-shape_of-b-then-at-line
 same_length c = search rules
 
-returns : tie.Need-returns
+returns : tie.Need-returns-then-at-line
 returns c =
-    let a = c.before.before.before.before.before.before.before.before.before.args in
+    let a = c.args in
     answered-same a.b.now a.output.now
     (ap (λ (k : ℕ). take k a.line.now) (sub-zero a.at))
-    c.before.before.answer-line.ensures
+    c.answer_line.ensures
 
-same-length-2 : tie.Need-same-length-2
+same-length-2 : tie.Need-shape_of-b-else-at-line
 same-length-2 c = search rules
 
-returns-2 : tie.Need-returns-2
+returns-2 : tie.Need-returns-else-at-line
 returns-2 c =
-    let a = c.before.before.before.before.before.before.before.before.args in
+    let a = c.args in
     answered-same a.b.now a.output.now (sym (take_all a.at a.line.now (omega arith)))
-    c.before.before.answer-line2.ensures
+    c.answer_line-else-at-line.ensures
 
-pub answer-front-spec : {M : Type 1} → statement M
-answer-front-spec =
+pub answer_front_spec : {M : Type 1} → statement M
+answer_front_spec =
     tie.close
     (tie.spec
     sub-answer-line

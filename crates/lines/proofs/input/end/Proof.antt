@@ -6,23 +6,27 @@ use Rattle.lines.proofs.Kept.{end_none, end-some, take-some}
 use Rattle.lines.proofs.input.end.Statement.{statement}
 use Rattle.lines.proofs.input.end.Tie as tie
 
-answer-front-requires : tie.Need-answer-front-requires
+answer-front-requires : tie.Need-answer_front-requires
 answer-front-requires c κs = search rules
 
-returns : tie.Need-returns
+returns : tie.Need-returns-then-at-eq0
 returns c =
-    let a = c.before.before.args in
-    end_none a.b.now a.output.now a.line.now a.at c.if1.true
+    let a = c.args in
+    end_none a.b.now a.output.now a.line.now a.at c.if-at-eq0.true
 
-same_length : tie.Need-same-length
+same_length : tie.Need-shape_of-b
 same_length c = search rules
 
-returns-2 : tie.Need-returns-2
+returns-2 : tie.Need-returns-else-at-eq0
 returns-2 c =
-    let a = c.before.before.before.before.before.before.before.before.args in
+    let a = c.args in
     end-some a.b.now a.output.now (take a.at a.line.now)
     (take-some a.at a.line.now (omega arith) (omega arith))
-    c.before.before.answer-front.ensures
+    c.answer_front.ensures
 
-pub end-spec : {M : Type 1} → statement M
-end-spec = tie.close (tie.spec answer-front-requires returns same_length returns-2)
+pub end_spec : {M : Type 1} → statement M
+end_spec = tie.close (tie.spec
+    answer-front-requires
+    returns
+    same_length
+    returns-2)

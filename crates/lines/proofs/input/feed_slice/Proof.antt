@@ -7,39 +7,38 @@ use Rattle.lines.proofs.Kept.{fed-end, fed-within}
 use Rattle.lines.proofs.input.feed_slice.Statement.{statement}
 use Rattle.lines.proofs.input.feed_slice.Tie as tie
 
-keep-requires : tie.Need-keep-requires
+keep-requires : tie.Need-keep-n-requires
 keep-requires c κs = search rules
 
-answer-front-requires : tie.Need-answer-front-requires
+answer-front-requires : tie.Need-answer_front-length-requires
 answer-front-requires c κs = search rules
 
-same_length : tie.Need-same-length
+same_length : tie.Need-shape_of-b
 same_length c = search rules
 
-same-length-2 : tie.Need-same-length-2
+same-length-2 : tie.Need-shape_of-line-then-c-eq10
 same-length-2 c = search rules
 
-returns : tie.Need-returns
+returns : tie.Need-returns-then-c-eq10
 returns c =
-    let ended = c.before.before.before.before.before.before in
-    let a = ended.before.before.before.before.before.before.before.args in
-    let k = ended.before.before.before.keep.ensures in
+    let a = c.args in
+    let k = c.keep-n.ensures in
     fed-end a.b.now a.output.now (take a.at a.line.now) a.c
-    (eq-eqb a.c 0x0a ended.if1.true)
-    k.1.0 c.before.before.answer-front.ensures k.1.1
+    (eq-eqb a.c 0x0a c.if-c-eq10.true)
+    k.1.0 c.answer_front-length.ensures k.1.1
 
-same-length-3 : tie.Need-same-length-3
+same-length-3 : tie.Need-shape_of-line-else-c-eq10
 same-length-3 c = search rules
 
-returns-2 : tie.Need-returns-2
+returns-2 : tie.Need-returns-else-c-eq10
 returns-2 c =
-    let a = c.before.before.before.before.before.before.before.args in
-    let k = c.before.before.before.keep.ensures in
+    let a = c.args in
+    let k = c.keep-n.ensures in
     fed-within a.b.now a.output.now (take a.at a.line.now) a.c
-    (ne_eqb a.c 0x0a c.if1.false) k.0 k.1.0 k.1.1
+    (ne_eqb a.c 0x0a c.if-c-eq10.false) k.0 k.1.0 k.1.1
 
-pub feed-slice-spec : {M : Type 1} → statement M
-feed-slice-spec =
+pub feed_slice_spec : {M : Type 1} → statement M
+feed_slice_spec =
     tie.close
     (tie.spec
     keep-requires

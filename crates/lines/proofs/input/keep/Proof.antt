@@ -8,36 +8,41 @@ use Rattle.lines.proofs.Kept.{joined-short, joined-full, length-short, length-fu
 use Rattle.lines.proofs.input.keep.Statement.{statement}
 use Rattle.lines.proofs.input.keep.Tie as tie
 
-slice-write-line : tie.Need-slice-write-line
+slice-write-line : tie.Need-bounds-line-at
 slice-write-line c = search rules
 
-add-result : tie.Need-overflow-add-result
+add-result : tie.Need-overflow_add-result
 add-result c = search rules
 
-same_length : tie.Need-same-length
+same_length : tie.Need-shape_of-line
 same_length c = search rules
 
-returns : tie.Need-returns
+returns : tie.Need-returns-then-at-lt-MOST_KEPT
 returns c =
-    let a = c.before.args in
+    let a = c.args in
     let line = a.line.now in (
-      length-short line a.at a.c c.before.requires (omega arith),
+      length-short line a.at a.c c.requires (omega arith),
       (
-        joined-short line a.at a.c c.before.requires (omega arith),
+        joined-short line a.at a.c c.requires (omega arith),
         refl,
       ),
     )
 
-returns-2 : tie.Need-returns-2
+returns-2 : tie.Need-returns-else-at-lt-MOST_KEPT
 returns-2 c =
-    let a = c.before.args in
+    let a = c.args in
     let line = a.line.now in (
-      length-full line a.at a.c c.before.requires (omega arith),
+      length-full line a.at a.c c.requires (omega arith),
       (
-        joined-full line a.at a.c c.before.requires (omega arith),
+        joined-full line a.at a.c c.requires (omega arith),
         sym (set_out line a.at a.c (omega arith)),
       ),
     )
 
 pub keep_spec : {M : Type 1} → statement M
-keep_spec = tie.close (tie.spec slice-write-line add-result same_length returns returns-2)
+keep_spec = tie.close (tie.spec
+    slice-write-line
+    add-result
+    same_length
+    returns
+    returns-2)
