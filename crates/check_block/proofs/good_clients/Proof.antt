@@ -28,12 +28,11 @@ add-good-client : tie.Need-overflow_add-i invariant-loop decreases-loop
 add-good-client c = search rules
 
 good-client-requires : tie.Need-good_client-ok-requires invariant-loop decreases-loop
-good-client-requires c κs =
-    (
-      c.requires,
-      omega arith,
-      omega (arith, c.clients-clients.ensures, c.loop-i-test.true),
-    )
+good-client-requires c κs = (
+  c.requires,
+  omega arith,
+  omega (arith, c.clients-clients.ensures, c.loop-i-test.true),
+)
 
 add-i : tie.Need-overflow_add-i-in-loop-i invariant-loop decreases-loop
 add-i c = search rules

@@ -31,31 +31,31 @@ answer-requires c κs = (
 
 stored-value-requires : tie.Need-stored_value-held-requires
 stored-value-requires c κs = let valid = c.requires.0.known.held.valid in (
-      c.requires.0.keyed,
-      c.requires.3,
-      first-read-small _ valid _ c.requires.1 c.requires.2 _
-          c.has_first-come.ensures
-          c.if-come.true c.first-e.ensures,
-    )
+  c.requires.0.keyed,
+  c.requires.3,
+  first-read-small _ valid _ c.requires.1 c.requires.2 _
+      c.has_first-come.ensures
+      c.if-come.true c.first-e.ensures,
+)
 
 answered-again-requires : tie.Need-answered_again-again-requires
 answered-again-requires c κs = let valid = c.requires.0.known.held.valid in (
-      c.requires.1,
-      omega (arith, c.requires.2, few-clients c.args.b.now valid),
-      c.requires.3,
-      ap (λ (x : Entry). x.stamp) (first_read _ valid _ c.requires.1 c.requires.2 _
-          c.has_first-come.ensures
-          c.if-come.true c.first-e.ensures),
-    )
+  c.requires.1,
+  omega (arith, c.requires.2, few-clients c.args.b.now valid),
+  c.requires.3,
+  ap (λ (x : Entry). x.stamp) (first_read _ valid _ c.requires.1 c.requires.2 _
+      c.has_first-come.ensures
+      c.if-come.true c.first-e.ensures),
+)
 
 good-entry-requires : tie.Need-good_entry-requires
 good-entry-requires c κs = let valid = c.requires.0.known.held.valid in (
-      c.requires.0.known,
-      first-read-ranged _ valid _ c.requires.1 c.requires.2 _
-          c.has_first-come.ensures
-          c.if-come.true
-          c.first-e.ensures,
-    )
+  c.requires.0.known,
+  first-read-ranged _ valid _ c.requires.1 c.requires.2 _
+      c.has_first-come.ensures
+      c.if-come.true
+      c.first-e.ensures,
+)
 
 returns : tie.Need-returns-then-come
 returns c = let valid = c.requires.0.known.held.valid in

@@ -7,24 +7,22 @@ use Rattle.check_clients.proofs.good_item.Statement.{statement}
 use Rattle.check_clients.proofs.good_item.Tie as tie
 
 write-awaited-requires : tie.Need-write_awaited-awaited-requires
-write-awaited-requires c κs =
-    (
-      c.requires.1,
-      omega (
-        arith,
-        c.requires.2,
-        few-clients c.args.b.now
-            c.requires.0.valid,
-      ),
-    )
+write-awaited-requires c κs = (
+  c.requires.1,
+  omega (
+    arith,
+    c.requires.2,
+    few-clients c.args.b.now
+        c.requires.0.valid,
+  ),
+)
 
 write-value-requires : tie.Need-write_value-value-requires
-write-value-requires c κs =
-    (
-      c.requires.1,
-      omega (arith, c.requires.2, few-clients c.args.b.now c.requires.0.valid),
-      c.requires.3,
-    )
+write-value-requires c κs = (
+  c.requires.1,
+  omega (arith, c.requires.2, few-clients c.args.b.now c.requires.0.valid),
+  c.requires.3,
+)
 
 has-requires : tie.Need-has-requires
 has-requires c κs = search rules

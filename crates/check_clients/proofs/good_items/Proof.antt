@@ -51,19 +51,19 @@ loop-holds c = tested-none
 
 set-item-requires : tie.Need-set_item-ok-requires invariant-loop decreases-loop
 set-item-requires c κs = let valid = c.requires.0.valid in (
-      c.requires.0,
-      c.requires.1,
-      c.requires.2,
-      omega (
-        arith,
-        c.items-items.ensures,
-        few-items
-            c.args.b.now valid,
-      ),
-      write-small _ valid _ c.requires.1 c.requires.2
-          c.write_stamp-stamp.ensures,
+  c.requires.0,
+  c.requires.1,
+  c.requires.2,
+  omega (
+    arith,
+    c.items-items.ensures,
+    few-items
+        c.args.b.now valid,
+  ),
+  write-small _ valid _ c.requires.1 c.requires.2
       c.write_stamp-stamp.ensures,
-    )
+  c.write_stamp-stamp.ensures,
+)
 
 add-k : tie.Need-overflow_add-k invariant-loop decreases-loop
 add-k c = search rules

@@ -36,17 +36,16 @@ loop-holds c = (
 )
 
 is-stored-requires : tie.Need-is_stored-held-requires invariant-loop decreases-loop
-is-stored-requires c κs =
-    (
-      c.requires.0,
-      omega (
-        arith,
-        c.items-items.ensures,
-        few-items c.args.b.now c.requires.0.valid,
-        c.loop-k-test.true,
-      ),
-      c.requires.1,
-    )
+is-stored-requires c κs = (
+  c.requires.0,
+  omega (
+    arith,
+    c.items-items.ensures,
+    few-items c.args.b.now c.requires.0.valid,
+    c.loop-k-test.true,
+  ),
+  c.requires.1,
+)
 
 returns : tie.Need-returns-else-held invariant-loop decreases-loop
 unfolding tables_of

@@ -14,11 +14,10 @@ latest-requires c κs =
     omega (arith, c.requires.1, few-items c.args.b.now c.requires.0.held.valid)
 
 good-entry-requires : tie.Need-good_entry-good-requires
-good-entry-requires c κs =
-    (
-      c.requires.0,
-      latest-read-ranged _ c.requires.0.held.valid _ refl c.requires.1 c.latest-latest.ensures,
-    )
+good-entry-requires c κs = (
+  c.requires.0,
+  latest-read-ranged _ c.requires.0.held.valid _ refl c.requires.1 c.latest-latest.ensures,
+)
 
 good-seen-requires : tie.Need-good_seen-requires
 good-seen-requires c κs = search rules

@@ -12,12 +12,11 @@ is-whole-requires : tie.Need-is_whole-requires
 is-whole-requires c κs = search rules
 
 is-counted-requires : tie.Need-is_counted-requires
-is-counted-requires c κs =
-    (
-      c.requires.2,
-      c.requires.1,
-      few-clients c.args.b.now c.requires.0.held.valid,
-    )
+is-counted-requires c κs = (
+  c.requires.2,
+  c.requires.1,
+  few-clients c.args.b.now c.requires.0.held.valid,
+)
 
 returns : tie.Need-returns
 returns c =

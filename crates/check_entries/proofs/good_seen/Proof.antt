@@ -37,14 +37,13 @@ view-requires c κs =
     )
 
 good-like-requires : tie.Need-good_like-ok-requires invariant-loop decreases-loop
-good-like-requires c κs =
-    (
-      c.requires.0,
-      read-ranged _ c.requires.0.held.valid _ refl c.requires.1 _ (omega arith)
-          (omega (arith, c.clients-clients.ensures, c.loop-i-test.true))
-          c.view-e.ensures,
-      c.requires.2,
-    )
+good-like-requires c κs = (
+  c.requires.0,
+  read-ranged _ c.requires.0.held.valid _ refl c.requires.1 _ (omega arith)
+      (omega (arith, c.clients-clients.ensures, c.loop-i-test.true))
+      c.view-e.ensures,
+  c.requires.2,
+)
 
 add-i : tie.Need-overflow_add-i-in-loop-i invariant-loop decreases-loop
 add-i c = search rules

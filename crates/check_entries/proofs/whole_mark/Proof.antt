@@ -20,11 +20,10 @@ returns-2 c =
     c.find-first.ensures c.if-first-p.true
 
 all-stored-requires : tie.Need-all_stored-requires
-all-stored-requires c κs =
-    (
-      c.requires.1,
-      held_small _ c.requires.0.valid _ c.requires.2 c.held-e.ensures,
-    )
+all-stored-requires c κs = (
+  c.requires.1,
+  held_small _ c.requires.0.valid _ c.requires.2 c.held-e.ensures,
+)
 
 returns-3 : tie.Need-returns-then-all_stored
 returns-3 c =

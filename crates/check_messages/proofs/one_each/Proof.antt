@@ -32,11 +32,11 @@ is-of-requires c κs = let valid = c.requires.0 in
 
 message-word-requires : tie.Need-message_word-item-requires invariant-loop decreases-loop
 message-word-requires c κs = let valid = c.requires.0 in (
-      read-few c.args.b.now valid c.message_count-n.ensures
-          c.loop-i-test.true,
-      omega arith,
-      long c.args.b.now valid,
-    )
+  read-few c.args.b.now valid c.message_count-n.ensures
+      c.loop-i-test.true,
+  omega arith,
+  long c.args.b.now valid,
+)
 
 has-requires : tie.Need-has-requires invariant-loop decreases-loop
 has-requires c κs = search rules

@@ -12,27 +12,25 @@ slice-aggregate-clear-by : tie.Need-slice_bounds-clear_by-end
 slice-aggregate-clear-by c = search rules
 
 clear-by-requires : tie.Need-clear_by-requires
-clear-by-requires c κs =
-    (
-      c.requires,
-      omega (
-        arith,
-        count-few c.args.b.now c.none_fast.ensures c.if-none_fast.true,
-      ),
-    )
+clear-by-requires c κs = (
+  c.requires,
+  omega (
+    arith,
+    count-few c.args.b.now c.none_fast.ensures c.if-none_fast.true,
+  ),
+)
 
 slice-aggregate-clear-by-2 : tie.Need-slice_bounds-clear_by-end-else-none_fast
 slice-aggregate-clear-by-2 c = search rules
 
 clear-by-requires-2 : tie.Need-clear_by-requires-else-none_fast
-clear-by-requires-2 c κs =
-    (
-      c.requires,
-      omega (
-        arith,
-        count-all c.args.b.now c.none_fast.ensures c.if-none_fast.false,
-      ),
-    )
+clear-by-requires-2 c κs = (
+  c.requires,
+  omega (
+    arith,
+    count-all c.args.b.now c.none_fast.ensures c.if-none_fast.false,
+  ),
+)
 
 same_length : tie.Need-shape_of-b-then-none_fast
 same_length c = search rules

@@ -10,11 +10,10 @@ version-requires : tie.Need-version-v-requires
 version-requires c κs = search rules
 
 is-unused-requires : tie.Need-is_unused-requires
-is-unused-requires c κs =
-    (
-      c.requires.3,
-      λ e. c.requires.4 (ap (λ (v : Version). v.stamp) (sym c.version-v.ensures) ∙ e),
-    )
+is-unused-requires c κs = (
+  c.requires.3,
+  λ e. c.requires.4 (ap (λ (v : Version). v.stamp) (sym c.version-v.ensures) ∙ e),
+)
 
 put-requires : tie.Need-put-requires
 put-requires c κs = search rules

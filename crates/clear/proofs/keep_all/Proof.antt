@@ -18,8 +18,7 @@ loop-holds c = kept-first _ _ _
 
 keep-requires : tie.Need-keep-kept-requires invariant-loop decreases-loop
 keep-requires c κs =
-    let l = c.loop-i in
-    (
+    let l = c.loop-i in (
       omega arith,
       l.invariant.below,
       omega (arith, l.invariant.long),

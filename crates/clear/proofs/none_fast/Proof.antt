@@ -30,11 +30,10 @@ add-mode : tie.Need-overflow_add-i invariant-loop decreases-loop
 add-mode c = search rules
 
 mode-requires : tie.Need-mode-mode-requires invariant-loop decreases-loop
-mode-requires c κs =
-    (
-      omega arith,
-      omega (arith, c.clients-clients.ensures, clients-few c.args.b.now c.requires),
-    )
+mode-requires c κs = (
+  omega arith,
+  omega (arith, c.clients-clients.ensures, clients-few c.args.b.now c.requires),
+)
 
 add-i : tie.Need-overflow_add-i-in-loop-i invariant-loop decreases-loop
 add-i c = search rules

@@ -19,18 +19,17 @@ version-count-requires : tie.Need-version_count-requires
 version-count-requires c κs = search rules
 
 test-requires : tie.Need-test-t-requires
-test-requires c κs =
-    (
-      omega (
-        arith,
-        c.version_count.ensures,
-        few-versions c.args.b.now c.args.i
-            (search rules) (search rules),
-      ),
-      subst Bounded (sym c.message-m.ensures)
-          (bounded-message c.args.b.now c.args.i (search rules) (search rules)),
-      long-enough c.args.b.now c.args.i (search rules) (search rules),
-    )
+test-requires c κs = (
+  omega (
+    arith,
+    c.version_count.ensures,
+    few-versions c.args.b.now c.args.i
+        (search rules) (search rules),
+  ),
+  subst Bounded (sym c.message-m.ensures)
+      (bounded-message c.args.b.now c.args.i (search rules) (search rules)),
+  long-enough c.args.b.now c.args.i (search rules) (search rules),
+)
 
 deliver-on-requires : tie.Need-deliver_on-requires
 deliver-on-requires c κs =

@@ -89,8 +89,7 @@ loop-less c =
 
 loop-again : tie.Need-loop-at-preserved invariant-loop decreases-loop
 loop-again c =
-    let l = c.loop-at in
-    (
+    let l = c.loop-at in (
       omega (
         arith,
         c.requires.within l.at,

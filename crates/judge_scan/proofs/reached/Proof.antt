@@ -95,12 +95,11 @@ loop-less : tie.Need-loop-j-smaller invariant-loop decreases-loop
 loop-less c = search rules
 
 loop-again : tie.Need-loop-j-preserved invariant-loop decreases-loop
-loop-again c =
-    (
-      sym (other-line (bytes c.before) (starts c.before) (n c.before) (start c.before).requires.2 (of c.before) (number c.before) (line c.before)
-          (below c.before) (start c.before).requires.1 (tested c.before ∙ c.if-is_write_of.false)) ∙ up_to_lem c.before,
-      omega (arith, below c.before),
-    )
+loop-again c = (
+  sym (other-line (bytes c.before) (starts c.before) (n c.before) (start c.before).requires.2 (of c.before) (number c.before) (line c.before)
+      (below c.before) (start c.before).requires.1 (tested c.before ∙ c.if-is_write_of.false)) ∙ up_to_lem c.before,
+  omega (arith, below c.before),
+)
 
 returns-2 : tie.Need-returns invariant-loop decreases-loop
 unfolding some_from

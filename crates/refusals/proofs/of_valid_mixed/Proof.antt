@@ -18,18 +18,17 @@ sum c =
     )
 
 writing-requires : tie.Need-of_client_writing-requires
-writing-requires c κs =
-    (
-      search rules,
-      sym c.is_client.ensures ∙ c.if-is_client.true,
-      omega (
-        arith,
-        count-le c.args.s 64 (search rules),
-        count-le c.args.r 64 (search rules),
-        c.count-writes.ensures,
-        c.count-reads.ensures,
-      ),
-    )
+writing-requires c κs = (
+  search rules,
+  sym c.is_client.ensures ∙ c.if-is_client.true,
+  omega (
+    arith,
+    count-le c.args.s 64 (search rules),
+    count-le c.args.r 64 (search rules),
+    c.count-writes.ensures,
+    c.count-reads.ensures,
+  ),
+)
 
 returns : tie.Need-returns-then-is_client
 returns c =

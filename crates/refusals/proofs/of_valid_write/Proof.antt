@@ -8,12 +8,11 @@ use Rattle.refusals.proofs.of_valid_write.Statement.{statement}
 use Rattle.refusals.proofs.of_valid_write.Tie as tie
 
 writing-requires : tie.Need-of_client_writing-requires
-writing-requires c κs =
-    (
-      search rules,
-      sym c.is_client.ensures ∙ c.if-is_client.true,
-      omega (arith, count-le c.args.s 64 (search rules), c.count-joining.ensures),
-    )
+writing-requires c κs = (
+  search rules,
+  sym c.is_client.ensures ∙ c.if-is_client.true,
+  omega (arith, count-le c.args.s 64 (search rules), c.count-joining.ensures),
+)
 
 returns : tie.Need-returns-then-is_client
 returns c =

@@ -13,12 +13,11 @@ good-entry-requires-2 c κs =
     (c.requires.0.known, c.requires.3)
 
 stored-value-requires : tie.Need-stored_value-requires
-stored-value-requires c κs =
-    (
-      c.requires.0.keyed,
-      c.requires.1,
-      stamp-small c.args.b.now c.args.v.stamp c.requires.2,
-    )
+stored-value-requires c κs = (
+  c.requires.0.keyed,
+  c.requires.1,
+  stamp-small c.args.b.now c.args.v.stamp c.requires.2,
+)
 
 returns : tie.Need-returns
 returns c =

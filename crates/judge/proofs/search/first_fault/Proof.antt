@@ -304,12 +304,11 @@ shown-again-2 c = (
 )
 
 pass-line-requires : At tie.Need-pass_line-requires
-pass-line-requires c κs =
-    (
-      omega (arith, (owned c.before.before.before).long, below c.before.before.before),
-      subst SmallClients (sym c.frame-r.ensures)
-          ((start c.before.before.before).requires.0.small (line c.before.before.before) (below c.before.before.before)),
-    )
+pass-line-requires c κs = (
+  omega (arith, (owned c.before.before.before).long, below c.before.before.before),
+  subst SmallClients (sym c.frame-r.ensures)
+      ((start c.before.before.before).requires.0.small (line c.before.before.before) (below c.before.before.before)),
+)
 
 lines-less : At tie.Need-lines-smaller
 lines-less c = search rules
