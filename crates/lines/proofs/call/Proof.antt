@@ -182,15 +182,14 @@ returns-3 c =
     let b = a.b.now in
     let f = a.f.now in
     let o = a.shown.now in
-    let held = c.frame-in-Write-1.given.0 in
     let told = c.in-Write.is in
     let values = rest-whole 10 f in (
       c.start_write.ensures.0
-          ∙ ap (λ (v : List ℕ). answer_on b (start_write held.0 held.1.0 v)) values
+          ∙ ap (λ (v : List ℕ). answer_on b (start_write c.in-Write.client c.in-Write.set v)) values
           ∙ sym (ap (call_answer b f o) told),
       (
         c.start_write.ensures.1.0
-            ∙ ap (λ (v : List ℕ). block_after b (start_write held.0 held.1.0 v)) values
+            ∙ ap (λ (v : List ℕ). block_after b (start_write c.in-Write.client c.in-Write.set v)) values
             ∙ sym (ap (call_block b f o) told),
         sym (ap (call_output b f o) told),
       ),
@@ -317,10 +316,9 @@ returns-10 c =
     let b = a.b.now in
     let f = a.f.now in
     let o = a.shown.now in
-    let held = c.frame-in-Mixed-1.given.0 in
     let told = c.in-Mixed.is in
     let values = rest-whole 18 f in
-    let call = start_mixed held.0 held.1.0 held.1.1.0 in (
+    let call = start_mixed c.in-Mixed.client c.in-Mixed.reads c.in-Mixed.writes in (
       c.start_mixed.ensures.0
           ∙ ap (λ (v : List ℕ). answer_on b (call v)) values ∙ sym (ap (call_answer b f o) told),
       (

@@ -21,9 +21,9 @@ use Rattle.lines.proofs.carry_out.Tie as tie
 
 -- ---- a line with a frame
 
-module _ (p : tie.In-Frame-2) where
+module _ (p : tie.In-Frame) where
   abbrev entry : tie.Start
-  entry = p.before.before.before.before.before.before.before.before
+  entry = p.before.before.before.before.before.before.before
 
   abbrev line : List ℕ
   line = entry.args.line.now
@@ -32,7 +32,7 @@ module _ (p : tie.In-Frame-2) where
   room = p.blank_frame-bytes.result
 
   abbrev bytes : List ℕ
-  bytes = p.read_frame-parsed.last.bytes
+  bytes = p.read_frame-parsed.new.bytes
 
   abbrev frame : StoreFrame
   frame = p.in-Frame.frame
@@ -101,7 +101,7 @@ part-call-start c = search rules
 
 part-call-end : tie.Need-slice_bounds-call-end
 part-call-end c =
-    omega (arith, (stored c.before).ranges, wide c.before)
+    omega (arith, (stored c.before).fits, wide c.before)
 
 call-requires : tie.Need-call-requires
 call-requires c κs = its-frame c.before.before.before
