@@ -1,31 +1,23 @@
 -- The bytes of several reads in a buffer: one more read, and what stands at its front.
 use mathlib.Core.List.{List, [], ◌∷◌, ◌++◌, append_assoc, append-nil}
 use mathlib.Core.Path.{◌≡◌, refl, sym, ap, ap₂, ◌∙◌}
-use Prim.Native.Nat.{ℕ, ◌+◌, ◌-◌, ◌≤◌}
+use Prim.Native.Nat.{ℕ, ◌+◌, ◌≤◌}
 use native.Mathlib.Nat.{le_refl}
 use native.Mathlib.Omega.{arith}
-use lib.ListN.{length, take, drop, length-append, length-drop, drop_of_length-le}
-use lib.Seq.{sets, sets-eq, take_all, take_at, drop-drop, length-take-le, length-sets}
+use borrow.Rule.Slice.PartMut.{put_mid}
+use lib.ListN.{length, take, drop, length-append}
+use lib.Seq.{sets, sets-eq, take_at, drop-drop, length-take-le, length-sets}
 use Rattle.log_format.proofs.Lines.{together}
 use Rattle.judge_driver.specs.Input.{Kept, keep, keep_all}
 
--- copied into the part of a buffer from `done` on, and the part put back
-pub kept-part : (chunk buf : List ℕ) (done : ℕ) → done + length chunk ≤ length buf
-    → take done buf ++ ((take (length chunk) chunk
-    ++ drop (length chunk) (take (length buf - done) (drop done buf)))
-    ++ drop (length buf - done) (drop done buf)) ≡ sets buf done chunk
-kept-part chunk buf done h =
-    let size = length-drop done buf in
-    let whole : take (length buf - done) (drop done buf) ≡ drop done buf =
-    take_all (length buf - done) (drop done buf) (omega arith) in
-    let none : drop (length buf - done) (drop done buf) ≡ [] =
-    drop_of_length-le (drop done buf) {i = length buf - done} (omega arith) in
-    rw (whole, none, take_all (length chunk) chunk (le_refl (length chunk)))
-    (ap (λ (l : List ℕ). take done buf ++ l)
-    (append-nil (chunk ++ drop (length chunk) (drop done buf))
-    ∙ ap (λ (l : List ℕ). chunk ++ l) (drop-drop (length chunk) done buf))
+-- a chunk in the place of the part of a buffer from `done` on that is as long
+pub kept-part : (chunk buf : List ℕ) (done size : ℕ) → size ≡ length chunk
+    → done + length chunk ≤ length buf → put_mid done size buf chunk ≡ sets buf done chunk
+kept-part chunk buf done size e h =
+    ap (λ (n : ℕ). put_mid done n buf chunk) e
+    ∙ ap (λ (l : List ℕ). take done buf ++ (chunk ++ l)) (drop-drop (length chunk) done buf)
     ∙ sym (append_assoc (take done buf) chunk (drop (done + length chunk) buf))
-    ∙ sym (sets-eq chunk buf done h))
+    ∙ sym (sets-eq chunk buf done h)
 
 keep_all-last : (k : Kept) (chunks : List (List ℕ)) (chunk : List ℕ)
     → keep_all k (chunks ++ chunk ∷ []) ≡ keep (keep_all k chunks) chunk

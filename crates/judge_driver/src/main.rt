@@ -11,7 +11,7 @@ ghost use Rattle.findings.specs.Findings.{bytes_of, verdict};
 ghost use Rattle.judge_driver.specs.Input.{GotWithin, TurnOf, FilledBy};
 
 use findings::Verdict;
-use libc::{STDIN_FILENO, STDOUT_FILENO};
+use std::io::{Read, Stdin, Stdout, Write};
 
 // What one read of the input gives.
 #[derive(Drop)]
@@ -22,18 +22,14 @@ enum Got {
 }
 
 // One read, into the front of `chunk`.
-fn read_chunk(chunk: &mut [u8]) -> Got
+fn read_chunk(mut stdin: Stdin, chunk: &mut [u8]) -> Got
     ensures { GotWithin (length chunk.old) result }
 {
-    let got = libc::read(STDIN_FILENO, chunk);
-    if got < 0 {
-        return Got::Failed;
+    match stdin.read(chunk) {
+        Ok(0) => Got::End,
+        Ok(n) => Got::Bytes(n),
+        Err(_) => Got::Failed,
     }
-    let n = io::count(got, chunk);
-    if n == 0 {
-        return Got::End;
-    }
-    Got::Bytes(n)
 }
 
 // The bytes of `chunk` join the `done` bytes that `buf` keeps.
@@ -41,7 +37,7 @@ fn keep(buf: &mut [u8], done: usize, chunk: &[u8])
     requires { done + length chunk.now ≤ length buf.old }
     ensures { buf.new ≡ sets buf.old done chunk.now }
 {
-    bytes::copy(chunk, &mut buf[done..]);
+    buf[done..done + chunk.len()].copy_from_slice(chunk);
 }
 
 fn least(a: usize, b: usize) -> usize
@@ -51,11 +47,11 @@ fn least(a: usize, b: usize) -> usize
 }
 
 // One read, whose bytes join those kept, as many as there is room for.
-fn turn(buf: &mut [u8], done: usize, chunk: &mut [u8]) -> Got
+fn turn(stdin: Stdin, buf: &mut [u8], done: usize, chunk: &mut [u8]) -> Got
     requires { done < length buf.old }
     ensures { TurnOf buf.old done buf.new chunk.new result }
 {
-    let got = read_chunk(chunk);
+    let got = read_chunk(stdin, chunk);
     match got {
         Got::Bytes(n) => {
             let size = least(n, buf.len() - done);
@@ -75,12 +71,12 @@ enum Filled {
 }
 
 // Reads until `buf` is full or the input ends, by way of `chunk`.
-fn fill(buf: &mut [u8], chunk: &mut [u8]) -> Filled
+fn fill(stdin: Stdin, buf: &mut [u8], chunk: &mut [u8]) -> Filled
     ensures { FilledBy buf.old buf.new result }
 {
     let mut done = 0;
     while done < buf.len() {
-        let got = turn(buf, done, chunk);
+        let got = turn(stdin, buf, done, chunk);
         match got {
             Got::Bytes(n) => {
                 done += n;
@@ -146,20 +142,21 @@ fn write_verdict(log: &[u8], out: &mut [u8]) -> usize
     write_line(judge::judge(log), out)
 }
 
-// Judges what the input gives; a failed read gives no verdict.
-fn judge_input(buf: &mut [u8], chunk: &mut [u8]) {
-    let filled = fill(buf, chunk);
+// Judges what the input gives; a failed read gives no verdict, and after a failed write nothing is
+// left to do.
+fn judge_input(stdin: Stdin, mut stdout: Stdout, buf: &mut [u8], chunk: &mut [u8]) {
+    let filled = fill(stdin, buf, chunk);
     let Filled::Bytes(n) = filled else {
         return;
     };
     let mut out = [0u8; 9];
     let size = write_verdict(&buf[..n], &mut out);
-    io::write_all(STDOUT_FILENO, &out[..size]);
+    let _ = stdout.write_all(&out[..size]);
 }
 
 // The buffer is longer than a log may be: an input that fills it is over the limit.
-fn main() {
-    let mut buf = io::large_buffer();
-    let mut chunk = io::buffer();
-    judge_input(&mut buf, &mut chunk);
+fn main(rt: HostRuntime) {
+    let mut buf = [0u8; 65536];
+    let mut chunk = [0u8; 4096];
+    judge_input(rt.stdin(), rt.stdout(), &mut buf, &mut chunk);
 }

@@ -13,31 +13,30 @@ use borrow.Author.Rules.{rules}
 use Rattle.judge_driver.proofs.write_line.Statement.{statement}
 use Rattle.judge_driver.proofs.write_line.Tie as tie
 
-answer-of-requires : tie.Need-answer-of-requires
+answer-of-requires : tie.Need-answer_of-a-requires
 answer-of-requires c κs = search rules
 
-put-number-requires : tie.Need-put-number-requires
+put-number-requires : tie.Need-put_number-requires
 put-number-requires c κs = search rules
 
-mul-out : tie.Need-overflow-mul-out
+mul-out : tie.Need-overflow_mul-out
 mul-out c = search rules
 
-slice-write-out : tie.Need-slice-write-out
+slice-write-out : tie.Need-bounds-out-size
 slice-write-out c = search rules
 
-mul-result : tie.Need-overflow-mul-result
+mul-result : tie.Need-overflow_mul-result
 mul-result c = search rules
 
-add-result : tie.Need-overflow-add-result
+add-result : tie.Need-overflow_add-result
 add-result c = search rules
 
-same_length : tie.Need-same-length
+same_length : tie.Need-shape_of-out
 same_length c = search rules
 
 returns : tie.Need-returns
 returns c =
-    let s = c.before.before.before.before.before.before in
-    let a = c.before.before.before.before.answer-of in
+    let a = c.answer_of-a in
     let bytes = big_endian a.result.size a.result.number in
     let long : length (hex_text bytes) ≡ 2 * a.result.size =
     omega (
@@ -47,15 +46,15 @@ returns c =
           a.result.number,
     ) in (
       ap (λ (l : List ℕ). take (2 * a.result.size + 1) (set l (2 * a.result.size) 10))
-          c.before.before.put-number.ensures
-          ∙ line-stored (hex_text bytes) s.args.out.now (2 * a.result.size) 10 long
+          c.put_number.ensures
+          ∙ line-stored (hex_text bytes) c.args.out.now (2 * a.result.size) 10 long
           (omega arith)
           ∙ ap (λ (l : List ℕ). hex_text l ++ 0x0a ∷ []) a.ensures.0,
       omega arith,
     )
 
-pub write-line-spec : {M : Type 1} → statement M
-write-line-spec =
+pub write_line_spec : {M : Type 1} → statement M
+write_line_spec =
     tie.close
     (tie.spec
     answer-of-requires

@@ -1,0 +1,16 @@
+-- A turn's bytes are those of one more chunk.
+use Rattle.std.proofs.Common.{◌++◌, ◌∷◌, [], take, arith}
+use Rattle.judge_driver.proofs.Reading.{keep-next}
+use Rattle.judge_driver.proofs.fill.Goals as goal
+
+pub loop-done-preserved : goal.loop-done-preserved
+loop-done-preserved c =
+    let (_, fits, within, same) = c.in-Bytes.ensures in
+    let (_, (chunks, kept)) = c.loop-done.invariant in (
+      omega arith,
+      (
+        chunks ++ take c.in-Bytes.n c.turn-got.new.chunk ∷ [],
+        keep-next c.loop-done.buf c.turn-got.new.buf c.turn-got.new.chunk c.loop-done.done
+            c.in-Bytes.n _ chunks kept within same,
+      ),
+    )
