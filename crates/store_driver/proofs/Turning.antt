@@ -2,13 +2,22 @@
 use mathlib.Core.Bool.{Bool, true, false}
 use mathlib.Core.List.{List, ◌++◌}
 use mathlib.Core.Path.{◌≡◌, refl, sym, ap, ◌∙◌}
-use Prim.Native.Nat.{ℕ, ◌≤◌}
+use Prim.Native.Nat.{ℕ, ◌+◌, ◌≤◌, ◌<◌}
 use native.Mathlib.Omega.{arith}
-use lib.ListN.{length, take, length-take}
+use lib.ListN.{length, get_or, take, length-take}
 use lib.Seq.{take-take}
-use Rattle.lines.specs.Input.{Lent, fed_all, closed}
-use Rattle.lines.proofs.Feeding.{fed_all-append}
+use Rattle.lines.specs.Input.{Lent, fed, fed_all, closed}
+use Rattle.lines.proofs.Feeding.{fed_all-append, fed_all-next}
 use Rattle.store_driver.specs.Turn.{TookOf, turned, TurnOf, ServedBy}
+
+-- one more byte is fed
+pub fed-next : (start s after : Lent) (input : List ℕ) (i : ℕ) → i < length input
+    → s ≡ fed_all start (take i input) → after ≡ fed s (get_or input i 0)
+    → after ≡ fed_all start (take (i + 1) input)
+fed-next start s after input i h so_far step =
+    step
+    ∙ ap (λ (t : Lent). fed t (get_or input i 0)) so_far
+    ∙ sym (fed_all-next start input i h)
 
 turned-append : (ended : Bool) (s : Lent) (xs ys : List ℕ) → turned ended (fed_all s xs) ys ≡ turned
     ended s (xs ++ ys)

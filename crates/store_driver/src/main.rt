@@ -9,8 +9,8 @@ ghost use Rattle.std.specs.Prelude.{◌≡◌};
 ghost use Rattle.lines.specs.Input.{lent, fed, closed};
 ghost use Rattle.store_driver.specs.Turn.{TookOf, TurnOf, ServedBy};
 
-use libc::{STDIN_FILENO, STDOUT_FILENO};
 use lines::input::{MOST_KEPT, end, feed};
+use std::io::{Read, Stdin, Stdout, Write};
 use store_frames::MOST_REPLY;
 
 // After one byte of the input: how many bytes of a line are kept, and whether the program goes on.
@@ -38,20 +38,21 @@ struct State {
 }
 
 // Writes the first `n` bytes of `text`, and answers whether that went well; no bytes are no call.
-fn write_front(text: &[u8], n: usize) -> bool {
+fn write_front(mut stdout: Stdout, text: &[u8], n: usize) -> bool {
     if n <= text.len() {
-        io::write_all(STDOUT_FILENO, &text[0..n])
+        stdout.write_all(&text[0..n]).is_ok()
     } else {
         false
     }
 }
 
-fn say(reply: &[u8; MOST_REPLY], n: usize) -> bool {
-    write_front(reply, n)
+fn say(stdout: Stdout, reply: &[u8; MOST_REPLY], n: usize) -> bool {
+    write_front(stdout, reply, n)
 }
 
 // Takes one byte of the input, and prints the reply where it ends a line.
 fn take_byte(
+    stdout: Stdout,
     b: &mut [u64],
     line: &mut [u8; MOST_KEPT],
     at: usize,
@@ -64,12 +65,13 @@ fn take_byte(
     let fed = feed(b, line, at, c, reply);
     let n = fed.length;
     let kept = fed.at;
-    let on = say(reply, n);
+    let on = say(stdout, reply, n);
     Step { at: kept, on }
 }
 
 // Takes the bytes of one read, up to a reply that can't be written.
 fn take_bytes(
+    stdout: Stdout,
     b: &mut [u64],
     line: &mut [u8; MOST_KEPT],
     at: usize,
@@ -83,7 +85,7 @@ fn take_bytes(
     let mut kept = at;
     let mut i = 0;
     while i < input.len() {
-        let step = take_byte(b, line, kept, input[i], reply);
+        let step = take_byte(stdout, b, line, kept, input[i], reply);
         kept = step.at;
         i += 1;
         if step.on {} else {
@@ -102,17 +104,25 @@ fn take_bytes(
 }
 
 // At the end of the input: a line begun has no 0a.
-fn finish(b: &mut [u64], line: &mut [u8; MOST_KEPT], at: usize, reply: &mut [u8; MOST_REPLY])
+fn finish(
+    stdout: Stdout,
+    b: &mut [u64],
+    line: &mut [u8; MOST_KEPT],
+    at: usize,
+    reply: &mut [u8; MOST_REPLY],
+)
     ensures { lent b.new line.new 0 reply.new
         ≡ closed (lent b.old line.old at reply.old) }
 {
     let n = end(b, line, at, reply);
-    say(reply, n);
+    say(stdout, reply, n);
 }
 
 // One read of the input, and what it leads to. It goes on until the input ends, or a read or a
 // write fails.
 fn turn(
+    mut stdin: Stdin,
+    stdout: Stdout,
     b: &mut [u64],
     line: &mut [u8; MOST_KEPT],
     at: usize,
@@ -123,37 +133,39 @@ fn turn(
         (lent b.new line.new result.at reply.new) buf.new
         result.taken result.on result.ended }
 {
-    let got = libc::read(STDIN_FILENO, buf);
-    if got < 0 {
-        return State {
+    match stdin.read(buf) {
+        Ok(0) => {
+            finish(stdout, b, line, at, reply);
+            State {
+                at: 0,
+                taken: 0,
+                on: false,
+                ended: true,
+            }
+        }
+        Ok(n) => {
+            let took = take_bytes(stdout, b, line, at, &buf[..n], reply);
+            State {
+                at: took.at,
+                taken: took.taken,
+                on: took.on,
+                ended: false,
+            }
+        }
+        Err(_) => State {
             at,
             taken: 0,
             on: false,
             ended: false,
-        };
-    }
-    let n = io::count(got, buf);
-    if n == 0 {
-        finish(b, line, at, reply);
-        return State {
-            at: 0,
-            taken: 0,
-            on: false,
-            ended: true,
-        };
-    }
-    let took = take_bytes(b, line, at, &buf[..n], reply);
-    State {
-        at: took.at,
-        taken: took.taken,
-        on: took.on,
-        ended: false,
+        },
     }
 }
 
 // Reads and answers, and gives how many bytes are kept at the end. A function ends, so that there
 // is a last read: the 18,446,744,073,709,551,615th.
 fn serve(
+    stdin: Stdin,
+    stdout: Stdout,
     b: &mut [u64],
     line: &mut [u8; MOST_KEPT],
     buf: &mut [u8],
@@ -166,7 +178,7 @@ fn serve(
     let mut turns: u64 = 18446744073709551615;
     while 0 < turns {
         turns -= 1;
-        let state = turn(b, line, at, buf, reply);
+        let state = turn(stdin, stdout, b, line, at, buf, reply);
         at = state.at;
         if state.on {} else {
             return at;
@@ -175,10 +187,17 @@ fn serve(
     at
 }
 
-fn main() {
+fn main(rt: HostRuntime) {
     let mut b = [0u64; layout::NEEDED];
     let mut line = [0u8; MOST_KEPT];
     let mut reply = [0u8; MOST_REPLY];
-    let mut buf = io::buffer();
-    serve(&mut b, &mut line, &mut buf, &mut reply);
+    let mut buf = [0u8; 4096];
+    serve(
+        rt.stdin(),
+        rt.stdout(),
+        &mut b,
+        &mut line,
+        &mut buf,
+        &mut reply,
+    );
 }
