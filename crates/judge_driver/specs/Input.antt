@@ -5,7 +5,7 @@ use Rattle.std.proofs.lemmas.List.Edits.{sets}
 use Rattle.judge_driver.specs.declared.Got.{Got}
 use Rattle.judge_driver.specs.declared.Got.TheVariants.{Bytes, End, Failed}
 use Rattle.judge_driver.specs.declared.Filled.{Filled}
-use Rattle.judge_driver.specs.declared.Filled.TheVariants.{Bytes as All, Failed as Broken}
+use Rattle.judge_driver.specs.declared.Filled.TheVariants.{Bytes as Whole, Failed as Broken}
 
 -- a buffer, and how many bytes it keeps
 pub record Kept : Type 0 where
@@ -39,7 +39,7 @@ TurnOf before done after chunk Failed = after ≡ before
 -- all turns: the buffer and the number of bytes kept are those of the chunks that were read, in
 -- order
 abbrev pub FilledBy : List ℕ → List ℕ → Filled → Type 0
-FilledBy before after (All n) =
+FilledBy before after (Whole n) =
     (n ≤ length before) × ((chunks : List (List ℕ))
     × (record { buffer = after; done = n } ≡ keep_all (record { buffer = before; done = 0 }) chunks))
 FilledBy before after Broken = Unit
