@@ -41,5 +41,6 @@ TurnOf before done after chunk Failed = after ≡ before
 abbrev pub FilledBy : List ℕ → List ℕ → Filled → Type 0
 FilledBy before after (Whole n) =
     (n ≤ length before) × ((chunks : List (List ℕ))
-    × (record { buffer = after; done = n } ≡ keep_all (record { buffer = before; done = 0 }) chunks))
+    × (record { buffer = after; done = n }
+    ≡ keep_all (record { buffer = before; done = 0 }) chunks))
 FilledBy before after Broken = Unit

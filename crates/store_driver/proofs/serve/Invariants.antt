@@ -1,4 +1,5 @@
--- Before each read, the bytes of those before it were fed in order. Each turn leaves one read fewer.
+-- Before each read, the bytes of those before it were fed in order. Each turn leaves one read
+-- fewer.
 use Rattle.lines.specs.Input.{lent}
 use Rattle.store_driver.proofs.Turning.{TakenBy}
 use Rattle.store_driver.proofs.serve.Given as goal
