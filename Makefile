@@ -7,12 +7,12 @@ PREFIX ?= /usr/local
 SEED ?= 189
 CFLAGS ?= -O2
 
-SOURCES := crates.txt $(shell find crates -type f)
+SOURCES := crates.txt $(shell find crates -type f -not -path 'crates/*/out/*')
 DRIVERS := target/bin/store_driver target/bin/judge_driver
 LIBRARIES := target/staticlib/libstore.a target/staticlib/libjudge.a
 VERSION := $(shell sed -n 's/^version = "\(.*\)"$$/\1/p' model/Cargo.toml)
 
-# rt works on one target/ at a time.
+# One run of rt works in a crate's folder at a time.
 .NOTPARALLEL:
 .PHONY: run test mutants bench install explain
 
@@ -31,11 +31,10 @@ bench: $(LIBRARIES)
 	cd model && cargo run --offline --quiet --profile bench --features proved$(SQLITE) --bin bench
 
 target/bin/%: $(SOURCES)
-	@tools/prove check $*
-	@touch $@
+	@tools/prove program $*
 
 target/staticlib/lib%.a: $(SOURCES)
-	@tools/prove staticlib $*
+	@tools/prove library $*
 
 target/host/example: host/example.c host/koolvent.h $(LIBRARIES)
 	@mkdir -p $(@D)

@@ -1,4 +1,4 @@
-//! With the feature `proved`, the linker looks for static libraries where `tools/prove staticlib`
+//! With the feature `proved`, the linker looks for static libraries where `tools/prove library`
 //! writes them.
 
 use std::env;

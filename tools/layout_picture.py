@@ -13,22 +13,22 @@ ROOT = os.path.dirname(os.path.dirname(os.path.abspath(__file__)))
 # section: its words' title, colour, what repeats, where one unit starts, the unit's words
 SECTIONS = {
     'header': ('Header', '#c9ced6', 'once', [], 'clients|partitions|items|versions stored|messages in flight'),
-    'scalars': ('Clients', '#f3c98b', 'for each client d', ['scalarAt'], 'mode|count|set|awaited|stamp|last kind|last set|last stamp|write set|write awaited|last write set'),
-    'latest': ('Latest', '#a9d3b4', 'for each item k', ['latestAt'], 'stamp|set'),
-    'views': ('Views', '#9cc7e6', 'for each client d, item k', ['viewAt'], 'stamp|set'),
-    'asked': ('Asked stamps', '#f0b3a6', 'for each client d, item k', ['itemAt'], 'stamp'),
-    'values': ('Values', '#e8c3d9', 'for each client d, item k', ['itemAt'], 'value'),
-    'lastStamps': ('Last stamps', '#d9b8a0', 'for each client d, item k', ['itemAt'], 'stamp'),
-    'lastValues': ('Last values', '#cfc0e6', 'for each client d, item k', ['itemAt'], 'value'),
-    'firsts': ('First replies', '#b4c7a1', 'for each client d, item k', ['firstAt'], 'stamp|set'),
-    'versions': ('Stored versions', '#b9dde0', 'for each version i', ['versionAt'], 'item|value|stamp|set'),
-    'messages': ('Messages in flight', '#dfd98f', 'for each message i', ['messageAt'], 'kind|client or partition|item|value|stamp|set|latest stamp|latest set'),
+    'scalars': ('Clients', '#f3c98b', 'for each client d', ['scalar_at'], 'mode|count|set|awaited|stamp|last kind|last set|last stamp|write set|write awaited|last write set'),
+    'latest': ('Latest', '#a9d3b4', 'for each item k', ['latest_at'], 'stamp|set'),
+    'views': ('Views', '#9cc7e6', 'for each client d, item k', ['view_at'], 'stamp|set'),
+    'asked': ('Asked stamps', '#f0b3a6', 'for each client d, item k', ['item_at'], 'stamp'),
+    'values': ('Values', '#e8c3d9', 'for each client d, item k', ['item_at'], 'value'),
+    'last_stamps': ('Last stamps', '#d9b8a0', 'for each client d, item k', ['item_at'], 'stamp'),
+    'last_values': ('Last values', '#cfc0e6', 'for each client d, item k', ['item_at'], 'value'),
+    'firsts': ('First replies', '#b4c7a1', 'for each client d, item k', ['first_at'], 'stamp|set'),
+    'versions': ('Stored versions', '#b9dde0', 'for each version i', ['version_at'], 'item|value|stamp|set'),
+    'messages': ('Messages in flight', '#dfd98f', 'for each message i', ['message_at'], 'kind|client or partition|item|value|stamp|set|latest stamp|latest set'),
 }
 
 # what stands behind the unit's words
 NOTES = {
     'values': 'of a mixed transaction: the answer in the low 32 bits, the value written in the high 32',
-    'lastValues': 'of a mixed transaction: the answer in the low 32 bits, the value written in the high 32',
+    'last_values': 'of a mixed transaction: the answer in the low 32 bits, the value written in the high 32',
 }
 
 WIDTH, MARGIN, ROW, TOP = 1180, 24, 62, 190
@@ -46,7 +46,7 @@ class Layout:
             text = f.read()
         # constants, sections by name, and places, which have parameters
         self.bodies = {n: body for n, body in re.findall(r'^(\w+(?: \w+)*) = (.+)$', text, re.M)}
-        self.bodies |= {f'capacities .{n}': body for n, body in capacities(path)}
+        self.bodies |= {f'capacities.{n}': body for n, body in capacities(path)}
         self.base = {s: self.number(f'base {s}') for s in SECTIONS}
         self.size = {s: self.number(f'size {s}') for s in SECTIONS}
         self.needed = self.number('needed')
@@ -59,7 +59,7 @@ class Layout:
 
     def numerals(self, body):
         """The body with numerals for names; names that have no body stay."""
-        name = re.compile(r'(?:base|size) \w+|capacities \.\w+|[A-Za-z]\w*')
+        name = re.compile(r'(?:base|size) \w+|capacities\.\w+|[A-Za-z]\w*')
         body = name.sub(lambda m: self.numerals(self.bodies[m.group()]) if m.group() in self.bodies else m.group(), body)
         return str(eval(body)) if re.fullmatch(r'[\d +*()-]+', body) else body  # numerals and signs only
 

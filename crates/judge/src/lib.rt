@@ -9,7 +9,7 @@ ghost use Rattle.std.specs.Prelude.{◌≡◌, ◌≤◌, false};
 ghost use Rattle.judge_frames.specs.Cut.{frames_in};
 ghost use Rattle.log_format.specs.Log.{too_long, frames_of};
 ghost use Rattle.judge_scan.specs.Scan.{Scanning};
-ghost use Rattle.findings.specs.Findings.{judged, checked, verdict, number_of};
+ghost use Rattle.findings.specs.Findings.{judged, checked, verdict};
 ghost use Rattle.judge_findings.specs.Owned.{AllSmall};
 ghost use Rattle.judge.specs.Search.{Table};
 ghost use Rattle.findings.specs.Published.{Says};
@@ -83,24 +83,4 @@ pub fn judge(log: &[u8]) -> Verdict
         return Verdict::TooLong;
     }
     judge_within(log)
-}
-
-// The verdict as one number: the lowest byte is 0 or the refusal, bits 8 to 15 the finding, bits 16
-// to 31 the line.
-fn packed(v: Verdict) -> u64
-    ensures { result ≡ number_of v }
-{
-    match v {
-        Verdict::TooLong => 16,
-        Verdict::Malformed { line } => 15 + (line as u64) * 65536,
-        Verdict::Judged { finding, line } => (finding as u64) * 256 + (line as u64) * 65536,
-    }
-}
-
-// The same call for C.
-#[unsafe(no_mangle)]
-pub extern "C" fn koolvent_judge(log: &[u8]) -> u64
-    ensures { result ≡ number_of (verdict log.now) }
-{
-    packed(judge(log))
 }

@@ -14,7 +14,7 @@ fn start(input: Stdio) -> Child {
         .stdin(input)
         .stdout(Stdio::piped())
         .spawn()
-        .expect("the program, which rt check builds")
+        .expect("the program, which tools/prove builds")
 }
 
 /// What the program prints for an input, handed over in parts of this length.

@@ -16,7 +16,7 @@ pub fn start(input: Stdio, output: Stdio) -> Child {
         .stdin(input)
         .stdout(output)
         .spawn()
-        .expect("the program, which rt check builds")
+        .expect("the program, which tools/prove builds")
 }
 
 /// What the program prints for an input, handed over in parts of this length while its output is

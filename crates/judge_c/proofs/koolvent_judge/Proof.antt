@@ -1,9 +1,9 @@
--- `judge::koolvent_judge` meets its contract.
+-- `judge_c::koolvent_judge` meets its contract.
 use mathlib.Core.Path.{ap, ◌∙◌}
 use Rattle.findings.specs.Findings.{number_of}
 use borrow.Author.Rules.{rules}
-use Rattle.judge.proofs.koolvent_judge.Statement.{statement}
-use Rattle.judge.proofs.koolvent_judge.Tie as tie
+use Rattle.judge_c.proofs.koolvent_judge.Statement.{statement}
+use Rattle.judge_c.proofs.koolvent_judge.Tie as tie
 
 judge-requires : tie.Need-judge-requires
 judge-requires c κs = search rules

@@ -1,9 +1,9 @@
--- `judge::packed` meets its contract, case by case.
+-- `judge_c::packed` meets its contract, case by case.
 use mathlib.Core.Path.{sym, ap}
 use Rattle.findings.specs.Findings.{number_of}
 use borrow.Author.Rules.{rules}
-use Rattle.judge.proofs.packed.Statement.{statement}
-use Rattle.judge.proofs.packed.Tie as tie
+use Rattle.judge_c.proofs.packed.Statement.{statement}
+use Rattle.judge_c.proofs.packed.Tie as tie
 
 enum_told : tie.Need-enum_told-1
 enum_told c = search rules
