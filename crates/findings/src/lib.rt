@@ -3,6 +3,8 @@
 
 #![tactic(auto)]
 
+// Stays a number and a line: `Says` of specs/Published.antt and the theorem that the judge ensures
+// speak of `Judged finding line` by its number, and of 0 and 0.
 #[derive(Drop)]
 pub enum Verdict {
     // Over 32,768 bytes or over 256 line ends: refusal 16.

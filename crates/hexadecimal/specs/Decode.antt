@@ -1,9 +1,7 @@
 -- What decoding a line answers (document 01: frames).
-use Rattle.std.specs.Prelude.{cond, List, ℕ, ◌/◌, length}
-use Rattle.hexadecimal.specs.declared.Decoded.{Decoded}
-use Rattle.hexadecimal.specs.declared.Decoded.TheVariants.{Bytes, Malformed}
+use Rattle.std.specs.Prelude.{Option, Some, None, cond, List, ℕ, ◌/◌, length}
 use Rattle.hexadecimal.specs.Text.{is_hex}
 
--- how many bytes the line holds where it is hex; else it is malformed
-abbrev pub decoded : List ℕ → Decoded
-decoded line = cond (is_hex line) (Bytes (length line / 2)) Malformed
+-- how many bytes the line holds where it is hex
+abbrev pub decoded : List ℕ → Option ℕ
+decoded line = cond (is_hex line) (Some (length line / 2)) None

@@ -1,6 +1,10 @@
 -- A lowercase hexadecimal digit's byte and its value, and the two digits of a byte (document 01:
 -- frames).
-use Rattle.std.specs.Prelude.{cond, ◌&&◌, List, [], ◌∷◌, ℕ, ◌+◌, ◌-◌, ◌*◌, ◌/◌, ◌%◌, leb, ltb}
+use Rattle.std.specs.Prelude.{Option, Some, None, cond, ◌&&◌, List, [], ◌∷◌, ℕ, ◌+◌, ◌-◌, ◌*◌, ◌/◌, ◌%◌, leb, ltb}
+
+-- x where it is below n
+abbrev pub below : ℕ → ℕ → Option ℕ
+below n x = cond (ltb x n) (Some x) None
 
 -- the value of a lowercase hexadecimal digit's byte; 16 for any other byte
 unfoldable pub digit : ℕ → ℕ

@@ -6,35 +6,30 @@
 ghost use Rattle.std.specs.Prelude.{◌≡◌, ◌+◌, ◌*◌, ◌/◌, ◌≤◌, ◌<◌, length};
 ghost use Rattle.std.proofs.lemmas.List.Edits.{sets};
 ghost use Rattle.hexadecimal.specs.Decode.{decoded};
-ghost use Rattle.hexadecimal.specs.Digit.{digit as digit_of, pair as pair_of, hex_digit, hex_byte};
+ghost use Rattle.hexadecimal.specs.Digit.{below, digit as digit_of, pair as pair_of};
+ghost use Rattle.hexadecimal.specs.Digit.{hex_digit, hex_byte};
 ghost use Rattle.hexadecimal.specs.Line.{line_end};
 ghost use Rattle.hexadecimal.specs.Number.{number_at, big_endian};
 ghost use Rattle.hexadecimal.specs.Text.{bytes_of, hex_text};
 
-// The value of a lowercase hexadecimal digit, 16 for any other byte.
-pub fn digit(c: u8) -> u8
-    ensures { result ≡ digit_of c }
+// The value of a lowercase hexadecimal digit.
+pub fn digit(c: u8) -> Option<u8>
+    ensures { result ≡ below 16 (digit_of c) }
 {
-    if (b'0' <= c) & (c <= b'9') {
-        return c - b'0';
+    match c {
+        b'0'..=b'9' => Some(c - b'0'),
+        b'a'..=b'f' => Some(c - 87),
+        _ => None,
     }
-    if (b'a' <= c) & (c <= b'f') {
-        return c - 87;
-    }
-    16
 }
 
-// The byte of two digits, 256 where either isn't a digit.
-pub fn pair(h: u8, l: u8) -> u16
-    ensures { result ≡ pair_of h l }
+// The byte of two digits.
+pub fn pair(h: u8, l: u8) -> Option<u8>
+    ensures { result ≡ below 256 (pair_of h l) }
 {
-    let high = digit(h);
-    let low = digit(l);
-    if (high < 16) & (low < 16) {
-        (high * 16 + low) as u16
-    } else {
-        256
-    }
+    let high = digit(h)?;
+    let low = digit(l)?;
+    Some(high * 16 + low)
 }
 
 // The digit whose value is `v`.
@@ -51,11 +46,8 @@ pub fn number_at(s: &[u8], at: usize, n: usize) -> u64
     ensures { result ≡ number_at n s.now at }
 {
     let mut number: u64 = 0;
-    let mut k = 0;
-    while k < n {
-        let byte = s[at + k] as u64;
-        number = number * 256 + byte;
-        k += 1;
+    for byte in &s[at..at + n] {
+        number = number * 256 + *byte as u64;
     }
     number
 }
@@ -65,14 +57,12 @@ pub fn number_at(s: &[u8], at: usize, n: usize) -> u64
 pub fn line_end(s: &[u8], at: usize) -> usize
     ensures { result ≡ line_end s.now at }
 {
-    let mut i = at;
-    while i < s.len() {
+    for i in at..s.len() {
         if s[i] == 0x0a {
             return i;
         }
-        i += 1;
     }
-    i
+    s.len().max(at)
 }
 
 // Writes the two digits of `b` into `out` from `at`.
@@ -89,11 +79,9 @@ pub fn put_number(out: &mut [u8], at: usize, n: usize, x: u64)
     requires { at + 2 * n ≤ length out.old }
     ensures { out.new ≡ sets out.old at (hex_text (big_endian n x)) }
 {
-    let mut left = n;
     let mut rest = x;
-    while 0 < left {
-        left -= 1;
-        put_byte(out, at + 2 * left, (rest % 256) as u8);
+    for k in (0..n).rev() {
+        put_byte(out, at + 2 * k, (rest % 256) as u8);
         rest /= 256;
     }
 }
@@ -104,11 +92,9 @@ pub fn put_bytes(out: &mut [u8], at: usize, n: usize, x: u64)
     requires { at + n ≤ length out.old }
     ensures { out.new ≡ sets out.old at (big_endian n x) }
 {
-    let mut left = n;
     let mut upper = x;
-    while 0 < left {
-        left -= 1;
-        out[at + left] = (upper % 256) as u8;
+    for k in (0..n).rev() {
+        out[at + k] = (upper % 256) as u8;
         upper /= 256;
     }
 }
@@ -118,43 +104,27 @@ pub fn encode(bytes: &[u8], out: &mut [u8], at: usize)
     requires { at + 2 * length bytes.now ≤ length out.old }
     ensures { out.new ≡ sets out.old at (hex_text bytes.now) }
 {
-    let mut k = 0;
-    while k < bytes.len() {
-        put_byte(out, at + 2 * k, bytes[k]);
-        k += 1;
+    for (k, byte) in bytes.iter().enumerate() {
+        put_byte(out, at + 2 * k, *byte);
     }
 }
 
-// What decoding a line answers.
-#[derive(Drop)]
-pub enum Decoded {
-    // The line is hexadecimal text of this many bytes.
-    Bytes(usize),
-    // It has a byte that is no digit, or an odd number of digits.
-    Malformed,
-}
-
-// Writes the bytes of `line` to the front of `out`: of a malformed line, those before the first
-// pair that isn't two digits.
-pub fn decode(line: &[u8], out: &mut [u8]) -> Decoded
+// Writes the bytes of `line` to the front of `out`, and answers how many they are. A line is malformed
+// that has a byte that is no digit, or an odd number of digits: it has no number, and the bytes written
+// are those before its first pair that isn't two digits.
+pub fn decode(line: &[u8], out: &mut [u8]) -> Option<usize>
     requires { length line.now / 2 ≤ length out.old }
     ensures answer { result ≡ decoded line.now }
     ensures stores { out.new ≡ sets out.old 0
         (bytes_of line.now) }
 {
     let half = line.len() / 2;
-    let mut k = 0;
-    while k < half {
-        let byte = pair(line[2 * k], line[2 * k + 1]);
-        if 256 <= byte {
-            return Decoded::Malformed;
-        }
-        out[k] = byte as u8;
-        k += 1;
+    for k in 0..half {
+        out[k] = pair(line[2 * k], line[2 * k + 1])?;
     }
     if line.len() % 2 == 0 {
-        Decoded::Bytes(half)
+        Some(half)
     } else {
-        Decoded::Malformed
+        None
     }
 }

@@ -2,7 +2,7 @@
 use mathlib.Core.List.{List, [], ◌∷◌, ◌++◌}
 use mathlib.Core.Logic.{◌≢◌}
 use mathlib.Core.Path.{◌≡◌, refl, sym, ap, ap₂, ◌∙◌, subst}
-use Prim.Native.Nat.{ℕ, zero, suc, ◌+◌, ◌-◌, ◌*◌, ◌/◌, ◌%◌, ◌≤◌, ◌<◌}
+use Prim.Native.Nat.{ℕ, zero, suc, ◌+◌, ◌-◌, ◌*◌, ◌/◌, ◌≤◌, ◌<◌}
 use lib.Dec.{eqb, ltb}
 use lib.ListN.{length, get_or, set, take, replicate, length-set, length-replicate}
 use lib.ListN.{get_or-replicate, get_or-eq_default}
@@ -13,7 +13,7 @@ use borrow.Author.Tests.{eqb-true, eqb-false, eq-eqb, ne_eqb, ltb-true, ltb-fals
 use Rattle.basics.proofs.Cases.{by-test}
 use Rattle.basics.specs.Lists.{table}
 use Rattle.index.specs.Index.{place, most_slots, base, most_keys, most_links, slot_of, rest_at}
-use Rattle.index.specs.Index.{below, link_at, Leads, Reached, Walked, Ends, Links, Indexed, Index}
+use Rattle.index.specs.Index.{below, link_at, Leads, Reached, Walked, Ends, Indexed, Index}
 
 -- ---- what a place is
 

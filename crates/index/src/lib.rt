@@ -32,18 +32,21 @@ fn last_link(keys: &[u64], links: &[u64], key: u64) -> usize
 {
     let mut at = slot_of(key);
     let mut rest = key;
+    // Stays a `while`: it follows links to their end, and counts no index.
     while links[at] != 0 {
         let p = (links[at] - 1) as usize;
         if keys[p] == key {
             return at;
         }
         at = SLOTS + BASE * p + (rest % BASE as u64) as usize;
-        rest = rest / BASE as u64;
+        rest /= BASE as u64;
     }
     at
 }
 
 // The first place of `key`; the number of keys where `key` is none of them.
+// Stays a number: the promise is `place`, one for each key, by which the checks compare places.
+// Their contracts would turn an Option back into it.
 pub fn find(keys: &[u64], links: &[u64], key: u64) -> usize
     requires { Index keys.now links.now }
     ensures { result ≡ place keys.now key }
@@ -75,9 +78,7 @@ pub fn index(keys: &[u64], links: &mut [u64])
     requires { Indexed keys.now links.old 0 }
     ensures { Index keys.now links.new }
 {
-    let mut p = 0;
-    while p < keys.len() {
+    for p in 0..keys.len() {
         add(keys, links, p);
-        p += 1;
     }
 }

@@ -10,18 +10,14 @@ ghost use Rattle.itemset.specs.Set.{has, count, rank, insert64, remove, all_belo
 pub fn has(set: u64, item: u64) -> bool
     ensures { result ≡ has set item }
 {
-    if item < 64 {
-        (set >> item) % 2 == 1
-    } else {
-        false
-    }
+    item < 64 && (set >> item) % 2 == 1
 }
 
 // How many members `set` has.
 pub fn count(set: u64) -> u64
     ensures { result ≡ count set }
 {
-    u64::count_ones(set) as u64
+    u64::from(set.count_ones())
 }
 
 // How many members of `set` are below `item`.
@@ -57,7 +53,7 @@ pub fn remove(set: u64, item: u64) -> u64
 pub fn all_below(set: u64, n: u64) -> bool
     ensures { result ≡ all_below set n }
 {
-    if n < 64 { set >> n == 0 } else { true }
+    64 <= n || set >> n == 0
 }
 
 // The least member of `set` at or above `item`, and 64 where there is none; an item of 64 or more
@@ -66,8 +62,7 @@ pub fn least_from(set: u64, item: u64) -> u64
     ensures { result ≡ least_from (64 - item) set item }
 {
     if item < 64 {
-        let least = item + u64::trailing_zeros(set >> item) as u64;
-        if least < 64 { least } else { 64 }
+        (item + u64::from((set >> item).trailing_zeros())).min(64)
     } else {
         item
     }

@@ -5,3 +5,4 @@ pub mod Lines
 pub mod Parts
 pub mod Rows
 pub mod Some
+pub mod Ranges

@@ -1,6 +1,6 @@
 -- Laws of a frame's parts: its sets are of 64 bits, a part that is absent shows and writes nothing,
 -- and the order of stamps.
-use mathlib.Core.Bool.{true, false, not, ◌&&◌, ◌||◌}
+use mathlib.Core.Bool.{true, not, ◌&&◌}
 use mathlib.Core.List.{List}
 use mathlib.Core.Logic.{◌↔◌, ◌⊎◌, inl, inr, ⊎_elim}
 use mathlib.Core.Path.{◌≡◌, sym}
@@ -11,7 +11,6 @@ use lib.ListN.{length}
 use borrow.Author.Tests.{leb-true, ltb-true, ltb-false}
 use Rattle.basics.proofs.Cases.{by-test, not-both, and_left, and_right, or_cases, not-true}
 use Rattle.hexadecimal.specs.Bytes.{EachByte}
-use Rattle.hexadecimal.specs.Number.{number_at}
 use Rattle.hexadecimal.proofs.Number.{number_at-lt}
 use Rattle.itemset.specs.Set.{has, count, rank}
 use Rattle.itemset.proofs.Counts.{rank-all, rank-zero, rank-suc}
