@@ -19,7 +19,8 @@ use Rattle.judge_findings.specs.Owned.{SmallClients, AllSmall}
 use Rattle.judge_scan.specs.Scan.{Scanning, ScannedOf}
 use Rattle.judge_scan.proofs.Scanning.{scan-start}
 use Rattle.log_format.specs.Some.{first_from}
-use Rattle.judge_scan.specs.declared.Scanned.TheVariants.{Lines, Bad}
+use Rattle.std.specs.Prelude.{Ok, Err}
+use Rattle.judge_scan.specs.declared.BadLine.{BadLine}
 use Rattle.findings.specs.declared.Verdict.TheVariants.{Malformed, Judged}
 
 module _ (bytes starts : List ℕ) (n line : ℕ)
@@ -34,19 +35,19 @@ module _ (bytes starts : List ℕ) (n line : ℕ)
   unfolding judged
   judged-clean h = rw (length-frames_in bytes starts n, ← first, le-ltb line n h)
 
-pub checked-lines : (log bytes starts : List ℕ) (n : ℕ) → ScannedOf log bytes starts (Lines n)
+pub checked-lines : (log bytes starts : List ℕ) (n : ℕ) → ScannedOf log bytes starts (Ok n)
     → judged (frames_in bytes starts n) ≡ checked (frames_of log)
 unfolding checked
 checked-lines log bytes starts n t =
     rw (t.1, le-ltb n (length (frames_of log)) (omega (arith, t.2))) (ap judged t.0)
 
-pub checked-bad : (log bytes starts : List ℕ) (i : ℕ) → ScannedOf log bytes starts (Bad i)
-    → Malformed (i + 1) ≡ checked (frames_of log)
+pub checked-bad : (log bytes starts : List ℕ) (bad : BadLine)
+    → ScannedOf log bytes starts (Err bad) → Malformed (bad.line + 1) ≡ checked (frames_of log)
 unfolding checked
-checked-bad log bytes starts i t = rw (t.0, lt-ltb i (length (frames_of log)) t.1)
+checked-bad log bytes starts bad t = rw (t.0, lt-ltb bad.line (length (frames_of log)) t.1)
 
 -- the clients of well-formed lines are small
-pub lines-small : (log bytes starts : List ℕ) (n : ℕ) → ScannedOf log bytes starts (Lines n)
+pub lines-small : (log bytes starts : List ℕ) (n : ℕ) → ScannedOf log bytes starts (Ok n)
     → AllSmall bytes starts n
 unfolding malformed
 lines-small log bytes starts n t j l =

@@ -7,12 +7,12 @@ use Prim.Native.Nat.{ℕ, ◌<◌}
 use native.Mathlib.Omega.{arith}
 use lib.Dec.{eqb}
 use lib.ListN.{get_or}
-use borrow.Author.Tests.{ne_eqb}
 use Rattle.itemset.specs.Set.{has}
 use Rattle.itemset.proofs.Laws.{has-empty}
 use Rattle.log_format.specs.Some.{some, some_from}
 use Rattle.log_format.proofs.Some.{some_from-above, some_from-or, some_from-and, some_from-ext}
 use Rattle.findings.specs.Findings.{holds_at, fault_at, wrote, is_unwritten, fractures}
+use Rattle.findings.specs.Findings.{unwritten, fractured, own_write_missed}
 use Rattle.findings.specs.Findings.{owners, misses_at}
 use Rattle.findings.proofs.Owners.{owners-none}
 use Rattle.log_format.specs.Log.{kind_of, client_of, reads_own, shown, shown_stamp, shown_value, written}
@@ -23,9 +23,9 @@ use Rattle.judge_findings.specs.Owned.{Owned}
 use Rattle.judge_findings.specs.Tests.{fractures_by, misses_by, faults_by}
 use Rattle.judge_findings.specs.Writes.{line_of, stamp_of, items_of, Gathered}
 use Rattle.judge_findings.proofs.Gathering.{gathered-some}
-use Rattle.judge_findings.proofs.Tests.{faults-not, fractures-by, misses-by, nothing-has}
+use Rattle.judge_findings.proofs.Tests.{faults_not, fractures-by, misses-by, nothing-has}
 use Rattle.judge_findings.proofs.Tests.{nothing-wrote, nothing-fractures, nothing-misses}
-use Rattle.judge.specs.Search.{finding_of}
+use Rattle.judge.specs.Search.{item_faulted}
 
 module _ (bytes starts : List ℕ) where
   -- line `write`, of n, has line `line` at fault at the item
@@ -130,7 +130,7 @@ module _ (bytes starts : List ℕ) (n : ℕ) (writes : List ℕ) (m : ℕ)
   faults-gathered line item =
       let r = frame_in bytes starts line in
       gathered-some bytes starts n writes m g (write_fault bytes starts n line item)
-      (λ j e. sym (faults-not r (written (frame_in bytes starts j))
+      (λ j e. sym (faults_not r (written (frame_in bytes starts j))
       (written_stamp (frame_in bytes starts j)) item (shown_stamp r item)
       (owners (frames_in bytes starts n) j line) (client_of r)
       (nothing-has (frame_in bytes starts j) item (shown_stamp r item) e)))
@@ -201,97 +201,76 @@ module _ (bytes starts : List ℕ) (n line : ℕ) (h : line < n) where
       misses
       ∙ rw here
 
--- ---- one turn of the search
+-- ---- the search of a read
 
 module _ (bytes starts : List ℕ) (n : ℕ) (writes : List ℕ) (m : ℕ)
-    (g : Gathered bytes starts n writes m) (line item : ℕ) (r : List ℕ)
-    (here : r ≡ frame_in bytes starts line) where
-  -- what the test for an unwritten item answers
-  abbrev tested : ℕ → ℕ → Bool
-  tested stamp value =
-      cond (eqb stamp 0) (not (eqb value 0)) (not (some_from m 0
-      (λ w. wrote item stamp value (frame_in bytes starts (line_of writes w)))))
-
-  -- the item isn't shown
-  pub item-not : (items : ℕ) → items ≡ shown r → (is : Bool) → is ≡ has items item → is ≡ false
-      → item_fault bytes starts n line item ≡ false
-  unfolding item_fault
-  item-not items e is h f = rw (← here, ← e, ← h, f)
-
-  -- it is, and is unwritten
-  pub item-unwritten : (items stamp value : ℕ) → items ≡ shown r → (is : Bool)
-      → is ≡ has items item → is ≡ true
-      → stamp ≡ shown_stamp r item → value ≡ shown_value r item
-      → (un : Bool) → un ≡ tested stamp value → un ≡ true
-      → item_fault bytes starts n line item ≡ true
-  unfolding item_fault
-  item-unwritten items stamp value e is h f s v un u t =
-      let un-is = u ∙ unwritten-gathered bytes starts n writes m g item stamp value in
-      rw (← here, ← e, ← h, f, ← s, ← v, ← un-is, t)
-
-  -- it is, and was written: what is left are the writes
-  pub item-writes : (items stamp value : ℕ) → items ≡ shown r → (is : Bool)
-      → is ≡ has items item → is ≡ true
-      → stamp ≡ shown_stamp r item → value ≡ shown_value r item
-      → (un : Bool) → un ≡ tested stamp value → un ≡ false
-      → item_fault bytes starts n line item ≡ some_from m 0
-      (λ w. write_fault bytes starts n line item (line_of writes w))
-  unfolding item_fault
-  item-writes items stamp value e is h f s v un u t =
-      let un-is = u ∙ unwritten-gathered bytes starts n writes m g item stamp value in
-      rw (← here, ← e, ← h, f, ← s, ← v, ← un-is, t)
-      (sym (faults-gathered bytes starts n writes m g line item))
-
-  pub write-fault : (own items at of stamp write : ℕ)
-      → own ≡ owners (frames_in bytes starts n) write line
-      → items ≡ written (frame_in bytes starts write)
-      → at ≡ written_stamp (frame_in bytes starts write)
-      → of ≡ client_of r → stamp ≡ shown_stamp r item
-      → write_fault bytes starts n line item write ≡ faults_by r own items at of item stamp
+    (g : Gathered bytes starts n writes m) (line : ℕ) (table r : List ℕ)
+    (owned : Owned bytes starts n line table) (here : r ≡ frame_in bytes starts line) where
+  write-fault : (item w : ℕ) → w < m
+      → faults_by r (get_or table (line_of writes w) 0) (items_of writes w) (stamp_of writes w)
+      (client_of r) item (shown_stamp r item) ≡ write_fault bytes starts n line item (line_of writes w)
   unfolding write_fault
-  write-fault own items at of stamp write o i t c s = rw (← here, ← o, ← i, ← t, ← c, ← s)
+  write-fault item w l =
+      let e = g.entries.entry w l in
+      rw (owned.held (line_of writes w) (g.within w l), e.items, e.stamp, here)
+
+  item-fault : (item : ℕ) → item_faulted bytes starts writes m table r item
+      ≡ item_fault bytes starts n line item
+  unfolding item_faulted item_fault
+  item-fault item =
+      rw (unwritten-gathered bytes starts n writes m g item (shown_stamp r item) (shown_value r item))
+      (ap (λ (b : Bool). has (shown r) item
+      && (is_unwritten (frames_in bytes starts n) item (shown_stamp r item) (shown_value r item) || b))
+      (some_from-ext m 0 _ (λ w. write_fault bytes starts n line item (line_of writes w))
+      (λ w _ l. write-fault item w (omega arith))
+      ∙ faults-gathered bytes starts n writes m g line item)
+      ∙ rw here)
+
+  pub read-faulted : line < n → some_from 64 0 (item_faulted bytes starts writes m table r)
+      ≡ fault_at (frames_in bytes starts n) line
+  read-faulted h =
+      some_from-ext 64 0 (item_faulted bytes starts writes m table r)
+      (item_fault bytes starts n line) (λ item _ _. item-fault item)
+      ∙ fault-search bytes starts n line h
 
 -- ---- the lowest finding at a line
 
 module _ (bytes starts : List ℕ) (n : ℕ) (writes : List ℕ) (m : ℕ)
     (g : Gathered bytes starts n writes m) (line item : ℕ) (r : List ℕ) (h : line < n)
-    (here : r ≡ frame_in bytes starts line) (f : ℕ) where
+    (here : r ≡ frame_in bytes starts line) where
   frame_at : get_or (frames_in bytes starts n) line [] ≡ r
   frame_at = frames_in-at bytes starts n line h ∙ sym here
 
   pub finding-one : (b : Bool) (stamp value : ℕ)
       → b ≡ cond (eqb stamp 0) (not (eqb value 0)) (not (some_from m 0
-      (λ w. wrote item stamp value (frame_in bytes starts (line_of writes w))))) → f ≡ 1
+      (λ w. wrote item stamp value (frame_in bytes starts (line_of writes w)))))
       → stamp ≡ shown_stamp r item → value ≡ shown_value r item
-      → b ≡ finding_of f (frames_in bytes starts n) line item
-  finding-one b stamp value t e s v =
-      t ∙ unwritten-gathered bytes starts n writes m g item stamp value ∙ rw (e, frame_at, s, v)
+      → b ≡ unwritten (frames_in bytes starts n) line item
+  finding-one b stamp value t s v =
+      t ∙ unwritten-gathered bytes starts n writes m g item stamp value ∙ rw (frame_at, s, v)
 
   pub finding-two : (b : Bool) (stamp : ℕ)
       → b ≡ some_from m 0 (λ w. fractures_by r (items_of writes w) (stamp_of writes w) item stamp)
-      → f ≡ 2 → stamp ≡ shown_stamp r item → b ≡ finding_of f (frames_in bytes starts n) line item
-  finding-two b stamp t e s =
-      t ∙ fractured-gathered bytes starts n writes m g r item stamp ∙ rw (e, frame_at, s)
+      → stamp ≡ shown_stamp r item → b ≡ fractured (frames_in bytes starts n) line item
+  finding-two b stamp t s =
+      t ∙ fractured-gathered bytes starts n writes m g r item stamp ∙ rw (frame_at, s)
 
   pub finding-three : (own b : Bool) (table : List ℕ) (of stamp : ℕ) → own ≡ reads_own (kind_of r)
       → b ≡ some_from m 0 (λ w. misses_by (get_or table (line_of writes w) 0) (items_of writes w)
       (stamp_of writes w) of item stamp)
-      → Owned bytes starts n line table → (f ≡ 1 → ⊥) → (f ≡ 2 → ⊥) → of ≡ client_of r
-      → stamp ≡ shown_stamp r item → (own && b) ≡ finding_of f (frames_in bytes starts n) line item
-  finding-three own b table of stamp w t owned one two o s =
-      rw (ne_eqb f 1 one, ne_eqb f 2 two, frame_at, ← w, ← o, ← s)
+      → Owned bytes starts n line table → of ≡ client_of r
+      → stamp ≡ shown_stamp r item
+      → (own && b) ≡ own_write_missed (frames_in bytes starts n) line item
+  finding-three own b table of stamp w t owned o s =
+      rw (frame_at, ← w, ← o, ← s)
       (ap (λ (x : Bool). own && x)
       (t ∙ missed-gathered bytes starts n writes m g line table of item stamp owned
       ∙ missed-above bytes starts n line h of item stamp))
 
 -- line i shows an item at which the finding holds
-pub holds-search : (bytes starts : List ℕ) (n line f items : ℕ) → line < n
-    → items ≡ shown (frame_in bytes starts line)
-    → some_from 64 0 (λ k. has items k && finding_of f (frames_in bytes starts n) line k) ≡ holds_at
-    (finding_of f) (frames_in bytes starts n) line
+pub holds-search : (bytes starts : List ℕ) (n line items : ℕ) (f : List (List ℕ) → ℕ → ℕ → Bool)
+    → line < n → items ≡ shown (frame_in bytes starts line)
+    → some_from 64 0 (λ k. has items k && f (frames_in bytes starts n) line k) ≡ holds_at
+    f (frames_in bytes starts n) line
 unfolding holds_at
-holds-search bytes starts n line f items h e = rw (frames_in-at bytes starts n line h, e)
-
--- two tests of the code, joined, are the two that they answer
-pub both-tests : (a b p q v : Bool) → a ≡ p → b ≡ q → (a && b) ≡ v → (p && q) ≡ v
-both-tests a b p q v e f t = rw (← e, ← f) t
+holds-search bytes starts n line items f h e = rw (frames_in-at bytes starts n line h, e)

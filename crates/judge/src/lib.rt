@@ -14,40 +14,49 @@ ghost use Rattle.judge_findings.specs.Owned.{AllSmall};
 ghost use Rattle.judge.specs.Search.{Table};
 ghost use Rattle.findings.specs.Published.{Says};
 
-use crate::search::{first_fault, lowest};
+use crate::search::{first_fault, lowest, number_of};
 use findings::Verdict;
-use judge_findings::writes::gather;
+use judge_findings::writes::{Writes, gather};
+use judge_frames::cut::Frames;
 use judge_limits::too_long;
-use judge_scan::{Scanned, scan};
+use judge_scan::scan;
 
 // Well-formed frames, their writes gathered: the first line at fault and there the lowest finding.
-fn judge_gathered(bytes: &[u8], starts: &[usize], writes: &[u64], m: usize, n: usize) -> Verdict
-    requires { Table bytes.now starts.now n writes.now m }
-    ensures { result ≡ judged (frames_in bytes.now starts.now n) }
+fn judge_gathered(writes: Writes, n: usize) -> Verdict
+    requires { Table writes.frames.bytes.now writes.frames.starts.now n
+        writes.table.now writes.count }
+    ensures { result ≡ judged
+        (frames_in writes.entry.frames.bytes.now writes.entry.frames.starts.now n) }
 {
     let mut owners = [0u64; 256];
-    let line = first_fault(bytes, starts, writes, m, &mut owners, n);
-    if line < n {
-        Verdict::Judged {
-            finding: lowest(bytes, starts, writes, m, &owners, n, line),
+    let fault = first_fault(writes, &mut owners, n);
+    match fault {
+        Some(line) => Verdict::Judged {
+            finding: number_of(lowest(writes, &owners, n, line)),
             line: (line + 1) as u16,
-        }
-    } else {
-        Verdict::Judged {
+        },
+        None => Verdict::Judged {
             finding: 0,
             line: 0,
-        }
+        },
     }
 }
 
 // Well-formed frames.
-fn judge_lines(bytes: &[u8], starts: &[usize], n: usize) -> Verdict
-    requires { (n ≤ 256) × AllSmall bytes.now starts.now n }
-    ensures { result ≡ judged (frames_in bytes.now starts.now n) }
+fn judge_lines(frames: Frames, n: usize) -> Verdict
+    requires { (n ≤ 256) × AllSmall frames.bytes.now frames.starts.now n }
+    ensures { result ≡ judged (frames_in frames.entry.bytes.now frames.entry.starts.now n) }
 {
-    let mut writes = [0u64; 768];
-    let m = gather(bytes, starts, n, &mut writes);
-    judge_gathered(bytes, starts, &writes, m, n)
+    let mut table = [0u64; 768];
+    let count = gather(frames, n, &mut table);
+    judge_gathered(
+        Writes {
+            frames,
+            table: &table,
+            count,
+        },
+        n,
+    )
 }
 
 // A log within the limits, decoded into `bytes` with its lines' starts in `starts`.
@@ -55,11 +64,10 @@ fn judge_into(log: &[u8], bytes: &mut [u8], starts: &mut [usize]) -> Verdict
     requires { Scanning log.now 0 bytes.old starts.old 0 }
     ensures { result ≡ checked (frames_of log.now) }
 {
-    let scanned = scan(log, bytes, starts);
-    match scanned {
-        Scanned::Lines(n) => judge_lines(bytes, starts, n),
-        Scanned::Bad(i) => Verdict::Malformed {
-            line: (i + 1) as u16,
+    match scan(log, bytes, starts) {
+        Ok(n) => judge_lines(Frames { bytes, starts }, n),
+        Err(bad) => Verdict::Malformed {
+            line: (bad.line + 1) as u16,
         },
     }
 }
@@ -80,7 +88,8 @@ pub fn judge(log: &[u8]) -> Verdict
     ensures says { Says log.now result }
 {
     if too_long(log) {
-        return Verdict::TooLong;
+        Verdict::TooLong
+    } else {
+        judge_within(log)
     }
-    judge_within(log)
 }

@@ -15,8 +15,8 @@ fn packed(v: Verdict) -> u64
 {
     match v {
         Verdict::TooLong => 16,
-        Verdict::Malformed { line } => 15 + (line as u64) * 65536,
-        Verdict::Judged { finding, line } => (finding as u64) * 256 + (line as u64) * 65536,
+        Verdict::Malformed { line } => 15 + u64::from(line) * 65536,
+        Verdict::Judged { finding, line } => u64::from(finding) * 256 + u64::from(line) * 65536,
     }
 }
 

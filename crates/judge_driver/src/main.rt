@@ -8,29 +8,10 @@ ghost use Rattle.std.proofs.lemmas.List.Edits.{sets};
 ghost use Rattle.hexadecimal.specs.Number.{big_endian};
 ghost use Rattle.hexadecimal.specs.Text.{hex_text};
 ghost use Rattle.findings.specs.Findings.{bytes_of, verdict};
-ghost use Rattle.judge_driver.specs.Input.{GotWithin, TurnOf, FilledBy};
+ghost use Rattle.judge_driver.specs.Input.{TurnOf, FilledBy};
 
 use findings::Verdict;
 use std::io::{Read, Stdin, Stdout, Write};
-
-// What one read of the input gives.
-#[derive(Drop)]
-enum Got {
-    Bytes(usize),
-    End,
-    Failed,
-}
-
-// One read, into the front of `chunk`.
-fn read_chunk(mut stdin: Stdin, chunk: &mut [u8]) -> Got
-    ensures { GotWithin (length chunk.old) result }
-{
-    match stdin.read(chunk) {
-        Ok(0) => Got::End,
-        Ok(n) => Got::Bytes(n),
-        Err(_) => Got::Failed,
-    }
-}
 
 // The bytes of `chunk` join the `done` bytes that `buf` keeps.
 fn keep(buf: &mut [u8], done: usize, chunk: &[u8])
@@ -40,56 +21,30 @@ fn keep(buf: &mut [u8], done: usize, chunk: &[u8])
     buf[done..done + chunk.len()].copy_from_slice(chunk);
 }
 
-fn least(a: usize, b: usize) -> usize
-    ensures { (result ≤ a) × (result ≤ b) × (1 ≤ a → 1 ≤ b → 1 ≤ result) }
-{
-    if a < b { a } else { b }
-}
-
-// One read, whose bytes join those kept, as many as there is room for.
-fn turn(stdin: Stdin, buf: &mut [u8], done: usize, chunk: &mut [u8]) -> Got
+// One read, whose bytes join those kept, as many as there is room for; 0 where the input ends.
+fn turn(mut stdin: Stdin, buf: &mut [u8], done: usize, chunk: &mut [u8]) -> std::io::Result<usize>
     requires { done < length buf.old }
     ensures { TurnOf buf.old done buf.new chunk.new result }
 {
-    let got = read_chunk(stdin, chunk);
-    match got {
-        Got::Bytes(n) => {
-            let size = least(n, buf.len() - done);
-            keep(buf, done, &chunk[..size]);
-            Got::Bytes(size)
-        }
-        Got::End => Got::End,
-        Got::Failed => Got::Failed,
-    }
+    let size = stdin.read(chunk)?.min(buf.len() - done);
+    keep(buf, done, &chunk[..size]);
+    Ok(size)
 }
 
-// What the whole input gives: so many bytes, or that a read failed.
-#[derive(Drop)]
-enum Filled {
-    Bytes(usize),
-    Failed,
-}
-
-// Reads until `buf` is full or the input ends, by way of `chunk`.
-fn fill(stdin: Stdin, buf: &mut [u8], chunk: &mut [u8]) -> Filled
+// Reads until `buf` is full or the input ends, by way of `chunk`, and answers how many bytes came.
+fn fill(stdin: Stdin, buf: &mut [u8], chunk: &mut [u8]) -> std::io::Result<usize>
     ensures { FilledBy buf.old buf.new result }
 {
     let mut done = 0;
+    // Stays a `while`: only a read tells how many bytes it gives.
     while done < buf.len() {
-        let got = turn(stdin, buf, done, chunk);
-        match got {
-            Got::Bytes(n) => {
-                done += n;
-            }
-            Got::End => {
-                return Filled::Bytes(done);
-            }
-            Got::Failed => {
-                return Filled::Failed;
-            }
+        let n = turn(stdin, buf, done, chunk)?;
+        if n == 0 {
+            return Ok(done);
         }
+        done += n;
     }
-    Filled::Bytes(done)
+    Ok(done)
 }
 
 // A verdict's bytes as one number of `size` bytes.
@@ -110,11 +65,11 @@ fn answer_of(v: Verdict) -> Answer
         },
         Verdict::Malformed { line } => Answer {
             size: 3,
-            number: 15 * 65536 + line as u64,
+            number: 15 * 65536 + u64::from(line),
         },
         Verdict::Judged { finding, line } => Answer {
             size: 4,
-            number: (finding as u64) * 65536 + line as u64,
+            number: u64::from(finding) * 65536 + u64::from(line),
         },
     }
 }
@@ -142,21 +97,23 @@ fn write_verdict(log: &[u8], out: &mut [u8]) -> usize
     write_line(judge::judge(log), out)
 }
 
-// Judges what the input gives; a failed read gives no verdict, and after a failed write nothing is
-// left to do.
-fn judge_input(stdin: Stdin, mut stdout: Stdout, buf: &mut [u8], chunk: &mut [u8]) {
-    let filled = fill(stdin, buf, chunk);
-    let Filled::Bytes(n) = filled else {
-        return;
-    };
+// Judges what the input gives; a failed read gives no verdict.
+fn judge_input(
+    stdin: Stdin,
+    mut stdout: Stdout,
+    buf: &mut [u8],
+    chunk: &mut [u8],
+) -> std::io::Result<()> {
+    let n = fill(stdin, buf, chunk)?;
     let mut out = [0u8; 9];
     let size = write_verdict(&buf[..n], &mut out);
-    let _ = stdout.write_all(&out[..size]);
+    stdout.write_all(&out[..size])
 }
 
-// The buffer is longer than a log may be: an input that fills it is over the limit.
+// The buffer is longer than a log may be: an input that fills it is over the limit. After a failed
+// read or write nothing is left to do.
 fn main(rt: HostRuntime) {
     let mut buf = [0u8; 65536];
     let mut chunk = [0u8; 4096];
-    judge_input(rt.stdin(), rt.stdout(), &mut buf, &mut chunk);
+    let _ = judge_input(rt.stdin(), rt.stdout(), &mut buf, &mut chunk);
 }

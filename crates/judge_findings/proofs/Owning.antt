@@ -1,15 +1,17 @@
 -- The table of owners from line to line: what a loop over the lines above makes of it, and that it
 -- then holds the owners at the next line.
 use mathlib.Core.Bool.{true, cond}
-use mathlib.Core.List.{List, []}
+use mathlib.Core.List.{List, [], ◌++◌}
 use mathlib.Core.Path.{◌≡◌, refl, sym, ap, ap₂, ◌∙◌, subst}
-use Prim.Native.Nat.{ℕ, suc, ◌+◌, ◌≤◌, ◌<◌}
+use Prim.Native.Nat.{ℕ, suc, ◌+◌, ◌-◌, ◌≤◌, ◌<◌}
 use native.Mathlib.Nat.{not-suc-le-zero}
 use native.Mathlib.Numerals.{add-one}
 use native.Mathlib.Omega.{arith}
 use lib.Dec.{eqb, ltb}
-use lib.ListN.{length, get_or, set, replicate, length-set, length-replicate, get_or-replicate}
-use lib.Seq.{get_or-set_same, get_or-set_other}
+use lib.ListN.{length, get_or, set, take, drop, replicate, get_or-append}
+use lib.ListN.{length-set, length-replicate, get_or-replicate}
+use lib.Seq.{get_or-set_same, get_or-set_other, get_or-take, get_or-drop}
+use lib.Seq.{get_or-append-add}
 use borrow.Author.Tests.{eqb-true, eqb-false, eq-eqb, ltb-true, ltb-false, lt-ltb, le-ltb}
 use Rattle.basics.proofs.Cases.{by-test}
 use Rattle.itemset.specs.Set.{has, insert}
@@ -60,6 +62,26 @@ module _ (table f : List ℕ) where
       ∙ by-test (ltb k j)
       (λ l. old k ∙ rw (l, lt-ltb k (j + 1) (omega (arith, ltb-true k j l))))
       (λ l. old k ∙ rw (l, le-ltb k (j + 1) (omega (arith, ltb-false k j l)))))
+
+  -- the words handed over are the front of the table
+  pub handed-front : (front : List ℕ) (above : ℕ) → above ≤ length table → length front ≡ above
+      → Handed (take above table) f above front → Handed table f above (front ++ drop above table)
+  handed-front front above h e done k =
+      by-test (ltb k above)
+      (λ t.
+      let below = ltb-true k above t in
+      let same : get_or (take above table) k 0 ≡ get_or table k 0 =
+      get_or-take above table k 0 below in
+      get_or-append front (drop above table) 0 k (omega arith) ∙ done k ∙ rw (t, same))
+      (λ t.
+      let past = ltb-false k above t in
+      let place : k ≡ length front + (k - above) = omega arith in
+      let back : above + (k - above) ≡ k = omega arith in
+      rw t
+      (ap (λ (i : ℕ). get_or (front ++ drop above table) i 0) place
+      ∙ get_or-append-add front (drop above table) (k - above) 0
+      ∙ get_or-drop above table (k - above) 0
+      ∙ ap (λ (i : ℕ). get_or table i 0) back))
 
   -- all lines above have been, where the line hands over; then the line's own word
   pub passed : (now : List ℕ) (line above own : ℕ) → Handed table f above now

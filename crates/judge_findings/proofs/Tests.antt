@@ -55,10 +55,10 @@ module _ (r : List ℕ) (items stamp item seen : ℕ) where
   fractures-other h = rw (ne_eqb stamp seen h)
 
   -- a write that isn't of the item
-  pub faults-not : (owners of : ℕ) → has items item ≡ false
+  pub faults_not : (owners of : ℕ) → has items item ≡ false
       → false ≡ faults_by r owners items stamp of item seen
   unfolding faults_by fractures_by misses_by
-  faults-not owners of e =
+  faults_not owners of e =
       rw (
         e,
         and-false (eqb stamp seen),

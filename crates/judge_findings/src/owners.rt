@@ -36,11 +36,8 @@ pub fn pass_line(owners: &mut [u64], line: usize, f: &[u8])
     let giver = client(f);
     let to = receiver(f);
     let above = handed(f, line);
-    let mut j = 0;
-    while j < above {
-        let clients = owners[j];
-        owners[j] = with_heir(clients, giver, to);
-        j += 1;
+    for clients in &mut owners[..above] {
+        *clients = with_heir(*clients, giver, to);
     }
     owners[line] = itemset::insert(0, giver);
 }

@@ -3,8 +3,16 @@
 ghost use Rattle.std.specs.Prelude.{cond, ◌≡◌, ◌+◌, ◌*◌, ◌≤◌, ◌<◌, eqb, length, set};
 ghost use Rattle.judge_findings.specs.Writes.{line_of, stamp_of, items_of, Gathered};
 
-use judge_frames::cut::frame;
+use judge_frames::cut::Frames;
 use judge_frames::fields::{written, written_stamp};
+
+// The frames of a log, and its table of writes, of which there are `count`.
+#[derive(Clone, Copy)]
+pub struct Writes<'a> {
+    pub frames: Frames<'a>,
+    pub table: &'a [u64],
+    pub count: usize,
+}
 
 // The place in the log of write `w`.
 pub fn line_of(writes: &[u64], w: usize) -> usize
@@ -49,19 +57,16 @@ fn counted(m: usize, items: u64) -> usize
 
 // Gathers the writes of the first `n` lines, and tells how many there are. The place of a line that
 // doesn't write is taken by the next line.
-pub fn gather(bytes: &[u8], starts: &[usize], n: usize, writes: &mut [u64]) -> usize
+pub fn gather(frames: Frames, n: usize, writes: &mut [u64]) -> usize
     requires { (n ≤ 256) × (3 * n ≤ length writes.old) }
-    ensures { Gathered bytes.now starts.now n writes.new
-        result }
+    ensures { Gathered frames.entry.bytes.now frames.entry.starts.now n writes.new result }
 {
     let mut m = 0;
-    let mut j = 0;
-    while j < n {
-        let f = frame(bytes, starts, j);
+    for j in 0..n {
+        let f = frames.frame(j);
         let items = written(f);
         put(writes, m, j as u64, written_stamp(f), items);
         m = counted(m, items);
-        j += 1;
     }
     m
 }

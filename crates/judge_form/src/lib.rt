@@ -12,26 +12,26 @@ use judge_frames::fields::{
     write_number, written,
 };
 
-// What a line's frame parses to.
-#[derive(Drop)]
-pub enum Parsed {
-    // A client's frame, with the number of its write; 0 where it has no write part.
-    Frame { client: u64, number: u64 },
-    Malformed,
+// What a line's frame parses to: its client, and the number of its write; 0 where it has no write
+// part.
+#[derive(Clone, Copy)]
+pub struct Parsed {
+    pub client: u64,
+    pub number: u64,
 }
 
 // A client (desk) is 1 to 8.
 fn is_client(d: u64) -> bool
     ensures { result ≡ is_client d }
 {
-    (1 <= d) & (d <= 8)
+    matches!(d, 1..=8)
 }
 
 // Number and writing client are both 0, or at least 1 and 1 to 8.
 fn is_whole(number: u64, writer: u64) -> bool
     ensures { result ≡ is_whole number writer }
 {
-    ((number == 0) & (writer == 0)) | ((1 <= number) & is_client(writer))
+    (number == 0 && writer == 0) || (1 <= number && is_client(writer))
 }
 
 // The i-th entry that a read shows has a whole stamp.
@@ -48,78 +48,61 @@ fn entry_whole(f: &[u8], i: usize) -> bool
 fn entries_whole(f: &[u8]) -> bool
     ensures { result ≡ entries_whole f.now }
 {
-    let n = shown_count(f);
-    let mut i = 0;
-    while i < n {
-        if entry_whole(f, i) {
-            i += 1;
-        } else {
-            return false;
-        }
-    }
-    true
+    (0..shown_count(f)).all(|i| entry_whole(f, i))
 }
 
 // The read part, where there is one: a nonempty set, and whole stamps.
+#[tactic(auto, unfolding(log_format::specs::Log::read_shaped))]
 fn read_shaped(f: &[u8]) -> bool
     ensures { result ≡ read_shaped f.now }
 {
-    if has_read(f) {
-        (1 <= shown(f)) & entries_whole(f)
-    } else {
-        true
-    }
+    !has_read(f) || (1 <= shown(f) && entries_whole(f))
 }
 
 // The write part, where there is one: a nonempty set, and a number of 1 or more.
+#[tactic(auto, unfolding(log_format::specs::Log::write_shaped))]
 fn write_shaped(f: &[u8]) -> bool
     ensures { result ≡ write_shaped f.now }
 {
-    if has_write(f) {
-        (1 <= written(f)) & (1 <= write_number(f))
-    } else {
-        true
-    }
+    !has_write(f) || (1 <= written(f) && 1 <= write_number(f))
 }
 
 // The receiver of a hand-over: a client, and not the giver.
+#[tactic(auto, unfolding(log_format::specs::Log::hand_over_shaped))]
 fn hand_over_shaped(f: &[u8]) -> bool
     ensures { result ≡ hand_over_shaped f.now }
 {
-    if hands_over(f) {
-        let to = receiver(f);
-        is_client(to) & (to != client(f))
-    } else {
-        true
-    }
+    !hands_over(f) || (is_client(receiver(f)) && receiver(f) != client(f))
 }
 
 // A log frame: its kind, its client, its parts, and nothing behind them.
+#[tactic(auto, unfolding(log_format::specs::Log::shaped))]
 fn shaped(f: &[u8]) -> bool
     ensures { result ≡ shaped_as f.now }
 {
-    let end = frame_end(f);
-    (has_read(f) | (has_write(f) | hands_over(f)))
-        & (is_client(client(f))
-            & ((f.len() == end) & (read_shaped(f) & (write_shaped(f) & hand_over_shaped(f)))))
+    (has_read(f) || has_write(f) || hands_over(f))
+        && is_client(client(f))
+        && f.len() == frame_end(f)
+        && read_shaped(f)
+        && write_shaped(f)
+        && hand_over_shaped(f)
 }
 
-pub fn parse(f: &[u8]) -> Parsed
+// The client and the number of a log frame; none of a malformed one.
+#[tactic(auto, unfolding(crate::specs::Parsed::parsed))]
+pub fn parse(f: &[u8]) -> Option<Parsed>
     ensures { result ≡ parsed f.now }
 {
-    if shaped(f) {
-        Parsed::Frame {
-            client: client(f),
-            number: write_number(f),
-        }
-    } else {
-        Parsed::Malformed
-    }
+    shaped(f).then(|| Parsed {
+        client: client(f),
+        number: write_number(f),
+    })
 }
 
 // `w` is of that client, and has a number.
+#[tactic(auto, unfolding(crate::specs::Parsed::is_write_of))]
 pub fn is_write_of(w: &[u8], of: u64) -> bool
     ensures { result ≡ is_write_of of w.now }
 {
-    (client(w) == of) & (1 <= write_number(w))
+    client(w) == of && 1 <= write_number(w)
 }

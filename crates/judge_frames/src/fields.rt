@@ -12,7 +12,7 @@ pub fn byte(f: &[u8], at: usize) -> u64
     ensures value { result ≡ get_or f.now at 0 }
     ensures upper_bound { result < 256 }
 {
-    if at < f.len() { f[at] as u64 } else { 0 }
+    f.get(at).map_or(0, |b| u64::from(*b))
 }
 
 // The big-endian number of the `n` bytes that begin at `at`.
@@ -20,12 +20,9 @@ pub fn number(f: &[u8], at: usize, n: usize) -> u64
     requires { (n ≤ 8) × (at ≤ 65536) }
     ensures { result ≡ number_at n f.now at }
 {
-    let mut number: u64 = 0;
-    let mut k = 0;
-    while k < n {
-        let next = byte(f, at + k);
-        number = number * 256 + next;
-        k += 1;
+    let mut number = 0;
+    for k in 0..n {
+        number = number * 256 + byte(f, at + k);
     }
     number
 }
@@ -51,24 +48,21 @@ pub fn client(f: &[u8]) -> u64
 pub fn has_read(f: &[u8]) -> bool
     ensures { result ≡ has_read (kind_of f.now) }
 {
-    let kind = byte(f, 0);
-    (kind == 0x21) | ((kind == 0x23) | (kind == 0x24))
+    matches!(byte(f, 0), 0x21 | 0x23 | 0x24)
 }
 
 // Whether the frame's kind is to see its client's own writes.
 pub fn reads_own(f: &[u8]) -> bool
     ensures { result ≡ reads_own (kind_of f.now) }
 {
-    let kind = byte(f, 0);
-    (kind == 0x21) | (kind == 0x24)
+    matches!(byte(f, 0), 0x21 | 0x24)
 }
 
 // Whether the frame's kind has a write part.
 pub fn has_write(f: &[u8]) -> bool
     ensures { result ≡ has_write (kind_of f.now) }
 {
-    let kind = byte(f, 0);
-    (kind == 0x20) | (kind == 0x24)
+    matches!(byte(f, 0), 0x20 | 0x24)
 }
 
 // Whether the frame is a hand-over.
@@ -87,6 +81,7 @@ pub fn receiver(f: &[u8]) -> u64
 }
 
 // The items that the frame shows; none without a read part.
+#[tactic(auto, unfolding(log_format::specs::Log::shown))]
 pub fn shown(f: &[u8]) -> u64
     ensures { result ≡ shown_items f.now }
 {
@@ -110,6 +105,7 @@ fn place(items: u64, item: u64) -> usize
 }
 
 // The stamp with which the frame, which shows `items`, shows `item`.
+#[tactic(auto, unfolding(log_format::specs::Log::shown_stamp))]
 pub fn shown_stamp(f: &[u8], items: u64, item: u64) -> u64
     requires { items ≡ shown_items f.now }
     ensures { result ≡ shown_stamp f.now item }
@@ -119,6 +115,7 @@ pub fn shown_stamp(f: &[u8], items: u64, item: u64) -> u64
 }
 
 // The value with which the frame, which shows `items`, shows `item`.
+#[tactic(auto, unfolding(log_format::specs::Log::shown_value))]
 pub fn shown_value(f: &[u8], items: u64, item: u64) -> u64
     requires { items ≡ shown_items f.now }
     ensures { result ≡ shown_value f.now item }
@@ -127,6 +124,7 @@ pub fn shown_value(f: &[u8], items: u64, item: u64) -> u64
 }
 
 // Where the write part begins: behind the read part, or behind the client.
+#[tactic(auto, unfolding(log_format::specs::Log::write_at))]
 pub fn write_at(f: &[u8]) -> usize
     ensures value { result ≡ write_at f.now }
     ensures upper_bound { result ≤ 586 }
@@ -139,6 +137,7 @@ pub fn write_at(f: &[u8]) -> usize
 }
 
 // The items that the frame wrote; none without a write part.
+#[tactic(auto, unfolding(log_format::specs::Log::written))]
 pub fn written(f: &[u8]) -> u64
     ensures { result ≡ written_items f.now }
 {
@@ -158,6 +157,7 @@ fn written_count(f: &[u8]) -> usize
 }
 
 // The number of the frame's write; 0 without a write part.
+#[tactic(auto, unfolding(log_format::specs::Log::number_of))]
 pub fn write_number(f: &[u8]) -> u64
     ensures value { result ≡ number_of f.now }
     ensures upper_bound { result < 4294967296 }
@@ -170,6 +170,7 @@ pub fn write_number(f: &[u8]) -> u64
 }
 
 // The stamp of the frame's write, as one number.
+#[tactic(auto, unfolding(log_format::specs::Log::written_stamp))]
 pub fn written_stamp(f: &[u8]) -> u64
     ensures { result ≡ written_stamp f.now }
 {
@@ -177,6 +178,7 @@ pub fn written_stamp(f: &[u8]) -> u64
 }
 
 // What the frame, which wrote `items`, gave `item`.
+#[tactic(auto, unfolding(log_format::specs::Log::written_value))]
 pub fn written_value(f: &[u8], items: u64, item: u64) -> u64
     requires { items ≡ written_items f.now }
     ensures { result ≡ written_value f.now item }
@@ -185,6 +187,7 @@ pub fn written_value(f: &[u8], items: u64, item: u64) -> u64
 }
 
 // Where the frame ends: behind its last part.
+#[tactic(auto, unfolding(log_format::specs::Log::end_of))]
 pub fn frame_end(f: &[u8]) -> usize
     ensures { result ≡ end_of f.now }
 {

@@ -1,3 +1,4 @@
--- The laws of scanning a log.
-mod Rising
+-- Laws of the definitions.
+pub mod Rising
 pub mod Scanning
+pub mod Taking

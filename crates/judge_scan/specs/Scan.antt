@@ -1,14 +1,12 @@
 -- What scanning a log line by line keeps: the lines taken lie in the bytes, cut at the starts.
 use Rattle.std.specs.Prelude.{true, false, List, [], ◌∷◌, ◌++◌, ◌≡◌, ℕ, suc, ◌+◌, ◌-◌, ◌*◌, ◌≤◌, ◌<◌, eqb, length, get_or, take, drop}
+use Rattle.std.specs.Prelude.{Option, Some, None, Result, Ok, Err}
 use Rattle.basics.specs.Lists.{counted}
 use Rattle.hexadecimal.specs.Line.{line_length, line_end}
 use Rattle.judge_frames.specs.Cut.{frames_in}
 use Rattle.log_format.specs.Log.{first_line, frames_of, malformed_at, frame_of, malformed}
 use Rattle.log_format.specs.Some.{first_from}
-use Rattle.judge_scan.specs.declared.Scanned.{Scanned}
-use Rattle.judge_scan.specs.declared.Scanned.TheVariants.{Lines, Bad}
-use Rattle.judge_scan.specs.declared.Taken.{Taken}
-use Rattle.judge_scan.specs.declared.Taken.TheVariants.{Next, Malformed}
+use Rattle.judge_scan.specs.declared.BadLine.{BadLine}
 
 -- the line of the log that begins at `at`, with its 0a
 abbrev pub line_at : List ℕ → ℕ → List ℕ
@@ -47,10 +45,10 @@ pub record Step (log : List ℕ) (at i : ℕ) (bytes starts bytes' starts' : Lis
   pub ascending : Ascending starts' (i + 1)
 
 -- what taking line i tells
-abbrev pub TakenOf : List ℕ → ℕ → ℕ → List ℕ → List ℕ → List ℕ → List ℕ → Taken → Type 0
-TakenOf log at i bytes starts bytes' starts' (Next next) =
+abbrev pub TakenOf : List ℕ → ℕ → ℕ → List ℕ → List ℕ → List ℕ → List ℕ → Option ℕ → Type 0
+TakenOf log at i bytes starts bytes' starts' (Some next) =
     Step log at i bytes starts bytes' starts' next
-TakenOf log at i bytes starts bytes' starts' Malformed =
+TakenOf log at i bytes starts bytes' starts' None =
     malformed (frames_in bytes starts i) (frame_of (line_at log at)) ≡ true
 
 -- the first i lines were taken, and the next begins at `at`
@@ -70,9 +68,10 @@ pub record Scanning (log : List ℕ) (at : ℕ) (bytes starts : List ℕ) (i : �
 
 -- what scanning answers: how many lines there are, all of them well-formed; or the first malformed
 -- line, counted from 0
-abbrev pub ScannedOf : List ℕ → List ℕ → List ℕ → Scanned → Type 0
-ScannedOf log bytes starts (Lines n) =
+abbrev pub ScannedOf : List ℕ → List ℕ → List ℕ → Result ℕ BadLine → Type 0
+ScannedOf log bytes starts (Ok n) =
     (frames_in bytes starts n ≡ frames_of log) × (first_line malformed_at (frames_of log) ≡ n)
     × (n ≡ length (frames_of log)) × (n ≤ 256)
-ScannedOf log bytes starts (Bad i) =
-    (first_line malformed_at (frames_of log) ≡ i) × (i < length (frames_of log)) × (i ≤ 256)
+ScannedOf log bytes starts (Err bad) =
+    (first_line malformed_at (frames_of log) ≡ bad.line) × (bad.line < length (frames_of log))
+    × (bad.line ≤ 256)

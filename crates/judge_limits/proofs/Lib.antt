@@ -1,0 +1,2 @@
+-- The laws that the proofs of `judge_limits` cite.
+pub mod Counts
