@@ -11,7 +11,7 @@ use Rattle.layout.specs.Layout.{header, at, partitions_at, items_at, versions_at
 use Rattle.layout.specs.Decode.{message_in, tables_of}
 use Rattle.layout.proofs.Past.{SamePast, past-none}
 use Rattle.start.proofs.Beyond.{beyond-read, beyond-fast-read, beyond-write, beyond-mixed}
-use Rattle.deliver_tests.specs.Tests.{tested_in}
+use Rattle.deliver_tests.specs.Tests.{unstored, answer_in, tested_in}
 use Rattle.deliver.specs.Deliver.{counts_in, delivered_block}
 use Rattle.deliver.proofs.Past.{past-deliver}
 use Rattle.clear.proofs.Cleared.{past-clear}
@@ -42,7 +42,8 @@ past-changed b (deliver i) e =
     let m = message_in b i in
     let r = deliver-ready b i e n (at b header partitions_at) (at b header items_at)
     (at b header versions_at) m refl refl refl refl refl in
-    past-deliver b n i (counts_in b) (tested_in b (at b header versions_at) m).found m r.0.0
+    past-deliver b n i (counts_in b)
+    (answer_in (unstored b m) (tested_in b (at b header versions_at) m)) m r.0.0
     r.0.1 r.1.2 r.1.4
 past-changed b (show d output) e = past-none b
 past-changed b clear e =

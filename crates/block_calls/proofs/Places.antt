@@ -8,11 +8,14 @@ use native.Mathlib.Omega.{arith}
 use lib.Dec.{leb}
 use lib.ListN.{length}
 use borrow.Author.Tests.{leb-true, leb-false, le-leb, lt-leb}
+use Rattle.std.specs.Prelude.{Option, Ok, unwrap_or}
 use Rattle.basics.proofs.Cases.{by-test}
 use Rattle.basics.proofs.Lists.{in-get_or}
+use Rattle.protocol.specs.declared.Version.{Version}
 use Rattle.protocol.specs.declared.Message.{Message}
 use Rattle.protocol.specs.declared.Message.TheVariants.{Commit}
 use Rattle.protocol.specs.declared.Answer.TheVariants.{Delivered}
+use Rattle.protocol.specs.Refusal.{refused_by}
 use Rattle.protocol.specs.Tables.{Tables}
 use Rattle.protocol.specs.Steps.{message_at}
 use Rattle.protocol.specs.Message.{kind_of}
@@ -30,8 +33,7 @@ use Rattle.layout.specs.Encodes.{Encodes}
 use Rattle.layout.proofs.Held.{kind-read as kind-of-read}
 use Rattle.slots.proofs.ReadBack.{read-message}
 use Rattle.encoding.proofs.WellFormed.{WellFormed, tells-valid-block}
-use Rattle.deliver_tests.specs.declared.Tested.{Tested}
-use Rattle.deliver_tests.specs.Tests.{Bounded, tested_in, outcome_in}
+use Rattle.deliver_tests.specs.Tests.{Tested, Bounded, none, tested_in, outcome_in}
 use Rattle.deliver.specs.Deliver.{message_delivered, delivered_block}
 use Rattle.deliver_tests.proofs.Bounds.{bounded}
 use Rattle.deliver.proofs.Delivered.{encodes-deliver, delivered-block}
@@ -89,7 +91,7 @@ module _ (b : List ℕ) (i : ℕ) (v : valid_block b ≡ true) where
         (bounded t.sizes (message_at t i) facts.in_range.sizes.clients
         facts.in_range.sizes.items in-range)
 
-    told-tables : Tells (tested_in b (at b header versions_at) (message_in b i)) t (message_at t i)
+    told-tables : Tells b (tested_in b (at b header versions_at) (message_in b i)) t (message_at t i)
     told-tables = rw message-read (tested-tables (message_at t i) held facts.in_range in-range)
 
     refusal-place : refusal capacities t (deliver i) ≡ first
@@ -98,15 +100,15 @@ module _ (b : List ℕ) (i : ℕ) (v : valid_block b ≡ true) where
     refusal-place = rw (valid-tables b v, lt-leb (length t.messages) i place) refl
 
     -- 11 and 12
-    pub refusal-told : refusal_on b (deliver i) ≡ (tested_in b (at b header versions_at)
-        (message_in b i)).refusal
+    pub refusal-told : refusal_on b (deliver i) ≡ refused_by (tested_in b (at b header versions_at)
+        (message_in b i))
     refusal-told = refusal-valid b (deliver i) v
         ∙ (refusal-place ∙ sym told-tables.refusal)
 
     pub told-refusal : (x : Tested) (m : Message) (n : ℕ) → m ≡ message_in b i
         → n ≡ at b header versions_at → x ≡ tested_in b n m
-        → x.refusal ≡ refusal_on b (deliver i)
-    told-refusal x m n h k e = ap (λ (y : Tested). y.refusal) e
+        → refused_by x ≡ refusal_on b (deliver i)
+    told-refusal x m n h k e = ap (λ (y : Tested). refused_by y) e
         ∙ (rw (h, k) refl ∙ sym refusal-told)
 
     pub kind-read : kind_in b i ≡ kind_of (message_at t i)
@@ -160,20 +162,20 @@ module _ (b : List ℕ) (i : ℕ) (e : refusal_on b (deliver i) ≡ 0) where
         ),
       )
 
-  pub deliver-given : (n p k w : ℕ) (x : Tested) (m : Message) → n ≡ at b header messages_at
+  pub deliver-given : (n p k w : ℕ) (x : Option Version) (m : Message) → n ≡ at b header messages_at
       → p ≡ at b header partitions_at → k ≡ at b header items_at
-      → w ≡ at b header versions_at → m ≡ message_in b i → x ≡ tested_in b (at b header versions_at) m
+      → w ≡ at b header versions_at → m ≡ message_in b i → Ok x ≡ tested_in b (at b header versions_at) m
       → (after : List ℕ) (count kind outcome : ℕ)
       → after ≡ message_delivered (take_out b n i)
-      (record { partitions = p; items = k; versions = w }) x.found m
+      (record { partitions = p; items = k; versions = w }) (unwrap_or x none) m
       → count ≡ at after header messages_at → kind ≡ kind_in b i → outcome ≡ outcome_in after m
       → (Delivered kind count outcome ≡ answer_on b (deliver i))
       × (after ≡ block_after b (deliver i))
   unfolding changed reply effect
   deliver-given n p k w x m en ep ek ew em ex after count kind outcome a c h o =
       let whole : after ≡ delivered_block b i =
-      a ∙ delivered-block b n i (record { partitions = p; items = k; versions = w }) x.found m en
-      (rw (ep, ek, ew) refl) em (ap (λ (y : Tested). y.found) ex) in (
+      a ∙ delivered-block b n i (record { partitions = p; items = k; versions = w }) x m en
+      (rw (ep, ek, ew) refl) em ex in (
         rw (
           h ∙ kind-read b i v accepted-place,
           count-given b

@@ -3,14 +3,15 @@
 
 #![tactic(auto)]
 
-ghost use Rattle.std.specs.Prelude.{◌≡◌, ◌≤◌, ◌<◌};
+ghost use Rattle.std.specs.Prelude.{◌≡◌, ◌+◌, ◌≤◌, ◌<◌, get_or, set};
 ghost use Rattle.layout.specs.Layout.{at, store, scalars, asked, values, last_stamps, last_values};
 ghost use Rattle.layout.specs.Layout.{client_words, scalar_at, mode_at, count_at, set_at, awaited_at};
 ghost use Rattle.layout.specs.Layout.{stamp_at, last_kind_at, last_set_at, last_stamp_at, write_set_at};
-ghost use Rattle.layout.specs.Layout.{write_awaited_at, last_write_set_at, item_at};
+ghost use Rattle.layout.specs.Layout.{write_awaited_at, last_write_set_at, item_at, needed};
 
 use layout::{
-    ASKED, CLIENT_WORDS, LAST_STAMPS, LAST_VALUES, MOST_ITEMS, SCALARS, VALUES, put_word, word,
+    ASKED, CLIENT_WORDS, LAST_STAMPS, LAST_VALUES, MOST_ITEMS, SCALARS, VALUES, put_word_in,
+    word_in,
 };
 
 // Word `f` of the scalars of client `d`.
@@ -18,15 +19,33 @@ fn scalar(b: &[u64], d: u64, f: u64) -> u64
     requires { (1 ≤ d) × (d ≤ 8) × (f < client_words) }
     ensures { result ≡ at b.now scalars (scalar_at d f) }
 {
-    word(b, (SCALARS + (CLIENT_WORDS * (d - 1) + f)) as usize)
+    word_in(b, SCALARS, CLIENT_WORDS * (d - 1) + f)
 }
 
 fn put_scalar(b: &mut [u64], d: u64, f: u64, v: u64)
     requires { (1 ≤ d) × (d ≤ 8) × (f < client_words) }
     ensures { b.new ≡ store b.old scalars (scalar_at d f) v }
 {
-    put_word(b, (SCALARS + (CLIENT_WORDS * (d - 1) + f)) as usize, v);
+    put_word_in(b, SCALARS, CLIENT_WORDS * (d - 1) + f, v);
 }
+
+// The word of item `k` of client `d`, in the section that starts at `base`.
+fn item_word(b: &[u64], base: u64, d: u64, k: u64) -> u64
+    requires { (base < needed) × (1 ≤ d) × (d ≤ 8) × (k < 64) }
+    ensures { result ≡ get_or b.now (base + item_at d k) 0 }
+{
+    word_in(b, base, MOST_ITEMS * (d - 1) + k)
+}
+
+fn put_item_word(b: &mut [u64], base: u64, d: u64, k: u64, v: u64)
+    requires { (base < needed) × (1 ≤ d) × (d ≤ 8) × (k < 64) }
+    ensures { b.new ≡ set b.old (base + item_at d k) v }
+{
+    put_word_in(b, base, MOST_ITEMS * (d - 1) + k, v);
+}
+
+// Each field keeps its two functions: callers and docs/PROMISES.md name a getter and a setter a
+// field, and a number for a field, or a const parameter, would tell a reader less than its name.
 
 // 0 idle, 1 reading, 2 writing, 3 or 4 in the first or the second part of a fast read, 5 in a mixed
 // transaction.
@@ -199,14 +218,14 @@ pub fn asked(b: &[u64], d: u64, k: u64) -> u64
     requires { (1 ≤ d) × (d ≤ 8) × (k < 64) }
     ensures { result ≡ at b.now asked (item_at d k) }
 {
-    word(b, (ASKED + (MOST_ITEMS * (d - 1) + k)) as usize)
+    item_word(b, ASKED, d, k)
 }
 
 pub fn put_asked(b: &mut [u64], d: u64, k: u64, v: u64)
     requires { (1 ≤ d) × (d ≤ 8) × (k < 64) }
     ensures { b.new ≡ store b.old asked (item_at d k) v }
 {
-    put_word(b, (ASKED + (MOST_ITEMS * (d - 1) + k)) as usize, v);
+    put_item_word(b, ASKED, d, k, v);
 }
 
 // The value of item `k`: a read's answer so far, or a write's; of a mixed transaction both, in the
@@ -215,14 +234,14 @@ pub fn value(b: &[u64], d: u64, k: u64) -> u64
     requires { (1 ≤ d) × (d ≤ 8) × (k < 64) }
     ensures { result ≡ at b.now values (item_at d k) }
 {
-    word(b, (VALUES + (MOST_ITEMS * (d - 1) + k)) as usize)
+    item_word(b, VALUES, d, k)
 }
 
 pub fn put_value(b: &mut [u64], d: u64, k: u64, v: u64)
     requires { (1 ≤ d) × (d ≤ 8) × (k < 64) }
     ensures { b.new ≡ store b.old values (item_at d k) v }
 {
-    put_word(b, (VALUES + (MOST_ITEMS * (d - 1) + k)) as usize, v);
+    put_item_word(b, VALUES, d, k, v);
 }
 
 // The stamp of item `k` in the last ended transaction, which read.
@@ -230,14 +249,14 @@ pub fn last_read_stamp(b: &[u64], d: u64, k: u64) -> u64
     requires { (1 ≤ d) × (d ≤ 8) × (k < 64) }
     ensures { result ≡ at b.now last_stamps (item_at d k) }
 {
-    word(b, (LAST_STAMPS + (MOST_ITEMS * (d - 1) + k)) as usize)
+    item_word(b, LAST_STAMPS, d, k)
 }
 
 pub fn put_last_read_stamp(b: &mut [u64], d: u64, k: u64, v: u64)
     requires { (1 ≤ d) × (d ≤ 8) × (k < 64) }
     ensures { b.new ≡ store b.old last_stamps (item_at d k) v }
 {
-    put_word(b, (LAST_STAMPS + (MOST_ITEMS * (d - 1) + k)) as usize, v);
+    put_item_word(b, LAST_STAMPS, d, k, v);
 }
 
 // The value of item `k` in the last ended transaction, of a mixed one both.
@@ -245,12 +264,12 @@ pub fn last_value(b: &[u64], d: u64, k: u64) -> u64
     requires { (1 ≤ d) × (d ≤ 8) × (k < 64) }
     ensures { result ≡ at b.now last_values (item_at d k) }
 {
-    word(b, (LAST_VALUES + (MOST_ITEMS * (d - 1) + k)) as usize)
+    item_word(b, LAST_VALUES, d, k)
 }
 
 pub fn put_last_value(b: &mut [u64], d: u64, k: u64, v: u64)
     requires { (1 ≤ d) × (d ≤ 8) × (k < 64) }
     ensures { b.new ≡ store b.old last_values (item_at d k) v }
 {
-    put_word(b, (LAST_VALUES + (MOST_ITEMS * (d - 1) + k)) as usize, v);
+    put_item_word(b, LAST_VALUES, d, k, v);
 }

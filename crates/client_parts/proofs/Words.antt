@@ -1,5 +1,5 @@
 -- A field of a part by the mode or the kind: the part is chosen as a whole, its fields one by one.
-use mathlib.Core.Bool.{Bool, true, false, cond, not, beq, ◌&&◌, ◌||◌}
+use mathlib.Core.Bool.{Bool, true, false, cond, not, ◌&&◌, ◌||◌}
 use mathlib.Core.List.{List}
 use mathlib.Core.Logic.{◌≢◌}
 use mathlib.Core.Path.{◌≡◌, refl, sym, ◌∙◌}
@@ -15,20 +15,6 @@ use Rattle.layout.specs.Layout.{at, scalars, asked, values, mode_at, stamp_at, l
 use Rattle.layout.specs.Layout.{item_at, in_first_part, in_second_part, is_write_mode, is_mixed_mode}
 use Rattle.layout.specs.Layout.{is_mixed_kind, read_value, written_value}
 use Rattle.layout.specs.Decode.{read_in, write_in, last_write_in, client_in}
-
--- ---- a word of a write part, by the two tests
-
-pub of-mixed : (alone mixed : Bool) (x y : ℕ) → mixed ≡ true
-    → y ≡ cond (alone || mixed) (cond mixed y x) 0
-of-mixed alone mixed x y m = by-test alone (λ a. rw (m, a) refl) (λ a. rw (m, a) refl)
-
-pub of-alone : (alone mixed : Bool) (x y : ℕ) → mixed ≡ false → alone ≡ true
-    → x ≡ cond (alone || mixed) (cond mixed y x) 0
-of-alone alone mixed x y m a = rw (m, a) refl
-
-pub of-neither : (alone mixed : Bool) (x y : ℕ) → mixed ≡ false → alone ≡ false
-    → 0 ≡ cond (alone || mixed) (cond mixed y x) 0
-of-neither alone mixed x y m a = rw (m, a) refl
 
 -- both words may be one
 same-either : (t : Bool) (x : ℕ) → cond t x x ≡ x
@@ -149,11 +135,7 @@ module _ (b : List ℕ) (d : ℕ) where
   pub come : (k : ℕ) {s a stage : ℕ} {own left : Bool}
       → s ≡ (client_in b d).read.set → a ≡ (client_in b d).read.awaited
       → stage ≡ (client_in b d).read.stage → own ≡ has s k → left ≡ has a k
-      → (own && (eqb stage 2 || (eqb stage 1 && beq left false)))
+      → (own && (eqb stage 2 || (eqb stage 1 && not left)))
       ≡ has_first (client_in b d).read k
   unfolding has_first
-  come k s a e o l = rw (o, l, s, a, e, beq-not (has (client_in b d).read.awaited k)) refl
-    where
-      beq-not : (x : Bool) → beq x false ≡ not x
-      beq-not true = refl
-      beq-not false = refl
+  come k s a e o l = rw (o, l, s, a, e) refl

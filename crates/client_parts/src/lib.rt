@@ -15,6 +15,7 @@ use layout::{FIRST_PART, MIXING, SECOND_PART, WRITING};
 use protocol::kind::{MIXED, WRITE};
 
 // The stages of a fast read. Any other read part is in stage 0.
+// Stay numbers: `stage` promises the number that a part of the tables has.
 pub const FIRST_STAGE: u64 = 1;
 
 pub const SECOND_STAGE: u64 = 2;
@@ -23,10 +24,11 @@ pub const SECOND_STAGE: u64 = 2;
 fn written(alone: bool, mixed: bool, word: u64, other: u64) -> u64
     ensures { result ≡ cond (alone || mixed) (cond mixed other word) 0 }
 {
-    if mixed {
-        return other;
+    match (alone, mixed) {
+        (_, true) => other,
+        (true, false) => word,
+        (false, false) => 0,
     }
-    if alone { word } else { 0 }
 }
 
 // The items that the transaction under way writes.
@@ -122,14 +124,11 @@ pub fn stage(b: &[u64], d: u64) -> u64
     requires { (1 ≤ d) × (d ≤ most_clients) }
     ensures { result ≡ (client_in b.now d).read.stage }
 {
-    let mode = mode(b, d);
-    if mode == FIRST_PART {
-        return FIRST_STAGE;
+    match mode(b, d) {
+        FIRST_PART => FIRST_STAGE,
+        SECOND_PART => SECOND_STAGE,
+        _ => 0,
     }
-    if mode == SECOND_PART {
-        return SECOND_STAGE;
-    }
-    0
 }
 
 // The stamp that it asks for at item `k`.
@@ -167,5 +166,5 @@ pub fn has_first(b: &[u64], d: u64, k: u64) -> bool
     let set = read_set(b, d);
     let awaited = read_awaited(b, d);
     let stage = stage(b, d);
-    has(set, k) & ((stage == SECOND_STAGE) | ((stage == FIRST_STAGE) & (has(awaited, k) == false)))
+    has(set, k) & ((stage == SECOND_STAGE) | ((stage == FIRST_STAGE) & !has(awaited, k)))
 }

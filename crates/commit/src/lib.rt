@@ -44,9 +44,7 @@ pub fn commit(b: &mut [u64], partitions: u64, versions: u64, p: u64, stamp: u64)
     ensures { b.new ≡ commit_delivered b.old partitions
         versions p stamp }
 {
-    let mut i = 0;
-    while i < versions {
+    for i in 0..versions {
         commit_version(b, partitions, p, stamp, i);
-        i += 1;
     }
 }

@@ -31,7 +31,7 @@ use Rattle.slots.proofs.Chosen.{unless}
 use Rattle.layout.proofs.Room.{NarrowClient, HasRoom}
 use Rattle.layout.proofs.Parts.{awaits-busy, mode-both}
 use Rattle.layout.proofs.RowEntries.{entries_of, put_entry, entries-put}
-use Rattle.layout.proofs.ClientWords.{Words, words_of, put_word, with_row, row_same}
+use Rattle.layout.proofs.ClientWords.{Words, put_word, with_row, row_same}
 use Rattle.layout.proofs.ClientHolds.{WordsHold, WordsRest, words-hold}
 use Rattle.layout.proofs.Changed.{Changed, changed-put, changed-first, encodes-changed}
 use Rattle.second_part.specs.SecondPart.{second_begun}

@@ -15,7 +15,7 @@ use Rattle.protocol.specs.Tables.{Tables, Client, of_read, rested, with_client, 
 use Rattle.protocol.specs.Range.{is_idle, is_writing}
 use Rattle.protocol.specs.Steps.{answered, is_last, ended, got, seen}
 use Rattle.protocol.proofs.Ranges.Clients.{ClientInRange}
-use Rattle.layout.specs.Layout.{scalars, values, at, store, mode_at, awaited_at, is_mixed_mode}
+use Rattle.layout.specs.Layout.{scalars, at, store, mode_at, awaited_at, is_mixed_mode}
 use Rattle.layout.specs.Encodes.{writes_alone, Encodes, HoldsClient}
 use Rattle.slots.proofs.Chosen.{unless}
 use Rattle.layout.proofs.Room.{NarrowClient, HasRoom}

@@ -1,6 +1,6 @@
 -- Replies to a mixed transaction on the block are those in the tables: the client goes on, or with
 -- the last reply of either kind it rests, the view takes what it wrote, and commits join.
-use mathlib.Core.Bool.{Bool, true, false, cond, ◌&&◌, ◌||◌}
+use mathlib.Core.Bool.{Bool, true, false, ◌&&◌, ◌||◌}
 use mathlib.Core.List.{List, [], map, ◌++◌, append-nil}
 use mathlib.Core.Logic.{◌≢◌}
 use mathlib.Core.Path.{◌≡◌, refl, sym, ap, ◌∙◌, subst, fun_ext}
@@ -17,13 +17,13 @@ use Rattle.protocol.specs.declared.Message.{Message}
 use Rattle.protocol.specs.declared.Message.TheVariants.{Prepared, Commit, Got}
 use Rattle.protocol.specs.Tables.{Sizes, Tables, Client, of_read, of_write, writer_of, rested, put}
 use Rattle.protocol.specs.Tables.{partition_of, with_client, with_view, with_messages}
-use Rattle.protocol.specs.Range.{is_idle, is_writing}
+use Rattle.protocol.specs.Range.{is_writing}
 use Rattle.protocol.specs.Steps.{struck, answered, is_last, ended, seen, delivered, touches, commits}
 use Rattle.protocol.specs.Steps.{joined}
 use Rattle.protocol.proofs.Put.{put_same}
 use Rattle.protocol.proofs.Ranges.Clients.{ClientInRange}
-use Rattle.layout.specs.Layout.{most_messages, scalars, asked, values, at, store, mode_at, set_at}
-use Rattle.layout.specs.Layout.{awaited_at, stamp_at, write_set_at, write_awaited_at, is_mixed_mode}
+use Rattle.layout.specs.Layout.{most_messages, scalars, asked, values, at, store, mode_at}
+use Rattle.layout.specs.Layout.{awaited_at, write_set_at, write_awaited_at, is_mixed_mode}
 use Rattle.layout.specs.Layout.{low_half, high_half}
 use Rattle.layout.specs.Encodes.{writes_alone, is_mixed, Encodes, HoldsClient}
 use Rattle.slots.proofs.Chosen.{when}

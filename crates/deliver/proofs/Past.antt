@@ -16,7 +16,7 @@ use Rattle.protocol.specs.declared.Message.TheVariants.{FirstGet, FirstReply}
 use Rattle.protocol.specs.Tables.{entry_of, writer_of}
 use Rattle.protocol.proofs.Put.{by_cond}
 use Rattle.layout.specs.Layout.{most_messages, message_words, scalars, latest, views, values}
-use Rattle.layout.specs.Layout.{versions, messages, base, at, messages_at, awaited_at, latest_at}
+use Rattle.layout.specs.Layout.{messages, base, at, messages_at, awaited_at, latest_at}
 use Rattle.layout.specs.Layout.{mode_at, write_awaited_at, view_at, item_at, message_at, is_mixed_mode}
 use Rattle.layout.specs.Decode.{version_in}
 use Rattle.layout.specs.Store.{take_out}

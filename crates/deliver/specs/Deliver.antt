@@ -16,7 +16,7 @@ use Rattle.layout.specs.Store.{store_view, store_first, take_out}
 use Rattle.slots.specs.Room.{keep, send}
 use Rattle.commit.specs.Commit.{commit_delivered}
 use Rattle.deliver.specs.declared.Counts.{Counts}
-use Rattle.deliver_tests.specs.Tests.{tested_in}
+use Rattle.deliver_tests.specs.Tests.{unstored, answer_in, tested_in}
 use Rattle.ends.specs.Ends.{read_ended, write_ended, mixed_ended}
 use Rattle.second_part.specs.SecondPart.{second_begun}
 
@@ -127,5 +127,5 @@ counts_in b =
 unfoldable pub delivered_block : List ℕ → ℕ → List ℕ
 delivered_block b i =
     message_delivered (take_out b (at b header messages_at) i) (counts_in b)
-    (tested_in b (at b header versions_at) (message_in b i)).found
+    (answer_in (unstored b (message_in b i)) (tested_in b (at b header versions_at) (message_in b i)))
     (message_in b i)

@@ -2,10 +2,10 @@
 
 #![tactic(auto)]
 
-ghost use Rattle.std.specs.Prelude.{◌≡◌, ◌≤◌, ◌<◌, length};
+ghost use Rattle.std.specs.Prelude.{◌≡◌, ◌≤◌, ◌<◌, length, unwrap_or};
 ghost use Rattle.layout.specs.Layout.{most_versions, most_messages, needed};
 ghost use Rattle.layout.specs.Store.{take_out};
-ghost use Rattle.deliver_tests.specs.Tests.{Bounded};
+ghost use Rattle.deliver_tests.specs.Tests.{Bounded, none};
 ghost use Rattle.deliver.specs.Deliver.{message_delivered};
 
 use commit::commit;
@@ -23,11 +23,13 @@ pub struct Counts {
     pub versions: u64,
 }
 
-// The work of message `m`, taken out before; a get is answered with `found`.
-fn work(b: &mut [u64], counts: Counts, found: Version, m: Message)
+// The work of message `m`, taken out before; a get is answered with `found`, or the initial
+// version.
+#[tactic(auto, unfolding(crate::specs::Deliver::message_delivered))]
+fn work(b: &mut [u64], counts: Counts, found: Option<Version>, m: Message)
     requires { (1 ≤ counts.partitions) × (counts.partitions ≤ 8) × (counts.items ≤ 64)
         × (counts.versions ≤ most_versions) × Bounded m × (needed ≤ length b.old) }
-    ensures { b.new ≡ message_delivered b.old counts found m }
+    ensures { b.new ≡ message_delivered b.old counts (unwrap_or found none) m }
 {
     match m {
         Message::Prepare(v) => requests::prepare(b, v),
@@ -64,13 +66,21 @@ fn work(b: &mut [u64], counts: Counts, found: Version, m: Message)
     }
 }
 
-// Of `n` messages the one at place `i`, which is `m`, is delivered; a get is answered with `found`.
-pub fn deliver_message(b: &mut [u64], n: u64, i: u64, counts: Counts, found: Version, m: Message)
+// Of `n` messages the one at place `i`, which is `m`, is delivered; a get is answered with `found`,
+// or the initial version.
+pub fn deliver_message(
+    b: &mut [u64],
+    n: u64,
+    i: u64,
+    counts: Counts,
+    found: Option<Version>,
+    m: Message,
+)
     requires i_lt_n { (i < n) × (n ≤ most_messages) × (needed ≤ length b.old) }
     requires le_partitions { (1 ≤ counts.partitions) × (counts.partitions ≤ 8) × (counts.items ≤ 64)
         × (counts.versions ≤ most_versions) × Bounded m }
     ensures { b.new ≡ message_delivered (take_out b.old n i)
-        counts found m }
+        counts (unwrap_or found none) m }
 {
     take_out(b, n, i);
     work(b, counts, found, m);

@@ -13,7 +13,7 @@ use Rattle.protocol.specs.declared.Message.{Message}
 use Rattle.protocol.specs.declared.Message.TheVariants.{Prepare, Prepared, Commit, Get, Got}
 use Rattle.protocol.specs.declared.Message.TheVariants.{FirstGet, FirstReply}
 use Rattle.protocol.specs.Tables.{Tables, Client, ReadPart, WritePart, Ended, of_read, of_write}
-use Rattle.protocol.specs.Tables.{writer_of, rested, put}
+use Rattle.protocol.specs.Tables.{writer_of, rested}
 use Rattle.protocol.specs.Tables.{with_messages, with_read}
 use Rattle.protocol.specs.Range.{is_idle, is_writing}
 use Rattle.protocol.specs.FastRead.{first_replied}
@@ -23,7 +23,7 @@ use Rattle.protocol.proofs.Put.{put_same}
 use Rattle.protocol.proofs.Ranges.Values.{MessageInRange}
 use Rattle.protocol.proofs.Ranges.Tables.{InRange}
 use Rattle.protocol.proofs.Refusals.{Expected, tells-got}
-use Rattle.layout.specs.Layout.{scalars, at, mode_at, is_mixed_kind, read_mode}
+use Rattle.layout.specs.Layout.{is_mixed_kind}
 use Rattle.layout.specs.Encodes.{Encodes, number_of_mode}
 use Rattle.deliver_tests.specs.Tests.{over, got_outcome, outcome_in}
 

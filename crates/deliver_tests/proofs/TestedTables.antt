@@ -8,6 +8,7 @@ use native.Mathlib.Omega.{arith}
 use lib.Dec.{eqb}
 use borrow.Author.Tests.{eqb-true}
 use Rattle.basics.proofs.Cases.{by-test, not-both}
+use Rattle.std.specs.Prelude.{Some, None, Ok, Err}
 use Rattle.basics.specs.Lists.{table}
 use Rattle.itemset.specs.Set.{has}
 use Rattle.itemset.proofs.Laws.{has-empty}
@@ -19,11 +20,14 @@ use Rattle.protocol.specs.declared.Message.TheVariants.{FirstGet, FirstReply}
 use Rattle.protocol.specs.Tables.{Sizes, Tables, Client, is_first_part, writer_of}
 use Rattle.protocol.specs.Message.{is_any_get, item_of}
 use Rattle.protocol.specs.Range.{is_writing}
-use Rattle.protocol.specs.Steps.{stored, found}
+use Rattle.protocol.specs.declared.refusal.Refusal.TheVariants.{Missing}
+use Rattle.protocol.specs.Refusal.{refused_by}
+use Rattle.protocol.specs.Steps.{version, stored, found}
 use Rattle.protocol.specs.Calls.{test, first, unexpected, sought_by, missing}
 use Rattle.protocol.proofs.Ranges.Values.{MessageInRange}
 use Rattle.protocol.proofs.Ranges.Clients.{ClientInRange}
 use Rattle.protocol.proofs.Ranges.Tables.{InRange}
+use Rattle.protocol.proofs.Stored.{not_found}
 use Rattle.layout.specs.Layout.{header, scalars, asked, at, versions_at, mode_at, awaited_at}
 use Rattle.layout.specs.Layout.{stamp_at, item_at, is_write_mode, is_mixed_mode, read_mode}
 use Rattle.layout.specs.Decode.{latest_in, version_in}
@@ -32,8 +36,8 @@ use Rattle.layout.proofs.EncodesEntry.{latest-held}
 use Rattle.layout.proofs.Parts.{alone-or-mixed, no-stage, no-answer-awaited, no-reply-awaited}
 use Rattle.layout.proofs.Parts.{mode-writing, mode-mixed, mode-other, mode-writes}
 use Rattle.slots.proofs.ReadBack.{table-versions}
-use Rattle.deliver_tests.specs.declared.Tested.{Tested}
-use Rattle.deliver_tests.specs.Tests.{none, prepared_awaited, tested_in}
+use Rattle.deliver_tests.specs.Tests.{Tested, none, unstored, answer_in, told, prepared_awaited}
+use Rattle.deliver_tests.specs.Tests.{tested_in}
 
 -- the version that answers a get, of either kind; no other message has one
 unfoldable pub answer_of : Tables → Message → Version
@@ -42,15 +46,26 @@ answer_of t m = cond (is_any_get m) (found t.versions (item_of m) (sought_by t m
 -- ---- the tests
 
 -- 11 unless it is awaited
-unless-awaited : (a : Bool) → cond a 0 11 ≡ first (test 11 (not a) ∷ test 12 false ∷ [])
+unless-awaited : (a : Bool)
+    → refused_by (told a) ≡ first (test 11 (not a) ∷ test 12 false ∷ [])
 unfolding first
 unless-awaited true = refl
 unless-awaited false = refl
 
--- what is told of m, where the tables are t
-pub record Tells (x : Tested) (t : Tables) (m : Message) : Type 0 where
-  pub refusal : x.refusal ≡ first (test 11 (unexpected t m) ∷ test 12 (missing t m) ∷ [])
-  pub found : x.found ≡ answer_of t m
+-- and of a prepare if it is stored
+if-stored : (s : Bool) → refused_by (told (not s)) ≡ first (test 11 s ∷ test 12 false ∷ [])
+unfolding first
+if-stored true = refl
+if-stored false = refl
+
+no-answer : (v : Version) (a : Bool) → answer_in v (told a) ≡ v
+no-answer v true = refl
+no-answer v false = refl
+
+-- what is told of m, where the block is b and the tables are t
+pub record Tells (b : List ℕ) (x : Tested) (t : Tables) (m : Message) : Type 0 where
+  pub refusal : refused_by x ≡ first (test 11 (unexpected t m) ∷ test 12 (missing t m) ∷ [])
+  pub found : answer_in (unstored b m) x ≡ answer_of t m
 
 -- ---- replies
 
@@ -154,17 +169,35 @@ read_back : {b : List ℕ} {t : Tables} → Encodes b t
     → table (at b header versions_at) (version_in b) ≡ t.versions
 read_back {b} n = ap (λ (i : ℕ). table i (version_in b)) n.version_count ∙ table-versions n
 
-get-tested : (stamp : ℕ) (x : Bool)
-    → cond (eqb stamp 0 || x) 0 12 ≡ first (test 11 false ∷ test 12 (not (eqb stamp 0 || x)) ∷ [])
+-- a get of item k with this stamp, of the versions vs
+abbrev sought : List Version → ℕ → ℕ → Tested
+sought vs k stamp =
+    cond (stored vs k stamp) (Ok (Some (found vs k stamp)))
+    (cond (eqb stamp 0) (Ok None) (Err Missing))
+
+get-refusal : (vs : List Version) (k stamp : ℕ) → refused_by (sought vs k stamp) ≡ first
+    (test 11 false ∷ test 12 (not (eqb stamp 0 || stored vs k stamp)) ∷ [])
 unfolding first
-get-tested stamp x = by-test (eqb stamp 0 || x) (λ e. rw e refl) (λ e. rw e refl)
+get-refusal vs k stamp =
+    by-test (stored vs k stamp) (λ s. by-test (eqb stamp 0) (λ z. rw (s, z) refl)
+    (λ z. rw (s, z) refl))
+    (λ s. by-test (eqb stamp 0) (λ z. rw (s, z) refl) (λ z. rw (s, z) refl))
+
+get-answer : (vs : List Version) (k stamp : ℕ)
+    → answer_in (version k 0 stamp 0) (sought vs k stamp) ≡ found vs k stamp
+get-answer vs k stamp =
+    by-test (stored vs k stamp) (λ s. rw s refl)
+    (λ s. by-test (eqb stamp 0) (λ z. rw (s, z) (sym (not_found vs k stamp s)))
+    (λ z. rw (s, z) (sym (not_found vs k stamp s))))
 
 pub tested-tables : {b : List ℕ} {t : Tables} (m : Message) → Encodes b t → InRange t
-    → MessageInRange t.sizes m → Tells (tested_in b (at b header versions_at) m) t m
+    → MessageInRange t.sizes m → Tells b (tested_in b (at b header versions_at) m) t m
 unfolding tested_in unexpected missing answer_of first
 tested-tables {b} {t} (Prepare v) n z i = record {
-  refusal = ap (λ (vs : List Version). cond (stored vs v.item v.stamp) 11 0) (read_back n);
-  found = refl;
+  refusal =
+      ap (λ (vs : List Version). refused_by (told (not (stored vs v.item v.stamp)))) (read_back n)
+      ∙ if-stored (stored t.versions v.item v.stamp);
+  found = no-answer none (not (stored (table (at b header versions_at) (version_in b)) v.item v.stamp));
 }
 tested-tables {b} {t} (Prepared k stamp) n z i =
     let w = (i.written (omega arith)).writer in
@@ -174,14 +207,16 @@ tested-tables {b} {t} (Prepared k stamp) n z i =
       refusal = rw (prepared-awaited t.sizes d k stamp c (n.client d w.0 w.1)
           (z.client d w))
           (unless-awaited (has c.write.awaited k && eqb c.write.stamp stamp));
-      found = refl;
+      found = no-answer none _;
     }
 tested-tables {b} {t} (Commit p stamp) n z i = record { refusal = refl; found = refl }
 tested-tables {b} {t} (Get d k stamp) n z i = record {
   refusal =
-      ap (λ (vs : List Version). cond (eqb stamp 0 || stored vs k stamp) 0 12) (read_back n)
-      ∙ get-tested stamp (stored t.versions k stamp);
-  found = ap (λ (vs : List Version). found vs k stamp) (read_back n);
+      ap (λ (vs : List Version). refused_by (sought vs k stamp)) (read_back n)
+      ∙ get-refusal t.versions k stamp;
+  found =
+      ap (λ (vs : List Version). answer_in (version k 0 stamp 0) (sought vs k stamp)) (read_back n)
+      ∙ get-answer t.versions k stamp;
 }
 tested-tables {b} {t} (Got d v latest) n z i =
     let w = i.client (omega arith) in
@@ -192,16 +227,16 @@ tested-tables {b} {t} (Got d v latest) n z i =
           (z.client d w))
           (unless-awaited (not (is_first_part c.read) && has c.read.awaited k
           && eqb (c.read.asked k) v.stamp));
-      found = refl;
+      found = no-answer none _;
     }
 tested-tables {b} {t} (FirstGet d k) n z i =
     let stamp = (t.latest k).stamp in
-    let sought : (latest_in b k).stamp ≡ stamp =
+    let asks : (latest_in b k).stamp ≡ stamp =
     ap (λ (e : Entry). e.stamp) (latest-held n k i.item) in
     record {
       refusal =
-          rw (sought, read_back n) (get-tested stamp (stored t.versions k stamp));
-      found = rw (sought, read_back n) refl;
+          rw (asks, read_back n) (get-refusal t.versions k stamp);
+      found = rw (asks, read_back n) (get-answer t.versions k stamp);
     }
 tested-tables {b} {t} (FirstReply d v latest) n z i =
     let w = i.client (omega arith) in
@@ -210,5 +245,5 @@ tested-tables {b} {t} (FirstReply d v latest) n z i =
       refusal = rw (first-awaited t.sizes d v.item v.stamp c (n.client d w.0 w.1)
           (z.client d w))
           (unless-awaited (is_first_part c.read && has c.read.awaited v.item));
-      found = refl;
+      found = no-answer none _;
     }

@@ -1,6 +1,7 @@
--- What is told of a message from the words of the block: before it is delivered the refusal (0
--- where there is none) and the version that answers a get, and after it the outcome.
-use Rattle.std.specs.Prelude.{Bool, cond, ◌&&◌, ◌||◌, List, ℕ, ◌≤◌, ◌<◌, eqb}
+-- What is told of a message from the words of the block: before it is delivered the refusal, or
+-- the stored version that answers a get, and after it the outcome.
+use Rattle.std.specs.Prelude.{Option, Some, None, Result, Ok, Err, Bool, cond, not, ◌&&◌, ◌||◌}
+use Rattle.std.specs.Prelude.{List, ℕ, ◌≤◌, ◌<◌, eqb, unwrap_or}
 use Rattle.basics.specs.Lists.{table}
 use Rattle.itemset.specs.Set.{has}
 use Rattle.protocol.specs.declared.Version.{Version}
@@ -14,28 +15,51 @@ use Rattle.layout.specs.Layout.{scalars, asked, at, mode_at, awaited_at, stamp_a
 use Rattle.layout.specs.Layout.{write_awaited_at, item_at, idle, reading, writing, in_first_part}
 use Rattle.layout.specs.Layout.{in_second_part, mixing, is_mixed_mode, is_mixed_kind}
 use Rattle.layout.specs.Decode.{latest_in, version_in}
-use Rattle.deliver_tests.specs.declared.Tested.{Tested}
+use Rattle.protocol.specs.declared.refusal.Refusal.{Refusal}
+use Rattle.protocol.specs.declared.refusal.Refusal.TheVariants.{Unexpected, Missing}
 
-abbrev pub told : ℕ → Version → Tested
-told refusal v = record { refusal = refusal; found = v }
+-- the stored version that answers a get; of the initial one, and of any other message, none
+abbrev pub Tested : Type 0
+Tested = Result (Option Version) Refusal
 
 -- of a message that is no get
 abbrev pub none : Version
 none = version 0 0 0 0
 
+-- the version that answers a message where no stored one is told: of a get the initial one
+abbrev pub unstored : List ℕ → Message → Version
+unstored b (Prepare v) = none
+unstored b (Prepared k stamp) = none
+unstored b (Commit p stamp) = none
+unstored b (Get d k stamp) = version k 0 stamp 0
+unstored b (Got d v latest) = none
+unstored b (FirstGet d k) = version k 0 (latest_in b k).stamp 0
+unstored b (FirstReply d v latest) = none
+
+-- the version that answers a message, by what is told of it
+abbrev pub answer_in : Version → Tested → Version
+answer_in v (Ok found) = unwrap_or found v
+answer_in v (Err r) = v
+
+-- 11 unless it is awaited
+abbrev pub told : Bool → Tested
+told awaited = cond awaited (Ok None) (Err Unexpected)
+
 -- a message's client and item have words in a block
 abbrev pub Bounded : Message → Type 0
 Bounded m = (1 ≤ owner_of m) × (owner_of m ≤ 8) × (item_of m < 64)
 
--- a reply for item k to client d, right in mode and stamp or not: 11 unless it is awaited
+-- a reply for item k to client d, right in mode and stamp or not
 abbrev pub reply_tested : List ℕ → ℕ → ℕ → Bool → Tested
-reply_tested b d k right = told (cond (has (at b scalars (awaited_at d)) k && right) 0 11) none
+reply_tested b d k right = told (has (at b scalars (awaited_at d)) k && right)
 
--- a get of item k with this stamp, of the first n stored versions
+-- a get of item k with this stamp, of the first n stored versions: 12 unless it is stored, or the
+-- initial one
 abbrev pub get_tested : List ℕ → ℕ → ℕ → ℕ → Tested
 get_tested b n k stamp =
     let vs = table n (version_in b) in
-    told (cond (eqb stamp 0 || stored vs k stamp) 0 12) (found vs k stamp)
+    cond (stored vs k stamp) (Ok (Some (found vs k stamp)))
+    (cond (eqb stamp 0) (Ok None) (Err Missing))
 
 -- the items whose prepared reply client d awaits: a mixed transaction has a word of its own for
 -- them
@@ -53,7 +77,7 @@ right_prepared b stamp =
 
 abbrev pub prepared_tested : List ℕ → ℕ → ℕ → Tested
 prepared_tested b k stamp =
-    told (cond (has (prepared_awaited b (writer_of stamp)) k && right_prepared b stamp) 0 11) none
+    told (has (prepared_awaited b (writer_of stamp)) k && right_prepared b stamp)
 
 -- a got of this stamp, to client d, which reads, is in the second part of a fast read or in a mixed
 -- transaction
@@ -65,10 +89,9 @@ right_got b d k stamp =
 
 -- a first reply is awaited in the first part of a fast read
 unfoldable pub tested_in : List ℕ → ℕ → Message → Tested
-tested_in b n (Prepare v) = told (cond (stored (table n (version_in b)) v.item v.stamp) 11 0)
-    none
+tested_in b n (Prepare v) = told (not (stored (table n (version_in b)) v.item v.stamp))
 tested_in b n (Prepared k stamp) = prepared_tested b k stamp
-tested_in b n (Commit p stamp) = told 0 none
+tested_in b n (Commit p stamp) = Ok None
 tested_in b n (Get d k stamp) = get_tested b n k stamp
 tested_in b n (Got d v latest) = reply_tested b d v.item (right_got b d v.item v.stamp)
 tested_in b n (FirstGet d k) = get_tested b n k (latest_in b k).stamp

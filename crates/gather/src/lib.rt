@@ -36,14 +36,14 @@ pub fn lacks(set: u64, k: u64) -> bool
 pub fn mixed(stamp: u64) -> u64
     ensures { result ≡ mixed stamp }
 {
-    let raised = std::num::wrapping_add_u64(stamp, RAISING);
+    let raised = stamp.wrapping_add(RAISING);
     (raised >> 33) ^ raised
 }
 
 pub fn room(clients: u64) -> u64
     ensures { result ≡ 7 - clients }
 {
-    if clients < 8 { 7 - clients } else { 0 }
+    7u64.saturating_sub(clients)
 }
 
 pub fn roomed(stamp: u64, clients: u64, room: u64) -> u64
@@ -51,7 +51,7 @@ pub fn roomed(stamp: u64, clients: u64, room: u64) -> u64
     ensures { result ≡ (if nat_lt clients 8 then roomed clients stamp else 0) }
 {
     if clients < 8 {
-        std::num::wrapping_add_u64(stamp, room)
+        stamp.wrapping_add(room)
     } else {
         0
     }
@@ -84,7 +84,7 @@ pub fn owned(stamp: u64, clients: u64, rest: u64) -> u64
     requires { (clients ≤ 8) × (rest ≡ rest_of clients) }
     ensures { result ≡ owned clients stamp }
 {
-    std::num::wrapping_add_u64(stamp, LOWERING) | std::num::wrapping_add_u64(stamp, rest)
+    stamp.wrapping_add(LOWERING) | stamp.wrapping_add(rest)
 }
 
 // What a loop gathers so of a stamp that may be initial.

@@ -9,7 +9,7 @@ use lib.ListN.{length, get_or}
 use Rattle.protocol.specs.declared.Version.{Version}
 use Rattle.protocol.specs.declared.Message.{Message}
 use Rattle.protocol.specs.Tables.{Tables}
-use Rattle.layout.specs.Layout.{header, latest, base, at, clients_at, partitions_at, items_at}
+use Rattle.layout.specs.Layout.{header, base, at, clients_at, partitions_at, items_at}
 use Rattle.layout.specs.Layout.{versions_at, messages_at, scalars, versions}
 use Rattle.layout.specs.Encodes.{Encodes, HoldsVersion, HoldsMessage}
 use Rattle.layout.proofs.Room.{HasRoom}

@@ -1,8 +1,8 @@
 -- The two values in a word of a mixed transaction: each comes back as it was written, and an answer
 -- leaves the value written as it is.
 use mathlib.Core.Bool.{Bool, true, false}
-use mathlib.Core.Path.{◌≡◌, refl, ◌∙◌}
-use Prim.Native.Nat.{ℕ, ◌%◌, ◌^◌, ◌<◌}
+use mathlib.Core.Path.{◌≡◌, refl}
+use Prim.Native.Nat.{ℕ, ◌^◌, ◌<◌}
 use native.Mathlib.Omega.{arith}
 use Rattle.layout.specs.Layout.{low_half, high_half, both_halves, read_value, written_value}
 use Rattle.layout.specs.Layout.{written_word, with_answer}

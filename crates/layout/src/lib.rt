@@ -3,7 +3,7 @@
 
 #![tactic(auto)]
 
-ghost use Rattle.std.specs.Prelude.{◌≡◌, ◌≤◌, length, get_or, set};
+ghost use Rattle.std.specs.Prelude.{◌≡◌, ◌+◌, ◌≤◌, ◌<◌, length, get_or, set};
 ghost use Rattle.layout.specs.Layout.{needed, at, store, header, clients_at, partitions_at};
 ghost use Rattle.layout.specs.Layout.{items_at, versions_at, messages_at};
 ghost use Rattle.layout.specs.Store.{store_sizes, blank, fresh_block};
@@ -28,6 +28,7 @@ pub const MOST_WRITE_ITEMS: u64 = 12;
 
 // The modes of a client: no transaction under way, a read, a write, a fast read in its first and in
 // its second part, and a mixed transaction. A mode is below `MODES`.
+// Stay numbers: they are words of a lent block, which may hold any other number too.
 pub const IDLE: u64 = 0;
 
 pub const READING: u64 = 1;
@@ -81,7 +82,7 @@ pub const NEEDED: usize = (MESSAGES + MESSAGE_WORDS * MOST_MESSAGES) as usize;
 pub fn word(b: &[u64], place: usize) -> u64
     ensures { result ≡ get_or b.now place 0 }
 {
-    if place < b.len() { b[place] } else { 0 }
+    b.get(place).copied().unwrap_or(0)
 }
 
 // The word at `place` becomes `v`.
@@ -91,6 +92,22 @@ pub fn put_word(b: &mut [u64], place: usize, v: u64)
     if place < b.len() {
         b[place] = v;
     }
+}
+
+// Word `i` of the section that starts at `base`.
+pub fn word_in(b: &[u64], base: u64, i: u64) -> u64
+    requires { (base < needed) × (i < needed) }
+    ensures { result ≡ get_or b.now (base + i) 0 }
+{
+    word(b, (base + i) as usize)
+}
+
+// It becomes `v`.
+pub fn put_word_in(b: &mut [u64], base: u64, i: u64, v: u64)
+    requires { (base < needed) × (i < needed) }
+    ensures { b.new ≡ set b.old (base + i) v }
+{
+    put_word(b, (base + i) as usize, v);
 }
 
 // How many clients (document 01: desks) there are.
@@ -150,15 +167,12 @@ pub fn put_message_count(b: &mut [u64], n: u64)
 }
 
 // The first `n` words become 0.
+#[tactic(auto, unfolding(crate::specs::Store::blank))]
 fn clear(b: &mut [u64], n: usize)
     requires { n ≤ length b.old }
     ensures { b.new ≡ blank n b.old }
 {
-    let mut i = 0;
-    while i < n {
-        b[i] = 0;
-        i += 1;
-    }
+    b[..n].fill(0);
 }
 
 // What an accepted fresh makes: every word of the needed length becomes 0 but the sizes.

@@ -1,4 +1,2 @@
--- Laws of the messages in flight: the message of a kind, and one taken out.
-mod Words
-pub mod LastKind
+-- A block holds its tables after a message is taken out.
 pub mod EncodesTakeOut

@@ -12,6 +12,7 @@ pub mod Shown
 pub mod Ranges
 pub mod Cleared
 pub mod Refusals
+pub mod Refused
 pub mod Delivered
 pub mod MessageKinds
 pub mod Touched

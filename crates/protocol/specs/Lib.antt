@@ -4,6 +4,7 @@
 pub mod Tables
 pub mod Message
 pub mod Range
+pub mod Refusal
 pub mod Choice
 pub mod FastRead
 pub mod Steps

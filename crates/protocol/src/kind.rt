@@ -4,6 +4,7 @@ ghost use Rattle.protocol.specs.Tables.{is_kind, shows_read, shows_write};
 
 // None has ended yet, a read, a write, a fast read, and a mixed transaction, which has both parts. A
 // kind is below `KINDS`.
+// Stay numbers: they are words of a lent block, which may hold any other number too.
 pub const NONE: u64 = 0;
 
 pub const READ: u64 = 1;

@@ -11,6 +11,7 @@ ghost use Rattle.protocol.specs.Steps.{offered};
 pub mod kind;
 pub mod message_kind;
 pub mod outcome;
+pub mod refusal;
 
 // A version of an item (document 01: line): its value, the stamp of the write that made it, and
 // that write's set.
@@ -88,7 +89,8 @@ pub enum Message {
     },
 }
 
-// What a call answers.
+// What a call answers. A refusal stays a number here: C takes it, and the theorems of condition 3
+// speak of `Refused n`. Functions that refuse give a `Refusal`.
 #[derive(Clone, Copy)]
 pub enum Answer {
     Refused(u64),

@@ -1,5 +1,6 @@
 // The kinds of messages in flight (document 01: in the pile), as the first word of a message and a
 // delivery's answer have them.
+// Stay numbers: they are words of the lent block, and `kind_in` and `Delivered` promise numbers.
 
 pub const PREPARE: u64 = 1;
 

@@ -5,10 +5,9 @@ use mathlib.Core.Logic.{◌≢◌}
 use mathlib.Core.Path.{◌≡◌, refl, sym, ap, ◌∙◌}
 use Prim.Native.Nat.{ℕ, zero, suc, ◌+◌, ◌≤◌, ◌<◌}
 use native.Mathlib.Nat.{not-suc-le-zero, le_of_suc-le-suc, add-zero}
-use native.Mathlib.Numerals.{add-one, add-two, add-three}
 use native.Mathlib.Omega.{arith}
 use lib.ListN.{length, get_or, set, take, drop, length-set, length-drop}
-use lib.Seq.{sets, length-sets, take-suc, length-take-le, get_or-drop, get_or-set_same, get_or-set_other}
+use lib.Seq.{sets, sets-eq, paste, length-sets, length-take-le, get_or-set_same, get_or-set_other}
 
 module _ {A : Type 0} where
   -- one more word at the end of a run
@@ -18,13 +17,6 @@ module _ {A : Type 0} where
   sets-snoc l i (v ∷ vs) a =
       sets-snoc (set l i v) (suc i) vs a
       ∙ ap (λ (k : ℕ). set (sets (set l i v) (suc i) vs) k a) (omega arith)
-
-  -- four words, one behind the other
-  pub four-sets : (l l₁ l₂ l₃ l₄ : List A) (i : ℕ) (w x y z : A)
-      → l₁ ≡ set l i w → l₂ ≡ set l₁ (i + 1) x → l₃ ≡ set l₂ (i + 2) y → l₄ ≡ set l₃ (i + 3) z
-      → l₄ ≡ sets l i (w ∷ x ∷ y ∷ z ∷ [])
-  four-sets l l₁ l₂ l₃ l₄ i w x y z first second third fourth =
-      rw (fourth, third, second, first, add-one i, add-two i, add-three i) refl
 
   -- outside a run nothing changes
   pub get_d_sets_before : (l : List A) (i : ℕ) (vs : List A) (j : ℕ) (d : A) → j < i
@@ -55,21 +47,14 @@ module _ {A : Type 0} where
       ∙ get_or-sets-within (set l i a) (suc i) vs f d (simp length-set (omega arith))
       (le_of_suc-le-suc k)
 
-  -- ---- words that move down the block by `by` places, one after the other
+  -- ---- words that move down the block by `by` places
 
-  pub move-next : (l : List A) (from by k : ℕ) (d : A) → from + by + k < length l
-      → set (sets l from (take k (drop (from + by) l))) (from + k)
-      (get_or (sets l from (take k (drop (from + by) l))) (from + by + k) d)
-      ≡ sets l from (take (suc k) (drop (from + by) l))
-  move-next l from by k d h =
+  pub moved_down : (l : List A) (from by k n : ℕ) → from + by + k ≤ length l → n ≡ k
+      → paste l from (drop (from + by) l) n ≡ sets l from (take k (drop (from + by) l))
+  moved_down l from by k n h e =
       let s : List A = drop (from + by) l in
-      let some : k < length s = simp length-drop (omega arith) in
-      let len : length (take k s) ≡ k = length-take-le k s (omega arith) in
-      let there : get_or (sets l from (take k s)) (from + by + k) d ≡ get_or s k d =
-      get_or-sets-behind l from (take k s) (from + by + k) d (omega arith)
-      ∙ sym (get_or-drop (from + by) l k d)
-      in
-      rw (there, take-suc s k d some, sets-snoc l from (take k s) (get_or s k d), len)
+      let len : length (take k s) ≡ k = length-take-le k s (simp length-drop (omega arith)) in
+      rw (e, sets-eq (take k s) l from (omega arith), len) refl
 
   -- ---- a run of words from place i on, and one word more elsewhere, at place j: how the block changes at an append and when one is taken out
 

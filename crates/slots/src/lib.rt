@@ -3,21 +3,18 @@
 
 #![tactic(auto)]
 
-ghost use Rattle.std.specs.Prelude.{◌≡◌, [], ◌∷◌, ◌<◌};
+ghost use Rattle.std.specs.Prelude.{◌≡◌, ◌≤◌, ◌<◌};
 ghost use Rattle.std.proofs.lemmas.List.Edits.{sets};
-ghost use Rattle.layout.specs.Layout.{needed};
+ghost use Rattle.layout.specs.Layout.{needed, message_words};
 
 use layout::put_word;
 
-// Four words from `place` on.
-pub fn put_four(b: &mut [u64], place: u64, first: u64, second: u64, third: u64, fourth: u64)
-    requires { place < needed }
-    ensures { b.new ≡ sets b.old place
-        (first ∷ second ∷ third ∷ fourth ∷ []) }
+// The words of one of them, from `place` on.
+pub fn put_words<const N: usize>(b: &mut [u64], place: u64, words: [u64; N])
+    requires { (place < needed) × (N ≤ message_words) }
+    ensures { b.new ≡ sets b.old place words.entry }
 {
-    let at = place as usize;
-    put_word(b, at, first);
-    put_word(b, at + 1, second);
-    put_word(b, at + 2, third);
-    put_word(b, at + 3, fourth);
+    for (k, word) in words.iter().enumerate() {
+        put_word(b, place as usize + k, *word);
+    }
 }

@@ -13,16 +13,10 @@ ghost use Rattle.versions.specs.Found.{first_alike};
 
 use layout::{MOST_VERSIONS, VERSION_WORDS, VERSIONS, put_version_count, version_count};
 use protocol::Version;
-use slots::put_four;
-
-// What a search finds: a place, or nothing.
-#[derive(Drop)]
-pub enum Found {
-    At(u64),
-    Nothing,
-}
+use slots::put_words;
 
 // Word `f` of the four of version `i`, in a block that is long enough: a search looks at many.
+// Stays apart from `word_in`, which tests each place.
 fn part(b: &[u64], i: u64, f: u64) -> u64
     requires { (i < most_versions) × (f < version_words) × (needed ≤ length b.now) }
     ensures { result ≡ at b.now versions (version_at i f) }
@@ -53,21 +47,20 @@ pub fn stamp_of(b: &[u64], i: u64) -> u64
 }
 
 // Version `v` at place `i`.
+#[tactic(auto, unfolding(layout::specs::Store::store_version))]
 pub fn put(b: &mut [u64], i: u64, v: Version)
     requires { i < most_versions }
     ensures { b.new ≡ store_version b.old i v }
 {
-    put_four(
+    put_words(
         b,
-        VERSIONS + (VERSION_WORDS * i + 0),
-        v.item,
-        v.value,
-        v.stamp,
-        v.set,
+        VERSIONS + VERSION_WORDS * i,
+        [v.item, v.value, v.stamp, v.set],
     );
 }
 
 // Version `v` joins the `n` that are there, at the end.
+#[tactic(auto, unfolding(layout::specs::Store::append_version))]
 pub fn append(b: &mut [u64], n: u64, v: Version)
     requires { n < most_versions }
     ensures { b.new ≡ append_version b.old n v }
@@ -77,6 +70,7 @@ pub fn append(b: &mut [u64], n: u64, v: Version)
 }
 
 // Version `v` is stored, where there is room.
+#[tactic(auto, unfolding(slots::specs::Room::keep))]
 pub fn keep(b: &mut [u64], v: Version)
     ensures { b.new ≡ keep b.old v }
 {
@@ -91,26 +85,20 @@ fn is_alike(b: &[u64], i: u64, item: u64, stamp: u64) -> bool
     requires { (i < most_versions) × (needed ≤ length b.now) }
     ensures { result ≡ alike item stamp (version_in b.now i) }
 {
-    if part(b, i, 2) == stamp {
-        part(b, i, 0) == item
-    } else {
-        false
-    }
+    part(b, i, 2) == stamp && part(b, i, 0) == item
 }
 
 // The place of the first of `n` versions of `item` with exactly this `stamp`.
-pub fn find(b: &[u64], n: u64, item: u64, stamp: u64) -> Found
+pub fn find(b: &[u64], n: u64, item: u64, stamp: u64) -> Option<u64>
     requires { (n ≤ most_versions) × (needed ≤ length b.now) }
     ensures { result ≡ first_alike b.now n item stamp }
 {
-    let mut i = 0;
-    while i < n {
+    for i in 0..n {
         if is_alike(b, i, item, stamp) {
-            return Found::At(i);
+            return Some(i);
         }
-        i += 1;
     }
-    Found::Nothing
+    None
 }
 
 // Whether one of `n` versions is of `item` with exactly this `stamp`.
@@ -118,10 +106,5 @@ pub fn is_stored(b: &[u64], n: u64, item: u64, stamp: u64) -> bool
     requires { (n ≤ most_versions) × (needed ≤ length b.now) }
     ensures { result ≡ stored_in (table n (version_in b.now)) item stamp }
 {
-    let place = find(b, n, item, stamp);
-    if let Found::At(_) = place {
-        true
-    } else {
-        false
-    }
+    find(b, n, item, stamp).is_some()
 }
