@@ -1,6 +1,6 @@
 -- The stamps that the code gathers are those in use: of a stamp other than the initial one, that it
 -- is none of them is that it is unused.
-use mathlib.Core.Bool.{Bool, true, false, cond, not, ◌&&◌, ◌||◌}
+use mathlib.Core.Bool.{true, false, cond, not, ◌&&◌, ◌||◌}
 use mathlib.Core.List.{List}
 use mathlib.Core.Logic.{◌↔◌, ◌≢◌, ⊎_elim}
 use mathlib.Core.Path.{◌≡◌, refl, sym, ap, ◌∙◌, subst}
@@ -275,12 +275,6 @@ module _ (b : List ℕ) where
       (λ i. eqb (stage_of (at b scalars (mode_at (i + 1)))) 0) e (d - 1) few)))
 
   -- how many are gathered
-  pub count-few : {quiet : Bool} → quiet ≡ none_fast b → quiet ≡ true → stamp_count b ≡ first_stamps
-  count-few e h = rw (sym e ∙ h) refl
-
-  pub count-all : {quiet : Bool} → quiet ≡ none_fast b → quiet ≡ false → stamp_count b ≡ most_stamps
-  count-all e h = rw (sym e ∙ h) refl
-
   pub count-least : first_stamps ≤ stamp_count b
   count-least = by_cond (λ n. first_stamps ≤ n) (none_fast b) first_stamps most_stamps
       (λ e. omega arith) (λ e. omega arith)

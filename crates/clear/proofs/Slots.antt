@@ -4,16 +4,17 @@ use mathlib.Core.Bool.{true, false, not}
 use mathlib.Core.List.{List, [], ◌∷◌, ◌++◌}
 use mathlib.Core.Logic.{◌≢◌, inl, ⊎_elim}
 use mathlib.Core.Path.{◌≡◌, refl, sym, ap, ◌∙◌, subst}
-use Prim.Native.Nat.{ℕ, suc, ◌≤◌, ◌<◌}
+use Prim.Native.Nat.{ℕ, ◌<◌}
 use lib.Dec.{eqb, ltb}
-use lib.ListN.{length, get_or, set, drop, replicate, length-set, length-replicate, get_or-replicate}
-use lib.ListN.{get_or-eq_default, drop_of_length-le}
-use lib.Seq.{get_or-set_same, get_or-set_other, drop-cons}
+use lib.ListN.{get_or, set, replicate, length-set, length-replicate, get_or-replicate}
+use lib.ListN.{get_or-eq_default}
+use lib.Seq.{get_or-set_same, get_or-set_other}
 use native.Mathlib.Omega.{arith}
 use borrow.Author.Tests.{eqb-true, eqb-false, ne_eqb, ltb-true, ltb-false}
+use Rattle.std.specs.List.{list_any}
 use Rattle.basics.proofs.Cases.{by-test, not-both, eqb_same}
 use Rattle.basics.specs.Lists.{In, all}
-use Rattle.basics.proofs.Lists.{in_left, in_right, in-append, in-get_or, all_in, in_all}
+use Rattle.basics.proofs.Lists.{in_left, in_right, in-append, all_in, in_all}
 use Rattle.clear.specs.Stamps.{absent, most_slots, slot_of, marked, Marks}
 
 -- ---- marking
@@ -88,7 +89,7 @@ marks-next stamps slots s m =
 
 -- ---- asking
 
-pub absent-in : (stamps : List ℕ) (s : ℕ) → In s stamps → absent stamps s ≡ false
+absent-in : (stamps : List ℕ) (s : ℕ) → In s stamps → absent stamps s ≡ false
 absent-in stamps s i =
     by-test (absent stamps s)
     (λ e. not-both (rw (eqb_same s) at (all_in (λ r. not (eqb r s)) stamps e s i)) refl)
@@ -107,18 +108,9 @@ module _ (stamps slots : List ℕ) (s : ℕ) (m : Marks stamps slots) (some : s 
 
 -- ---- looking at each
 
-module _ (stamps : List ℕ) (s p : ℕ) where
-  pub absent-found : p < length stamps → get_or stamps p 0 ≡ s → false ≡ absent stamps s
-  absent-found l e =
-      sym (absent-in stamps s (subst (λ (x : ℕ). In x stamps) e (in-get_or stamps p 0 l)))
-
-  pub absent-next : absent (drop p stamps) s ≡ absent stamps s → p < length stamps
-      → get_or stamps p 0 ≢ s → absent (drop (suc p) stamps) s ≡ absent stamps s
-  unfolding all
-  absent-next e l n =
-      sym (rw (drop-cons stamps p 0 l, ne_eqb (get_or stamps p 0) s n) refl) ∙ e
-
-  pub absent-end : absent (drop p stamps) s ≡ absent stamps s → length stamps ≤ p
-      → true ≡ absent stamps s
-  unfolding all
-  absent-end e l = rw (drop_of_length-le stamps l) at e
+pub absent_listed : (stamps : List ℕ) (s : ℕ)
+    → not (list_any (λ r. eqb r s) stamps) ≡ absent stamps s
+unfolding all
+absent_listed [] s = refl
+absent_listed (x ∷ xs) s =
+    by-test (eqb x s) (λ e. rw e refl) (λ e. rw e (absent_listed xs s))

@@ -1,6 +1,6 @@
 -- The versions that stay, one after another: their words are a run from the first version's place
 -- on, which never reaches a version that is still to come.
-use mathlib.Core.Bool.{Bool, true, false, cond}
+use mathlib.Core.Bool.{false, cond}
 use mathlib.Core.List.{List, [], ◌∷◌, ◌++◌, append-nil}
 use mathlib.Core.Logic.{◌≢◌}
 use mathlib.Core.Path.{◌≡◌, refl, sym, ap, ◌∙◌}
@@ -16,7 +16,6 @@ use Rattle.protocol.specs.declared.Version.{Version}
 use Rattle.layout.specs.Layout.{version_words, versions, base, at, version_at}
 use Rattle.layout.specs.Decode.{version_in}
 use Rattle.layout.specs.Store.{words_of_version, store_version}
-use Rattle.slots.proofs.Chosen.{when, unless}
 use Rattle.slots.proofs.Runs.{get_or-sets-behind}
 use Rattle.hexadecimal.proofs.Stores.{sets-append}
 use Rattle.clear.specs.Clear.{words_of_versions}
@@ -166,29 +165,3 @@ module _ {stamps b₀ : List ℕ} {n : ℕ} {b : List ℕ} {kept i : ℕ}
         long = long ∙ k.long;
         below = omega (arith, k.below);
       }))
-
-  pub kept-last : n ≤ i → (kept ≡ length (staying stamps b₀ n)) × (b ≡ moved stamps b₀ n)
-  kept-last h =
-      let e : i ≡ n = omega (arith, k.few) in
-      rw (← e) (k.count, k.block)
-
--- ---- one version
-
-module _ (stamps b : List ℕ) (i kept : ℕ) {v : Version} {unused : Bool}
-    (read : v ≡ version_in b i) (told : unused ≡ absent stamps v.stamp) where
-  tested : absent stamps (version_in b i).stamp ≡ unused
-  tested = ap (λ (u : Version). absent stamps u.stamp) (sym read) ∙ sym told
-
-  pub keep-gone : unused ≡ true
-      → (kept ≡ cond (absent stamps (version_in b i).stamp) kept (kept + 1))
-      × (b ≡ cond (absent stamps (version_in b i).stamp) b (store_version b kept (version_in b i)))
-  keep-gone e = (when _ _ _ _ (tested ∙ e) refl, when _ _ _ _ (tested ∙ e) refl)
-
-  pub keep-stays : (after : List ℕ) → unused ≡ false → after ≡ store_version b kept v
-      → (kept + 1 ≡ cond (absent stamps (version_in b i).stamp) kept (kept + 1))
-      × (after ≡ cond (absent stamps (version_in b i).stamp) b
-      (store_version b kept (version_in b i)))
-  keep-stays after e a = (
-    unless _ _ _ _ (tested ∙ e) refl,
-    unless _ _ _ _ (tested ∙ e) (a ∙ ap (store_version b kept) read),
-  )

@@ -49,7 +49,9 @@ const STAMPS: usize = (FIRST_STAMPS + MOST_ITEMS * MOST_CLIENTS) as usize;
 // 512 numbers, of 8 clients each.
 const SLOTS: usize = 4096;
 
-// The stamp of entry `p`, of latest or of a view behind it, if its client and item exist.
+// The stamp of entry `p`, of latest or of a view behind it, if its client and item exist. Here and
+// below, none is 0, no Option: it is the initial stamp, which no stored version has.
+#[tactic(auto, unfolding(crate::specs::Stamps::entry_stamp))]
 fn entry_stamp(b: &[u64], clients: u64, items: u64, p: u64) -> u64
     requires { (p < most_entries) × (needed ≤ length b.now)
         × (clients ≡ at b.now header clients_at) × (items ≡ at b.now header items_at) }
@@ -65,6 +67,7 @@ fn entry_stamp(b: &[u64], clients: u64, items: u64, p: u64) -> u64
 
 // Word `f` of message `i`, if there is one and its kind is `kind` or a greater; a first get has
 // no stamp.
+#[tactic(auto, unfolding(crate::specs::Stamps::message_stamp))]
 fn message_stamp(b: &[u64], kind: u64, f: u64, i: u64) -> u64
     requires { (f < message_words) × (i < most_messages) × (needed ≤ length b.now) }
     ensures { result ≡ message_stamp b.now kind f i }
@@ -92,6 +95,7 @@ fn written_by(b: &[u64], d: u64, mode: u64) -> u64
 
 // The stamp of client `i + 1`, if it is writing, in a mixed transaction too: a field only where its
 // write set isn't empty.
+#[tactic(auto, unfolding(crate::specs::Stamps::write_stamp))]
 fn write_stamp(b: &[u64], i: u64) -> u64
     requires { i < most_clients }
     ensures { result ≡ write_stamp b.now i }
@@ -119,6 +123,7 @@ fn has_first(b: &[u64], d: u64, k: u64) -> bool
 }
 
 // The stamp of first reply `p`, if its client and item exist and it has come.
+#[tactic(auto, unfolding(crate::specs::Stamps::first_stamp))]
 fn first_stamp(b: &[u64], p: u64) -> u64
     requires { (p < most_items * most_clients) × (needed ≤ length b.now) }
     ensures { result ≡ first_stamp b.now p }
@@ -136,23 +141,21 @@ fn first_stamp(b: &[u64], p: u64) -> u64
 }
 
 // Stamp `p` of all, behind those of the entries.
+#[tactic(auto, unfolding(crate::specs::Stamps::stamp_in))]
 fn stamp_at(b: &[u64], p: u64) -> u64
     requires { (message_stamps ≤ p) × (p < most_stamps) × (needed ≤ length b.now) }
     ensures { result ≡ stamp_in b.now p }
 {
-    if p < LATEST_STAMPS {
-        return message_stamp(b, PREPARE, 4, p - MESSAGE_STAMPS);
+    match p {
+        0..LATEST_STAMPS => message_stamp(b, PREPARE, 4, p - MESSAGE_STAMPS),
+        LATEST_STAMPS..WRITE_STAMPS => message_stamp(b, GOT, 6, p - LATEST_STAMPS),
+        WRITE_STAMPS..FIRST_STAMPS => write_stamp(b, p - WRITE_STAMPS),
+        _ => first_stamp(b, p - FIRST_STAMPS),
     }
-    if p < WRITE_STAMPS {
-        return message_stamp(b, GOT, 6, p - LATEST_STAMPS);
-    }
-    if p < FIRST_STAMPS {
-        return write_stamp(b, p - WRITE_STAMPS);
-    }
-    first_stamp(b, p - FIRST_STAMPS)
 }
 
-// The stamps of the entries: the most numerous, so in a loop of their own.
+// The stamps of the entries: the most numerous, so in a loop of their own, which reads the sizes
+// once.
 fn gather_entries(b: &[u64], stamps: &mut [u64])
     requires { (most_entries ≤ length stamps.old) × (needed ≤ length b.now) }
     ensures { (length stamps.new ≡ length stamps.old)
@@ -161,10 +164,8 @@ fn gather_entries(b: &[u64], stamps: &mut [u64])
 {
     let clients = layout::clients(b);
     let items = layout::items(b);
-    let mut p = 0;
-    while p < ENTRIES {
+    for p in 0..ENTRIES {
         stamps[p] = entry_stamp(b, clients, items, p as u64);
-        p += 1;
     }
 }
 
@@ -176,10 +177,8 @@ fn gather(b: &[u64], stamps: &mut [u64])
         (stamp_in b.now) }
 {
     gather_entries(b, stamps);
-    let mut p = ENTRIES;
-    while p < stamps.len() {
+    for p in ENTRIES..stamps.len() {
         stamps[p] = stamp_at(b, p as u64);
-        p += 1;
     }
 }
 
@@ -192,6 +191,7 @@ fn slot_of(stamp: u64) -> usize
 }
 
 // The stamp in its slot, if it isn't the initial one.
+#[tactic(auto, unfolding(crate::specs::Stamps::marked))]
 fn mark(slots: &mut [u64], stamp: u64)
     requires { length slots.old ≡ most_slots }
     ensures { slots.new ≡ marked slots.old stamp }
@@ -207,10 +207,8 @@ fn mark_all(slots: &mut [u64], stamps: &[u64])
     requires { Marks [] slots.old }
     ensures { Marks stamps.now slots.new }
 {
-    let mut p = 0;
-    while p < stamps.len() {
-        mark(slots, stamps[p]);
-        p += 1;
+    for stamp in stamps {
+        mark(slots, *stamp);
     }
 }
 
@@ -218,14 +216,7 @@ fn mark_all(slots: &mut [u64], stamps: &[u64])
 fn is_absent(stamps: &[u64], stamp: u64) -> bool
     ensures { result ≡ absent stamps.now stamp }
 {
-    let mut p = 0;
-    while p < stamps.len() {
-        if stamps[p] == stamp {
-            return false;
-        }
-        p += 1;
-    }
-    true
+    !stamps.contains(&stamp)
 }
 
 // The same, by its slot: only where another stamp has it, each is looked at.
@@ -233,15 +224,11 @@ fn is_unused(stamps: &[u64], slots: &[u64], stamp: u64) -> bool
     requires { Marks stamps.now slots.now × (stamp ≢ 0) }
     ensures { result ≡ absent stamps.now stamp }
 {
-    let slot = slot_of(stamp);
-    let found = slots[slot];
-    if found == 0 {
-        return true;
+    match slots[slot_of(stamp)] {
+        0 => true,
+        found if found == stamp => false,
+        _ => is_absent(stamps, stamp),
     }
-    if found == stamp {
-        return false;
-    }
-    is_absent(stamps, stamp)
 }
 
 // Version `i` moves behind the `kept` that stay, if it stays too; so many stay then.
@@ -273,43 +260,40 @@ fn keep_all(b: &mut [u64], stamps: &[u64], slots: &[u64], n: u64) -> u64
         (words_of_versions (staying stamps.now b.old n)) }
 {
     let mut kept = 0;
-    let mut i = 0;
-    while i < n {
+    for i in 0..n {
         kept = keep(b, stamps, slots, i, kept);
-        i += 1;
     }
     kept
 }
 
-// Clears a valid block, with room for the stamps in use.
-fn clear_by(b: &mut [u64], stamps: &mut [u64]) -> u64
-    requires { (valid_block b.old ≡ true) × (length stamps.old ≡ stamp_count b.old) }
+// Clears a valid block, with room for the `N` stamps in use.
+fn clear_by<const N: usize>(b: &mut [u64]) -> u64
+    requires { (valid_block b.old ≡ true) × (N ≡ stamp_count b.old) }
     ensures value { result ≡ gone (tables_of b.old) }
     ensures b_after { b.new ≡ cleared_block b.old }
 {
-    let mut slots = [0u64; SLOTS];
-    gather(b, stamps);
-    mark_all(&mut slots, stamps);
+    let mut stamps = [0; N];
+    let mut slots = [0; SLOTS];
+    gather(b, &mut stamps);
+    mark_all(&mut slots, &stamps);
     let n = layout::version_count(b);
-    let kept = keep_all(b, stamps, &slots, n);
+    let kept = keep_all(b, &stamps, &slots, n);
     layout::put_version_count(b, kept);
     n - kept
 }
 
 // Whether no client is in a fast read.
+#[tactic(auto, unfolding(crate::specs::Stamps::none_fast, basics::specs::Lists::every))]
 fn none_fast(b: &[u64]) -> bool
     requires { valid_block b.now ≡ true }
     ensures { result ≡ none_fast b.now }
 {
-    let clients = layout::clients(b);
-    let mut ok = true;
-    let mut i = 0;
-    while i < clients {
-        let mode = client_fields::mode(b, i + 1);
-        ok = ok & ((mode != FIRST_PART) & (mode != SECOND_PART));
-        i += 1;
+    for i in 0..layout::clients(b) {
+        if matches!(client_fields::mode(b, i + 1), FIRST_PART | SECOND_PART) {
+            return false;
+        }
     }
-    ok
+    true
 }
 
 // Clears a valid block, and answers how many versions went.
@@ -319,10 +303,8 @@ pub fn clear(b: &mut [u64]) -> u64
     ensures b_after { b.new ≡ cleared_block b.old }
 {
     if none_fast(b) {
-        let mut stamps = [0u64; STAMPS_WITHOUT_FIRSTS];
-        clear_by(b, &mut stamps)
+        clear_by::<STAMPS_WITHOUT_FIRSTS>(b)
     } else {
-        let mut stamps = [0u64; STAMPS];
-        clear_by(b, &mut stamps)
+        clear_by::<STAMPS>(b)
     }
 }

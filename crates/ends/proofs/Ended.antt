@@ -19,7 +19,7 @@ use Rattle.layout.specs.Encodes.{writes_alone, number_of_mode, Encodes, HoldsCli
 use Rattle.layout.proofs.Room.{NarrowClient, HasRoom, room-client}
 use Rattle.layout.proofs.ClientWords.{Words}
 use Rattle.layout.proofs.Changed.{Changed, changed-none, changed-put, encodes-changed}
-use Rattle.ends.specs.Ends.{ended, keep_answer, read_kind, see_item, read_ended, write_kept}
+use Rattle.ends.specs.Ends.{read_kind, see_item, read_ended, write_kept}
 use Rattle.ends.specs.Ends.{mixed_kept}
 use Rattle.ends.proofs.Seen.{encodes-seen}
 use Rattle.ends.proofs.Copied.{values-taken, answers-taken}

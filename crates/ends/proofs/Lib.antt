@@ -1,6 +1,5 @@
 -- The laws of the ends of transactions: each change of the block is a change of the tables that it
 -- holds.
-pub mod Rows
 pub mod Seen
 pub mod Copied
 pub mod Rests

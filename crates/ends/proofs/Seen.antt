@@ -6,7 +6,7 @@ use lib.Dec.{eqb}
 use borrow.Author.Tests.{eqb-true}
 use Rattle.basics.proofs.Cases.{by-test, eqb_same}
 use Rattle.basics.specs.Fold.{up_to}
-use Rattle.itemset.proofs.Pass.{filled, filled-below, pass-fills}
+use Rattle.itemset.proofs.Pass.{filled-below, pass-fills}
 use Rattle.protocol.specs.declared.Entry.{Entry}
 use Rattle.protocol.specs.Tables.{Tables, later_of, put, with_view}
 use Rattle.protocol.specs.Steps.{seen}

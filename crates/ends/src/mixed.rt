@@ -11,6 +11,7 @@ use client_fields::{put_last_stamp, put_last_write_set, set_of, stamp, write_set
 use protocol::kind::MIXED;
 
 // What the client itself keeps of its transaction, with read set `r` and write set `s`.
+#[tactic(auto, unfolding(crate::specs::Ends::mixed_kept))]
 fn mixed_kept(b: &mut [u64], items: u64, d: u64, r: u64, s: u64, stamp: u64)
     requires { (items ≤ 64) × (1 ≤ d) × (d ≤ 8) }
     ensures { b.new ≡ mixed_kept b.old items d r s stamp }
@@ -24,6 +25,7 @@ fn mixed_kept(b: &mut [u64], items: u64, d: u64, r: u64, s: u64, stamp: u64)
 }
 
 // The mixed transaction of client `d` ends.
+#[tactic(auto, unfolding(crate::specs::Ends::mixed_ended))]
 pub fn mixed_end(b: &mut [u64], partitions: u64, items: u64, d: u64)
     requires { (1 ≤ partitions) × (items ≤ 64) × (1 ≤ d) × (d ≤ 8) }
     ensures { b.new ≡ mixed_ended b.old partitions items d }

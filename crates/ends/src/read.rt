@@ -22,14 +22,13 @@ fn keep_answer(b: &mut [u64], d: u64, s: u64, k: u64)
     }
 }
 
+#[tactic(auto, unfolding(basics::specs::Fold::up_to))]
 pub fn keep_answers(b: &mut [u64], items: u64, d: u64, s: u64)
     requires { (items ≤ 64) × (1 ≤ d) × (d ≤ 8) }
     ensures { b.new ≡ up_to (keep_answer d s) b.old items }
 {
-    let mut k = 0;
-    while k < items {
+    for k in 0..items {
         keep_answer(b, d, s, k);
-        k += 1;
     }
 }
 
@@ -37,16 +36,14 @@ pub fn keep_answers(b: &mut [u64], items: u64, d: u64, s: u64)
 fn read_kind(mode: u64) -> u64
     ensures { result ≡ read_kind mode }
 {
-    if mode == FIRST_PART {
-        FAST_READ
-    } else if mode == SECOND_PART {
-        FAST_READ
-    } else {
-        READ
+    match mode {
+        FIRST_PART | SECOND_PART => FAST_READ,
+        _ => READ,
     }
 }
 
 // The read of client `d` ends.
+#[tactic(auto, unfolding(crate::specs::Ends::read_ended))]
 pub fn read_end(b: &mut [u64], items: u64, d: u64)
     requires { (items ≤ 64) × (1 ≤ d) × (d ≤ 8) }
     ensures { b.new ≡ read_ended b.old items d }

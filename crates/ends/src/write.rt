@@ -24,14 +24,13 @@ fn see_item(b: &mut [u64], d: u64, s: u64, stamp: u64, k: u64)
     }
 }
 
+#[tactic(auto, unfolding(basics::specs::Fold::up_to))]
 pub fn see(b: &mut [u64], items: u64, d: u64, s: u64, stamp: u64)
     requires { (items ≤ 64) × (1 ≤ d) × (d ≤ 8) }
     ensures { b.new ≡ up_to (see_item d s stamp) b.old items }
 {
-    let mut k = 0;
-    while k < items {
+    for k in 0..items {
         see_item(b, d, s, stamp, k);
-        k += 1;
     }
 }
 
@@ -46,14 +45,13 @@ fn keep_value(b: &mut [u64], d: u64, s: u64, k: u64)
     }
 }
 
+#[tactic(auto, unfolding(basics::specs::Fold::up_to))]
 pub fn keep_values(b: &mut [u64], items: u64, d: u64, s: u64)
     requires { (items ≤ 64) × (1 ≤ d) × (d ≤ 8) }
     ensures { b.new ≡ up_to (keep_value d s) b.old items }
 {
-    let mut k = 0;
-    while k < items {
+    for k in 0..items {
         keep_value(b, d, s, k);
-        k += 1;
     }
 }
 
@@ -70,15 +68,14 @@ fn touch_item(partitions: u64, s: u64, ps: u64, k: u64) -> u64
 }
 
 // The partitions of the items of set `s`, as a set.
+#[tactic(auto, unfolding(crate::specs::Ends::touched, basics::specs::Fold::up_to))]
 pub fn touched(partitions: u64, items: u64, s: u64) -> u64
     requires { 1 ≤ partitions }
     ensures { result ≡ touched partitions s items }
 {
     let mut ps = 0;
-    let mut k = 0;
-    while k < items {
+    for k in 0..items {
         ps = touch_item(partitions, s, ps, k);
-        k += 1;
     }
     ps
 }
@@ -98,17 +95,17 @@ fn send_commit(b: &mut [u64], ps: u64, stamp: u64, p: u64)
     }
 }
 
+#[tactic(auto, unfolding(basics::specs::Fold::up_to))]
 pub fn send_commits(b: &mut [u64], partitions: u64, ps: u64, stamp: u64)
     ensures { b.new ≡ up_to (send_commit ps stamp) b.old partitions }
 {
-    let mut p = 0;
-    while p < partitions {
+    for p in 0..partitions {
         send_commit(b, ps, stamp, p);
-        p += 1;
     }
 }
 
 // What the client itself keeps of its write.
+#[tactic(auto, unfolding(crate::specs::Ends::write_kept))]
 fn write_kept(b: &mut [u64], items: u64, d: u64, s: u64, stamp: u64)
     requires { (items ≤ 64) × (1 ≤ d) × (d ≤ 8) }
     ensures { b.new ≡ write_kept b.old items d s stamp }
@@ -120,6 +117,7 @@ fn write_kept(b: &mut [u64], items: u64, d: u64, s: u64, stamp: u64)
 }
 
 // The write of client `d` with this stamp ends.
+#[tactic(auto, unfolding(crate::specs::Ends::write_ended))]
 pub fn write_end(b: &mut [u64], partitions: u64, items: u64, d: u64, stamp: u64)
     requires { (1 ≤ partitions) × (items ≤ 64) × (1 ≤ d) × (d ≤ 8) }
     ensures { b.new ≡ write_ended b.old partitions items d stamp }

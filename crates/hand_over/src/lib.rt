@@ -23,30 +23,34 @@ fn take_item(b: &mut [u64], giver: u64, receiver: u64, k: u64)
 }
 
 // The giver hands its view of `items` items over to the receiver.
+#[tactic(auto, unfolding(basics::specs::Fold::up_to, crate::specs::HandOver::handed_over_block))]
 pub fn hand_over(b: &mut [u64], giver: u64, receiver: u64, items: u64)
     requires { (1 ≤ giver) × (giver ≤ 8) × (1 ≤ receiver) × (receiver ≤ 8) × (items ≤ 64) }
     ensures { b.new ≡ handed_over_block b.old giver receiver items }
 {
-    let mut k = 0;
-    while k < items {
+    for k in 0..items {
         take_item(b, giver, receiver, k);
-        k += 1;
     }
 }
 
 // How a view stands to another: 0 same, 1 behind, 2 ahead, 3 neither. `below`: no entry of it is
 // later than the other's; `above`: none is earlier.
+//
+// Stays a number: `compare` promises one (`standing`), and the store's answer has it. An enum would
+// be made here and turned into its number by the caller.
 fn standing_of(below: bool, above: bool) -> u64
     ensures { result ≡ standing_by below above }
 {
-    if below {
-        if above { 0 } else { 1 }
-    } else {
-        if above { 2 } else { 3 }
+    match (below, above) {
+        (true, true) => 0,
+        (true, false) => 1,
+        (false, true) => 2,
+        (false, false) => 3,
     }
 }
 
 // How the view of client `first` stands to that of client `second`, by stamps alone.
+#[tactic(auto, unfolding(basics::specs::Lists::every))]
 pub fn compare(b: &[u64], first: u64, second: u64, items: u64) -> u64
     requires { (1 ≤ first) × (first ≤ at b.now header clients_at)
         × (1 ≤ second) × (second ≤ at b.now header clients_at)
@@ -56,13 +60,11 @@ pub fn compare(b: &[u64], first: u64, second: u64, items: u64) -> u64
 {
     let mut below = true;
     let mut above = true;
-    let mut k = 0;
-    while k < items {
+    for k in 0..items {
         let one = seen_stamp(b, first, k);
         let other = seen_stamp(b, second, k);
         below = below & (one <= other);
         above = above & (other <= one);
-        k += 1;
     }
     standing_of(below, above)
 }

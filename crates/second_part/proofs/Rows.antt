@@ -6,19 +6,12 @@ use Prim.Native.Nat.{ℕ, ◌≤◌}
 use lib.ListN.{get_or}
 use borrow.Author.Tests.{eq-eqb, ne_eqb}
 use Rattle.basics.specs.Fold.{up_to}
-use Rattle.layout.specs.Layout.{most_items, scalars, at, store, mode_at, set_at, awaited_at}
+use Rattle.layout.specs.Layout.{most_items, scalars, at, set_at}
 use Rattle.slots.proofs.Chosen.{when, unless}
-use Rattle.start.specs.Start.{send_get}
 use Rattle.start.specs.Choice.{entries_from, ChosenAfter}
 use Rattle.ends.specs.Ends.{read_ended}
 use Rattle.second_part.specs.SecondPart.{shown, older_than, ask_again, fetched, second_begun}
 use Rattle.second_part.proofs.Shown.{first_from, chosen-first, older-same, again-same}
-
-pub fetched-row : (b : List ℕ) (items d stale : ℕ) (x y z : List ℕ)
-    → x ≡ store b scalars (mode_at d) 4 → y ≡ store x scalars (awaited_at d) stale
-    → z ≡ up_to (send_get false d stale) y items → z ≡ fetched b items d stale
-unfolding fetched
-fetched-row b items d stale x y z p q r = rw (← p, ← q) r
 
 module _ (b : List ℕ) (items d s : ℕ) (stamps : List ℕ) (stale : ℕ) (x y : List ℕ)
     (set : s ≡ at b scalars (set_at d)) (narrow : items ≤ most_items)

@@ -1,16 +1,15 @@
 -- The stamps that one pass chooses from the first replies are those that they show.
-use mathlib.Core.Bool.{Bool, true, false, cond, ◌&&◌}
+use mathlib.Core.Bool.{Bool, true, false, ◌&&◌}
 use mathlib.Core.List.{List}
 use mathlib.Core.Path.{◌≡◌, refl, sym, ap, ◌∙◌}
 use Prim.Native.Nat.{ℕ, zero, suc, ◌+◌, ◌-◌, ◌*◌, ◌≤◌, ◌<◌}
-use native.Mathlib.Numerals.{add-one}
 use native.Mathlib.Omega.{arith}
 use lib.Dec.{ltb}
 use lib.ListN.{get_or}
 use Rattle.basics.specs.Fold.{up_to}
 use Rattle.basics.proofs.Cases.{by-test}
 use Rattle.basics.proofs.Fold.{up_to-all, up_to-suc, turn-first}
-use Rattle.itemset.specs.Set.{has, insert, set_of}
+use Rattle.itemset.specs.Set.{has, set_of}
 use Rattle.layout.specs.Layout.{most_items, entry_words, firsts, base}
 use Rattle.layout.specs.Decode.{first_in}
 use Rattle.start.specs.Choice.{entries_from, ChosenAfter}
@@ -39,19 +38,6 @@ chosen-first b d s items stamps h narrow j l e =
     chosen-all _ s items stamps h narrow j l e
     ∙ choice-ext _ (replies_in b d s) j items (entries-first b d s j)
     (λ i g. entries-first b d s i)
-
--- ---- one item more of those that are older
-
-pub older-none : (b : List ℕ) (d s : ℕ) (stamps : ℕ → ℕ) → 0 ≡ older_than b d s stamps 0
-unfolding older_than set_of
-older-none b d s stamps = refl
-
-pub older-next : (b : List ℕ) (d s : ℕ) (stamps : ℕ → ℕ) (k x r : ℕ)
-    → x ≡ older_than b d s stamps k
-    → r ≡ cond (has s k && ltb (first_in b d k).stamp (stamps k)) (insert x k) x
-    → r ≡ older_than b d s stamps (k + 1)
-unfolding older_than set_of
-older-next b d s stamps k x r e h = rw (add-one k, ← e) h
 
 -- ---- the stamps of the set's items alone count
 

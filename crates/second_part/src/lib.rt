@@ -31,15 +31,14 @@ fn ask_item(b: &mut [u64], d: u64, s: u64, stamps: &[u64], k: u64)
     }
 }
 
+#[tactic(auto, unfolding(basics::specs::Fold::up_to))]
 fn ask_items(b: &mut [u64], d: u64, s: u64, stamps: &[u64], items: u64)
     requires { (1 ≤ d) × (d ≤ 8) × (items ≤ 64) × (length stamps.now ≡ most_items) }
     ensures { b.new ≡ up_to (ask_again d s (λ j. get_or stamps.now j 0))
         b.old items }
 {
-    let mut k = 0;
-    while k < items {
+    for k in 0..items {
         ask_item(b, d, s, stamps, k);
-        k += 1;
     }
 }
 
@@ -58,21 +57,21 @@ fn stale_item(b: &[u64], d: u64, s: u64, stamp: u64, stale: u64, k: u64) -> u64
 }
 
 // The items of set `s` whose first replies are older than these stamps.
+#[tactic(auto, unfolding(crate::specs::SecondPart::older_than, itemset::specs::Set::set_of))]
 fn stale_items(b: &[u64], d: u64, s: u64, stamps: &[u64], items: u64) -> u64
     requires { (1 ≤ d) × (d ≤ 8) × (items ≤ 64) × (length stamps.now ≡ most_items) }
     ensures { result ≡ older_than b.now d s
         (λ j. get_or stamps.now j 0) items }
 {
     let mut stale = 0;
-    let mut k = 0;
-    while k < items {
+    for k in 0..items {
         stale = stale_item(b, d, s, stamps[k as usize], stale, k);
-        k += 1;
     }
     stale
 }
 
 // Client `d` fetches the items of `stale` again, and awaits them.
+#[tactic(auto, unfolding(crate::specs::SecondPart::fetched))]
 fn fetch(b: &mut [u64], items: u64, d: u64, stale: u64)
     requires { (items ≤ 64) × (1 ≤ d) × (d ≤ 8) }
     ensures { b.new ≡ fetched b.old items d stale }

@@ -117,16 +117,6 @@ module _ (b : List ℕ) (d kind : ℕ) where
       ∙ omega (arith, length-write (last_write_in b d), length-members (last_written_set b d) 64 below)))
       (λ e. rw e refl)
 
-pub read_length-le : (kind s : ℕ) → s < 2 ^ 64 → read_length kind s ≤ 584
-read_length-le kind s below =
-    by-test (shows_read kind) (λ e. rw e (omega (arith, count-le s 64 below)))
-    (λ e. rw e (omega arith))
-
-pub write_length-le : (kind s : ℕ) → s < 2 ^ 64 → write_length kind s ≤ 268
-write_length-le kind s below =
-    by-test (shows_write kind) (λ e. rw e (omega (arith, count-le s 64 below)))
-    (λ e. rw e (omega arith))
-
 -- ---- the frame and its length, by kind and sets as read from the block
 
 module _ (b : List ℕ) (d : ℕ) {kind set : ℕ} (k : kind ≡ at b scalars (last_kind_at d))

@@ -1,5 +1,8 @@
 // The log frame of a client's last ended transaction, from the words of the block into a lent
 // output.
+//
+// The read part and the write part stay apart, function by function. One for both would take the
+// kind's test, the sizes and the step as parameters, and would be no shorter than the two.
 
 #![tactic(auto)]
 
@@ -24,14 +27,11 @@ use protocol::kind::{FAST_READ, MIXED, NONE, READ, WRITE, shows_read, shows_writ
 fn frame_byte(kind: u64) -> u8
     ensures { result ≡ frame_byte kind }
 {
-    if kind == READ {
-        0x21
-    } else if kind == WRITE {
-        0x20
-    } else if kind == FAST_READ {
-        0x23
-    } else {
-        0x24
+    match kind {
+        READ => 0x21,
+        WRITE => 0x20,
+        FAST_READ => 0x23,
+        _ => 0x24,
     }
 }
 
@@ -60,11 +60,10 @@ fn last_written_set(b: &[u64], d: u64) -> u64
     requires { (1 ≤ d) × (d ≤ 8) }
     ensures { result ≡ last_written_set b.now d }
 {
-    let set = last_set(b, d);
     if last_kind(b, d) == MIXED {
         last_write_set(b, d)
     } else {
-        set
+        last_set(b, d)
     }
 }
 
@@ -91,6 +90,7 @@ fn put_entry(b: &[u64], d: u64, k: u64, out: &mut [u8], at: usize)
 }
 
 // Item `k` where the last read's set `s` has it, behind the items below it, which begin at `at`.
+#[tactic(auto, using(itemset::proofs::Counts::rank_lt))]
 fn put_read_item(b: &[u64], d: u64, s: u64, out: &mut [u8], at: usize, k: u64)
     requires { (1 ≤ d) × (d ≤ 8) × (k < 64) × (at + 9 * count s ≤ length out.old) }
     ensures { out.new ≡ put_item (read_item b.now d) at 9 s
@@ -102,6 +102,7 @@ fn put_read_item(b: &[u64], d: u64, s: u64, out: &mut [u8], at: usize, k: u64)
 }
 
 // The read part of a last transaction that read set `s`: the set, then its entries, ascending.
+#[tactic(auto, unfolding(basics::specs::Fold::up_to))]
 fn put_read_part(b: &[u64], d: u64, s: u64, out: &mut [u8], at: usize)
     requires { (1 ≤ d) × (d ≤ 8) × (at + 8 + 9 * count s ≤ length out.old) }
     ensures { out.new ≡ sets out.old at
@@ -109,15 +110,14 @@ fn put_read_part(b: &[u64], d: u64, s: u64, out: &mut [u8], at: usize)
 {
     put_bytes(out, at, 8, s);
     let first = at + 8;
-    let mut k = 0;
-    while k < 64 {
+    for k in 0..64 {
         put_read_item(b, d, s, out, first, k);
-        k += 1;
     }
 }
 
 // Item `k` where the last write's set `s` has it, its value (4), behind the items below it, which
 // begin at `at`.
+#[tactic(auto, using(itemset::proofs::Counts::rank_lt))]
 fn put_written_item(b: &[u64], d: u64, s: u64, out: &mut [u8], at: usize, k: u64)
     requires { (1 ≤ d) × (d ≤ 8) × (k < 64) × (at + 4 * count s ≤ length out.old) }
     ensures { out.new ≡ put_item (written_item b.now d) at 4 s
@@ -143,6 +143,7 @@ fn last_number(b: &[u64], d: u64) -> u64
 
 // The write part of a last transaction that wrote set `s`: the set, its number, then the values,
 // ascending.
+#[tactic(auto, unfolding(basics::specs::Fold::up_to))]
 fn put_write_part(b: &[u64], d: u64, s: u64, out: &mut [u8], at: usize)
     requires { (1 ≤ d) × (d ≤ 8) × (at + 12 + 4 * count s ≤ length out.old) }
     ensures { out.new ≡ sets out.old at
@@ -152,10 +153,8 @@ fn put_write_part(b: &[u64], d: u64, s: u64, out: &mut [u8], at: usize)
     put_bytes(out, at, 8, s);
     put_bytes(out, at + 8, 4, number);
     let first = at + 12;
-    let mut k = 0;
-    while k < 64 {
+    for k in 0..64 {
         put_written_item(b, d, s, out, first, k);
-        k += 1;
     }
 }
 

@@ -1,20 +1,20 @@
 -- A block that holds tables, after the start of a mixed transaction, holds the tables after that
 -- start: the client's words are those of both parts, with two values in a word, and a get joins for
 -- each item of the read set, then a prepare for each of the write set.
-use mathlib.Core.Bool.{true, false, cond}
-use mathlib.Core.List.{List, map, ◌++◌, append_assoc}
+use mathlib.Core.Bool.{true, false}
+use mathlib.Core.List.{List, ◌++◌, append_assoc}
 use mathlib.Core.Path.{◌≡◌, refl, sym, ap, ◌∙◌, subst}
-use Prim.Native.Nat.{ℕ, suc, ◌^◌, ◌≤◌, ◌<◌}
+use Prim.Native.Nat.{ℕ, suc, ◌≤◌, ◌<◌}
 use native.Mathlib.Omega.{arith}
 use lib.Dec.{lit<, eqb}
 use lib.ListN.{length}
 use borrow.Author.Tests.{ne_eqb}
 use Rattle.basics.proofs.Cases.{by-test, not-both}
 use Rattle.basics.specs.Fold.{up_to}
-use Rattle.itemset.specs.Set.{has, members}
+use Rattle.itemset.specs.Set.{has}
 use Rattle.itemset.proofs.Laws.{has-below}
 use Rattle.itemset.proofs.Counts.{rank-count}
-use Rattle.itemset.proofs.Pass.{filled, filled_at, filled-below, pass-fills, length-grown}
+use Rattle.itemset.proofs.Pass.{filled, filled_at, filled-below, length-grown}
 use Rattle.protocol.specs.declared.Message.{Message}
 use Rattle.protocol.specs.declared.Message.TheVariants.{Get, Prepare}
 use Rattle.protocol.specs.Tables.{Tables, Client, with_client, with_messages}

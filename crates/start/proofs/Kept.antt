@@ -18,6 +18,7 @@ use Rattle.itemset.specs.Set.{has, insert, insert64}
 use Rattle.itemset.proofs.Laws.{has-empty, has-insert, has-insert-same, insert64-lt}
 use Rattle.itemset.proofs.Bits.{has-and}
 use Rattle.protocol.specs.declared.Entry.{Entry}
+use Rattle.protocol.specs.Tables.{initial}
 use Rattle.protocol.specs.Steps.{choice}
 use Rattle.protocol.proofs.Stored.{choice-own, choice-ge}
 use Rattle.layout.specs.Layout.{most_items}
@@ -39,12 +40,11 @@ pub record Earlier (view : ℕ → Entry) (k stamp reached : ℕ) : Type 0 where
 abbrev slots : ℕ
 slots = 8
 
--- each slot is empty or has an entry before k
-pub record Kept (view : ℕ → Entry) (k : ℕ) (stamps sets : List ℕ) : Type 0 where
-  pub long_stamps : length stamps ≡ slots
-  pub long_sets : length sets ≡ slots
-  pub earlier : (q : ℕ) → q < slots
-      → (get_or sets q 0 ≡ 0) ⊎ Earlier view k (get_or stamps q 0) (get_or sets q 0)
+-- each slot is empty or has an entry before k: its stamp, and the items that it reached
+pub record Kept (view : ℕ → Entry) (k : ℕ) (kept : List Entry) : Type 0 where
+  pub long : length kept ≡ slots
+  pub earlier : (q : ℕ) → q < slots → (none : Entry)
+      → let last = get_or kept q none in (last.set ≡ 0) ⊎ Earlier view k last.stamp last.set
 
 -- an entry counts for all items that it reaches
 choice-reached : (view : ℕ → Entry) (j k p : ℕ) → p < k → has (reach view p) j ≡ true
@@ -102,12 +102,12 @@ raised-kept view s k last kept xs h found =
 
 -- ---- what is kept
 
-pub kept-none : (view : ℕ → Entry) → Kept view 0 (replicate slots 0) (replicate slots 0)
+pub kept-none : (view : ℕ → Entry) → Kept view 0 (replicate slots initial)
 kept-none view =
     record {
-      long_stamps = length-replicate {A = ℕ} slots 0;
-      long_sets = length-replicate {A = ℕ} slots 0;
-      earlier = λ q l. inl (get_or-replicate {A = ℕ} slots q 0 0 l);
+      long = length-replicate {A = Entry} slots initial;
+      earlier = λ q l none.
+          inl (ap (λ (e : Entry). e.set) (get_or-replicate {A = Entry} slots q initial none l));
     }
 
 earlier-next : {view : ℕ → Entry} {k stamp reached : ℕ} → Earlier view k stamp reached
@@ -120,39 +120,36 @@ earlier-next t =
       reaches = t.reaches;
     }
 
-kept_next : (view : ℕ → Entry) (k slot : ℕ) (stamps sets : List ℕ) → slot < slots
-    → Kept view k stamps sets
-    → Kept view (k + 1) (set stamps slot (view k).stamp) (set sets slot (reach view k))
-kept_next view k slot stamps sets l h =
+kept_next : (view : ℕ → Entry) (k slot : ℕ) (kept : List Entry) → slot < slots → Kept view k kept
+    → Kept view (k + 1) (set kept slot (record { stamp = (view k).stamp; set = reach view k }))
+kept_next view k slot kept l h =
+    let here : Entry = record { stamp = (view k).stamp; set = reach view k } in
     record {
-      long_stamps = length-set stamps slot _ ∙ h.long_stamps;
-      long_sets = length-set sets slot _ ∙ h.long_sets;
-      earlier = λ q g. by-test (eqb q slot)
+      long = length-set kept slot here ∙ h.long;
+      earlier = λ q g none. by-test (eqb q slot)
           (λ e. rw (
             eqb-true q slot e,
-            get_or-set_same stamps slot (view k).stamp 0 (omega (arith, h.long_stamps)),
-            get_or-set_same sets slot (reach view k) 0 (omega (arith, h.long_sets)),
+            get_or-set_same kept slot here none (omega (arith, h.long)),
           ) (inr (record { place = k; before = omega arith; stamped = refl; reaches = refl })))
-          (λ e. rw (
-            get_or-set_other stamps slot q (view k).stamp 0 (eqb-false q slot e),
-            get_or-set_other sets slot q (reach view k) 0 (eqb-false q slot e),
-          ) (⊎_elim inl (λ t. inr (earlier-next t)) (h.earlier q g)));
+          (λ e. rw (get_or-set_other kept slot q here none (eqb-false q slot e))
+          (⊎_elim inl (λ t. inr (earlier-next t)) (h.earlier q g none)));
     }
 
 -- ---- the turn
 
 -- entry k has had its turn, whether it had anything left to raise or not
 pub passed-turn : (view : ℕ → Entry) (s k slot stamp entry reached left : ℕ) (xs ys : List ℕ)
-    (stamps sets : List ℕ) → k < most_items → slot < slots → stamp ≡ (view k).stamp
+    (kept : List Entry) (none : Entry) → k < most_items → slot < slots → stamp ≡ (view k).stamp
     → entry ≡ (view k).set → reached ≡ insert64 entry k
-    → left ≡ unraised stamp reached (get_or stamps slot 0) (get_or sets slot 0)
-    → ys ≡ raised (bit_and left s) stamp xs → xs ≡ passed view s k → Kept view k stamps sets
+    → left ≡ unraised stamp reached (get_or kept slot none).stamp (get_or kept slot none).set
+    → ys ≡ raised (bit_and left s) stamp xs → xs ≡ passed view s k → Kept view k kept
     → (ys ≡ passed view s (k + 1))
-    × Kept view (k + 1) (set stamps slot stamp) (set sets slot reached)
-passed-turn view s k slot stamp entry reached left xs ys stamps sets l g p q r u e h kept =
+    × Kept view (k + 1) (set kept slot (record { stamp = stamp; set = reached }))
+passed-turn view s k slot stamp entry reached left xs ys kept none l g p q r u e h before =
     let reaches : reached ≡ reach view k = r ∙ insert64-lt entry k l ∙ rw q in
     let chosen : ChosenAfter view s k xs = rw h (chosen-after view s k) in (
       turn-next (raised_by view s) (replicate most_items 0) xs ys k h
-          (rw (e, u, reaches, p) (raised-kept view s k _ _ xs chosen (kept.earlier slot g))),
-      rw (reaches, p) (kept_next view k slot stamps sets g kept),
+          (rw (e, u, reaches, p)
+          (raised-kept view s k _ _ xs chosen (before.earlier slot g none))),
+      rw (reaches, p) (kept_next view k slot kept g before),
     )

@@ -75,10 +75,6 @@ pub record Raising (s stamp : ℕ) (xs : List ℕ) (left : ℕ) (ys : List ℕ) 
   pub long : length ys ≡ most_items
   pub same : raised left stamp ys ≡ raised s stamp xs
 
-pub raising-first : {s stamp : ℕ} {xs : List ℕ} → s < 2 ^ 64 → length xs ≡ most_items
-    → Raising s stamp xs s xs
-raising-first h long = record { fits = h; long = long; same = refl }
-
 pub raising-least : {s stamp : ℕ} {xs : List ℕ} {left : ℕ} {ys : List ℕ}
     → Raising s stamp xs left ys → 1 ≤ left → count_trailing_zeros 64 left < most_items
 raising-least {left = left} h l = least-below 64 left h.fits l

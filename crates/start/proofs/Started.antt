@@ -1,5 +1,5 @@
 -- The starts step by step: what the calls in a row leave is what the definitions say.
-use mathlib.Core.Bool.{Bool, true, false}
+use mathlib.Core.Bool.{true, false}
 use mathlib.Core.List.{List}
 use mathlib.Core.Path.{◌≡◌, ap, ◌∙◌}
 use Prim.Native.Nat.{ℕ, suc}
@@ -7,17 +7,11 @@ use Rattle.basics.specs.Fold.{up_to}
 use Rattle.protocol.specs.Tables.{stamp_of}
 use Rattle.layout.specs.Layout.{header, scalars, at, store, items_at, count_at, stamp_at}
 use Rattle.layout.specs.Layout.{reading, writing, in_first_part}
-use Rattle.start.specs.Start.{busy, ask_for, ask_item, send_get, begun, read_started}
+use Rattle.start.specs.Start.{busy, ask_for, ask_item, begun, read_started}
 use Rattle.start.specs.Start.{fast_read_started, greatest_on, value_item, send_prepare}
 use Rattle.start.specs.Start.{write_started, busy_mixed, mixed_begun, mixed_started}
 
 module _ (b : List ℕ) (d s items : ℕ) where
-  pub begun-row : (mode : ℕ) (first : Bool) (set sent : List ℕ) → set ≡ busy b d mode s
-      → sent ≡ up_to (send_get first d s) set items → sent ≡ begun b d s mode first items
-  unfolding begun
-  begun-row mode first set sent q r =
-      r ∙ ap (λ (x : List ℕ). up_to (send_get first d s) x items) q
-
   module _ (i : items ≡ at b header items_at) (asked sent : List ℕ) where
     pub read-started : asked ≡ up_to (ask_item d s items) b items
         → sent ≡ begun asked d s reading false items → sent ≡ read_started b d s
@@ -49,12 +43,6 @@ module _ (b : List ℕ) (d s items : ℕ) where
       (q ∙ ap (λ (x : List ℕ). busy x d writing s) p))))
 
   -- of a mixed transaction, whose read set is s
-  pub mixed-begun : (w stamp : ℕ) (got sent : List ℕ) → got ≡ up_to (send_get false d s) b items
-      → sent ≡ up_to (send_prepare true d w stamp) got items → sent ≡ mixed_begun b d s w stamp items
-  unfolding mixed_begun
-  mixed-begun w stamp got sent p q =
-      q ∙ ap (λ (x : List ℕ). up_to (send_prepare true d w stamp) x items) p
-
   pub mixed-started : (w : ℕ) → items ≡ at b header items_at
       → (bytes : List ℕ) (number : ℕ) (asked kept set sent : List ℕ)
       → number ≡ suc (greatest_on b d items)

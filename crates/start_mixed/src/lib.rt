@@ -28,6 +28,7 @@ fn put_mixed(b: &mut [u64], d: u64, r: u64, s: u64, count: u64, stamp: u64)
 }
 
 // The gets of set `r` join, and then the prepares of set `s`.
+#[tactic(auto, unfolding(start::specs::Start::mixed_begun))]
 fn begin(b: &mut [u64], d: u64, r: u64, s: u64, stamp: u64, items: u64)
     requires { (1 ≤ d) × (d ≤ 8) × (items ≤ 64) }
     ensures { b.new ≡ mixed_begun b.old d r s stamp items }
@@ -38,6 +39,7 @@ fn begin(b: &mut [u64], d: u64, r: u64, s: u64, stamp: u64, items: u64)
 
 // Client `d` starts a mixed transaction with read set `r`, and write set `s` with these value
 // bytes, four for each item, in a block with `items` items.
+#[tactic(auto, unfolding(start::specs::Start::mixed_started))]
 pub fn start_mixed(b: &mut [u64], d: u64, r: u64, s: u64, bytes: &[u8], items: u64)
     requires { (1 ≤ d) × (d ≤ 8) × (items ≤ 64) × (items ≡ at b.old header items_at)
         × (greatest_on b.old d items < 2 ^ 32) × (needed ≤ length b.old)

@@ -19,6 +19,7 @@ use protocol::{Message, Version};
 use start::{greatest, put_busy};
 
 // Item `k` of set `s` takes its four bytes as its value.
+#[tactic(auto, using(itemset::proofs::Counts::rank_lt))]
 fn keep_item(b: &mut [u64], mixed: bool, d: u64, s: u64, bytes: &[u8], k: u64)
     requires { (1 ≤ d) × (d ≤ 8) × (k < 64) × (4 * count s ≤ length bytes.now) }
     ensures { b.new ≡ value_item mixed d s bytes.now
@@ -32,6 +33,9 @@ fn keep_item(b: &mut [u64], mixed: bool, d: u64, s: u64, bytes: &[u8], k: u64)
 }
 
 // The values of set `s`, of a write or of a mixed transaction's write part.
+//
+// Stays a `while` from member to member, as `prepare_items` does: a `for` over the items, with the
+// test, was tried, and takes three times as long at sets of up to 12.
 pub fn keep_items(b: &mut [u64], mixed: bool, d: u64, s: u64, bytes: &[u8], items: u64)
     requires { (1 ≤ d) × (d ≤ 8) × (items ≤ 64) × (4 * count s ≤ length bytes.now) }
     ensures { b.new ≡ up_to (value_item mixed d s bytes.now)
@@ -63,7 +67,7 @@ fn prepare_item(b: &mut [u64], mixed: bool, d: u64, s: u64, stamp: u64, k: u64)
     }
 }
 
-// A prepare for each item of set `s`, ascending.
+// A prepare for each item of set `s`, ascending; a `while` for the reason given at `keep_items`.
 pub fn prepare_items(b: &mut [u64], mixed: bool, d: u64, s: u64, stamp: u64, items: u64)
     requires { (1 ≤ d) × (d ≤ 8) × (items ≤ 64) }
     ensures { b.new ≡ up_to (send_prepare mixed d s stamp) b.old items }
@@ -77,6 +81,7 @@ pub fn prepare_items(b: &mut [u64], mixed: bool, d: u64, s: u64, stamp: u64, ite
 
 // Client `d` starts a write of set `s` with these value bytes, four for each item, in a block with
 // `items` items.
+#[tactic(auto, unfolding(start::specs::Start::write_started))]
 pub fn start_write(b: &mut [u64], d: u64, s: u64, bytes: &[u8], items: u64)
     requires { (1 ≤ d) × (d ≤ 8) × (items ≤ 64) × (items ≡ at b.old header items_at)
         × (greatest_on b.old d items < 2 ^ 32) × (needed ≤ length b.old)

@@ -1,0 +1,8 @@
+-- `ends::read::keep_answers` meets its contract: its loop runs the fold.
+use Rattle.std.proofs.Common.{◌≡◌}
+use Rattle.basics.specs.Fold.{up_to}
+use Rattle.ends.specs.Ends.{keep_answer}
+use Rattle.ends.proofs.read.keep_answers.Given as goal
+
+abbrev pub invariant-loop-k : goal.invariant-loop-k
+invariant-loop-k l = l.b ≡ up_to (keep_answer l.d l.s) l.initial.b l.k
