@@ -1,12 +1,13 @@
 -- The replies that have come to a client and count in the load, and whether a message is a prepare,
 -- read off the words.
-use mathlib.Core.Bool.{cond}
+use mathlib.Core.Bool.{Bool, true, false, cond}
 use mathlib.Core.List.{List}
 use mathlib.Core.Logic.{◌≢◌}
 use mathlib.Core.Path.{◌≡◌, refl, sym, ap, ◌∙◌}
 use Prim.Native.Nat.{ℕ, ◌-◌, ◌≤◌, ◌<◌}
 use native.Mathlib.Omega.{arith}
 use lib.Dec.{eqb, leb}
+use mir.Val.{bool_byte}
 use borrow.Author.Tests.{leb-true, leb-false, eqb-true, eqb-false, ne_eqb}
 use Rattle.basics.proofs.Cases.{by-test}
 use Rattle.itemset.specs.Set.{count}
@@ -48,7 +49,11 @@ module _ (b : List ℕ) (d : ℕ) where
   unfolding arrived client_in
   arrived-mixed s a p q e = rw (e, p, q) (omega arith)
 
-pub prepare-kind : (b : List ℕ) (i : ℕ) → is_prepare (message_in b i) ≡ eqb (kind_in b i) 1
+cond-byte : (t : Bool) → bool_byte t ≡ cond t 1 0
+cond-byte true = refl
+cond-byte false = refl
+
+prepare-kind : (b : List ℕ) (i : ℕ) → is_prepare (message_in b i) ≡ eqb (kind_in b i) 1
 unfolding message_in message_of
 prepare-kind b i =
     let n = kind_in b i in
@@ -59,10 +64,6 @@ prepare-kind b i =
     (λ l. let past : kinds < n = leb-false n kinds l in
     ap is_prepare (last-kind n _ _ _ _ _ _ (omega arith)) ∙ sym (ne_eqb n 1 (omega arith))))
 
-pub prepare-one : (b : List ℕ) (i : ℕ) → kind_in b i ≡ 1
-    → ◌≡◌ {A = ℕ} 1 (cond (is_prepare (message_in b i)) 1 0)
-prepare-one b i e = rw (prepare-kind b i, e)
-
-pub prepare-other : (b : List ℕ) (i : ℕ) → kind_in b i ≢ 1
-    → ◌≡◌ {A = ℕ} 0 (cond (is_prepare (message_in b i)) 1 0)
-prepare-other b i n = rw (prepare-kind b i, ne_eqb (kind_in b i) 1 n)
+pub prepare-byte : (b : List ℕ) (i : ℕ) {kind : ℕ} → kind ≡ kind_in b i
+    → bool_byte (eqb kind 1) ≡ cond (is_prepare (message_in b i)) 1 0
+prepare-byte b i e = rw (e, prepare-kind b i) (cond-byte (eqb (kind_in b i) 1))

@@ -18,12 +18,7 @@ fn come(set: u64, awaited: u64) -> u64
     ensures value { result ≡ count set - count awaited }
     ensures upper_bound { result ≤ most_items }
 {
-    let all = itemset::count(set);
-    let left = itemset::count(awaited);
-    if all < left {
-        return 0;
-    }
-    all - left
+    itemset::count(set).saturating_sub(itemset::count(awaited))
 }
 
 // The prepared replies that have come to client `d`, which writes, in a mixed transaction too, or
@@ -33,20 +28,14 @@ fn arrived_at(b: &[u64], d: u64) -> u64
     ensures value { result ≡ arrived (client_in b.now d) }
     ensures upper_bound { result ≤ most_items }
 {
-    let mode = client_fields::mode(b, d);
-    if mode < WRITING {
-        return 0;
-    }
-    if mode <= FIRST_PART {
-        return come(client_fields::set_of(b, d), client_fields::awaited(b, d));
-    }
-    if mode == MIXING {
-        return come(
+    match client_fields::mode(b, d) {
+        WRITING | FIRST_PART => come(client_fields::set_of(b, d), client_fields::awaited(b, d)),
+        MIXING => come(
             client_fields::write_set(b, d),
             client_fields::write_awaited(b, d),
-        );
+        ),
+        _ => 0,
     }
-    0
 }
 
 fn arrived_all(b: &[u64], clients: u64) -> u64
@@ -55,10 +44,8 @@ fn arrived_all(b: &[u64], clients: u64) -> u64
     ensures upper_bound { result ≤ most_items * clients }
 {
     let mut sum = 0;
-    let mut i = 0;
-    while i < clients {
+    for i in 0..clients {
         sum += arrived_at(b, i + 1);
-        i += 1;
     }
     sum
 }
@@ -77,11 +64,7 @@ fn prepare_at(b: &[u64], i: u64) -> u64
     ensures value { result ≡ cond (is_prepare (message_in b.now i)) 1 0 }
     ensures upper_bound { result ≤ 1 }
 {
-    if message_word(b, i, 0) == PREPARE {
-        1
-    } else {
-        0
-    }
+    u64::from(message_word(b, i, 0) == PREPARE)
 }
 
 fn prepares(b: &[u64], messages: u64) -> u64
@@ -90,10 +73,8 @@ fn prepares(b: &[u64], messages: u64) -> u64
     ensures upper_bound { result ≤ messages }
 {
     let mut sum = 0;
-    let mut i = 0;
-    while i < messages {
+    for i in 0..messages {
         sum += prepare_at(b, i);
-        i += 1;
     }
     sum
 }
@@ -116,9 +97,5 @@ pub fn occupied_fits(b: &[u64], versions: u64, messages: u64) -> bool
     ensures { result ≡ leb (versions + counted is_prepare
         (table messages (message_in b.now))) most_versions }
 {
-    if versions + messages <= MOST_VERSIONS {
-        true
-    } else {
-        occupied_of(b, versions, messages) <= MOST_VERSIONS
-    }
+    versions + messages <= MOST_VERSIONS || occupied_of(b, versions, messages) <= MOST_VERSIONS
 }

@@ -17,12 +17,8 @@ pub fn views_in_range(b: &[u64], clients: u64, items: u64) -> bool
     ensures { result ≡ every (suc clients) (λ i. every items
         (λ k. entry_in_range (sized clients items) (entry_from b.now (entries_at i) k))) }
 {
-    let mut ok = true;
-    let mut i = 0;
-    while i <= clients {
+    (0..clients + 1).all(|i| {
         let start = LATEST + ENTRY_WORDS * MOST_ITEMS * i;
-        ok = ok & entries_in_range(b, start, clients, items);
-        i += 1;
-    }
-    ok
+        entries_in_range(b, start, clients, items)
+    })
 }

@@ -14,19 +14,29 @@ mod entry;
 
 use layout::{MOST_CLIENTS, MOST_ITEMS, MOST_MESSAGES, MOST_PARTITIONS, MOST_VERSIONS, NEEDED};
 
-// The sizes are some that 2 allows, and there are no more versions and messages than a block holds.
+// There is a size, and no more than `most`.
+fn within(size: u64, most: u64) -> bool
+    ensures { result ≡ (leb 1 size && leb size most) }
+{
+    (1..=most).contains(&size)
+}
+
+// The sizes are some that 2 allows.
+#[tactic(auto, unfolding(protocol::specs::Range::sizes_in_range))]
+pub fn sizes_in_range(clients: u64, partitions: u64, items: u64) -> bool
+    ensures { result ≡ sizes_in_range (sizes clients partitions items) }
+{
+    within(clients, MOST_CLIENTS) & within(partitions, MOST_PARTITIONS) & within(items, MOST_ITEMS)
+}
+
+// So are they in a header, where there are no more versions and messages than a block holds.
 fn header_in_range(clients: u64, partitions: u64, items: u64, versions: u64, messages: u64) -> bool
     ensures { result ≡ (sizes_in_range (sizes clients partitions items) && leb versions most_versions
         && leb messages most_messages) }
 {
-    (1 <= clients)
-        & (clients <= MOST_CLIENTS)
-        & (1 <= partitions)
-        & (partitions <= MOST_PARTITIONS)
-        & (1 <= items)
-        & (items <= MOST_ITEMS)
-        & (versions <= MOST_VERSIONS)
-        & (messages <= MOST_MESSAGES)
+    sizes_in_range(clients, partitions, items)
+        && (versions <= MOST_VERSIONS)
+        && (messages <= MOST_MESSAGES)
 }
 
 // All that the sizes and counts lead to.
@@ -59,22 +69,15 @@ fn long_block(b: &[u64]) -> bool
     let items = layout::items(b);
     let versions = layout::version_count(b);
     let messages = layout::message_count(b);
-    if header_in_range(clients, partitions, items, versions, messages) {
-        tables_in_range(b, clients, partitions, items, versions, messages)
-    } else {
-        false
-    }
+    header_in_range(clients, partitions, items, versions, messages)
+        && tables_in_range(b, clients, partitions, items, versions, messages)
 }
 
 // Whether `b` is not refused by 1. Any words, any number of them.
 pub fn valid_block(b: &[u64]) -> bool
     ensures { result ≡ valid_block b.now }
 {
-    if b.len() < NEEDED {
-        false
-    } else {
-        long_block(b)
-    }
+    NEEDED <= b.len() && long_block(b)
 }
 
 // The load of a valid block.

@@ -2,3 +2,4 @@
 pub mod Subsets
 pub mod FirstTests
 pub mod ClientTests
+pub mod Chains

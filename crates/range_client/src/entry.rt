@@ -22,7 +22,8 @@ fn entry_word(b: &[u64], start: u64, k: u64, f: u64) -> u64
     b[place]
 }
 
-// Those entries of the items, tested once.
+// Those entries of the items, tested once. What is gathered stays four words: `gather` tests stamps
+// and entries alike by words, so a struct of this one loop would be taken apart again.
 pub fn entries_in_range(b: &[u64], start: u64, clients: u64, items: u64) -> bool
     requires { (start ≤ base versions) × (clients ≤ most_clients) × (items ≤ most_items)
         × (needed ≤ length b.now) }
@@ -34,15 +35,13 @@ pub fn entries_in_range(b: &[u64], start: u64, clients: u64, items: u64) -> bool
     let mut mixes = 0;
     let mut rooms = 0;
     let mut sets = 0;
-    let mut k = 0;
-    while k < items {
+    for k in 0..items {
         let stamp = entry_word(b, start, k, 0);
         let set = entry_word(b, start, k, 1);
         stamps = stamps | stamp;
         mixes = mixes | mixed(stamp);
         rooms = rooms | roomed(stamp, clients, room);
         sets = sets | set;
-        k += 1;
     }
     entries_pass(clients, items, stamps, mixes, rooms, sets)
 }
@@ -61,16 +60,11 @@ pub fn some_entries_in_range(
     ensures { result ≡ every items (λ k. not (has set k) || has but k
         || entry_in_range (sized clients items) (entry_from b.now start k)) }
 {
-    let mut ok = true;
-    let mut k = 0;
-    while k < items {
+    (0..items).all(|k| {
         let stamp = entry_word(b, start, k, 0);
         let set_of = entry_word(b, start, k, 1);
-        ok = ok
-            & (lacks(set, k)
-                | itemset::has(but, k)
-                | entry_in_range(clients, items, Entry { stamp, set: set_of }));
-        k += 1;
-    }
-    ok
+        lacks(set, k)
+            | itemset::has(but, k)
+            | entry_in_range(clients, items, Entry { stamp, set: set_of })
+    })
 }

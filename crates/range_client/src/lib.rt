@@ -36,7 +36,8 @@ fn item_word(b: &[u64], start: u64, d: u64, k: u64) -> u64
     b[place]
 }
 
-// All the stamps of client `d` in the section from `start` on, tested once.
+// All the stamps of client `d` in the section from `start` on, tested once. What is gathered stays
+// three words, which a struct would only name again.
 fn all_stamps_in_range(b: &[u64], start: u64, d: u64, clients: u64, items: u64) -> bool
     requires { (start ≤ base last_values) × (1 ≤ d) × (d ≤ most_clients) × (clients ≤ most_clients)
         × (items ≤ most_items) × (needed ≤ length b.now) }
@@ -47,13 +48,11 @@ fn all_stamps_in_range(b: &[u64], start: u64, d: u64, clients: u64, items: u64) 
     let mut stamps = 0;
     let mut mixes = 0;
     let mut rooms = 0;
-    let mut k = 0;
-    while k < items {
+    for k in 0..items {
         let stamp = item_word(b, start, d, k);
         stamps = stamps | stamp;
         mixes = mixes | mixed(stamp);
         rooms = rooms | roomed(stamp, clients, room);
-        k += 1;
     }
     stamps_pass(clients, stamps, mixes, rooms)
 }
@@ -65,13 +64,7 @@ fn some_stamps_in_range(b: &[u64], start: u64, d: u64, set: u64, clients: u64, i
     ensures { result ≡ each (sized clients items) set
         (λ k. stamp_in_range (sized clients items) (get_or b.now (start + item_at d k) 0)) }
 {
-    let mut ok = true;
-    let mut k = 0;
-    while k < items {
-        ok = ok & (lacks(set, k) | stamp_in_range(clients, item_word(b, start, d, k)));
-        k += 1;
-    }
-    ok
+    (0..items).all(|k| lacks(set, k) | stamp_in_range(clients, item_word(b, start, d, k)))
 }
 
 // The same: words that a store has written are in range in or out of the set, so that the set is
@@ -98,11 +91,9 @@ fn all_values_in_range(b: &[u64], start: u64, d: u64, items: u64) -> bool
     ensures { result ≡ every items (λ k. fits (get_or b.now (start + item_at d k) 0)) }
 {
     let mut values = 0;
-    let mut k = 0;
-    while k < items {
+    for k in 0..items {
         let value = item_word(b, start, d, k);
         values = values | value;
-        k += 1;
     }
     values < 4294967296
 }
@@ -114,13 +105,7 @@ fn some_values_in_range(b: &[u64], start: u64, d: u64, set: u64, items: u64) -> 
     ensures { result ≡ each (sized 0 items) set
         (λ k. fits (get_or b.now (start + item_at d k) 0)) }
 {
-    let mut ok = true;
-    let mut k = 0;
-    while k < items {
-        ok = ok & (lacks(set, k) | (item_word(b, start, d, k) < 4294967296));
-        k += 1;
-    }
-    ok
+    (0..items).all(|k| lacks(set, k) | (item_word(b, start, d, k) < 4294967296))
 }
 
 // The same, likewise: only words that a mixed transaction left may be out of range.
@@ -358,11 +343,5 @@ pub fn clients_in_range(b: &[u64], clients: u64, items: u64) -> bool
     requires { (clients ≤ most_clients) × (items ≤ most_items) × (needed ≤ length b.now) }
     ensures { result ≡ every clients (λ i. client_test b.now (suc i) clients items) }
 {
-    let mut ok = true;
-    let mut i = 0;
-    while i < clients {
-        ok = ok & client_in_range(b, i + 1, clients, items);
-        i += 1;
-    }
-    ok
+    (0..clients).all(|i| client_in_range(b, i + 1, clients, items))
 }

@@ -12,17 +12,15 @@ use borrow.Author.Tests.{le-leb, lt-leb, lt-ltb, eqb-true, eqb-false}
 use Rattle.basics.proofs.Cases.{by-test, test-ext}
 use Rattle.itemset.specs.Set.{has, all_below}
 use Rattle.protocol.proofs.Tells.{tells-and}
-use Rattle.protocol.specs.declared.Entry.{Entry}
-use Rattle.protocol.specs.declared.Message.{Message}
 use Rattle.protocol.specs.Message.{kinds}
 use Rattle.protocol.specs.Range.{not_initial, stamp_in_range, entry_in_range, message_in_range}
 use Rattle.layout.specs.Decode.{message_of, message_in}
-use Rattle.layout.specs.Encodes.{word}
-use Rattle.gather.specs.Sized.{sizes, sized}
+use Rattle.gather.specs.Sized.{sized}
 use Rattle.gather.specs.Words.{owned, owns_test}
 use Rattle.gather.proofs.Parts.{later-parts}
 use Rattle.gather.proofs.OwnedStamps.{own-word}
-use Rattle.range_message.specs.Messages.{message_test}
+use Rattle.range_message.specs.declared.Words.{Words}
+use Rattle.range_message.specs.Messages.{words_in, words_test, message_test}
 
 -- ---- the same tests in another order, where those of parts that a kind doesn't have are passed
 
@@ -54,10 +52,6 @@ pub owned-word : (c stamp : ℕ) {own : ℕ} → c ≤ 8 → stamp < 2 ^ 64 → 
 owned-word c stamp m l e = ap owns_test e ∙ own-word c stamp m l ∙ sym (later-parts c 0 stamp)
 
 module _ (clients partitions items : ℕ) (some : 1 ≤ partitions) (one : 1 ≤ items) where
-  abbrev number_test : ℕ → Message → Bool
-  number_test kind m =
-      leb 1 kind && leb kind kinds && message_in_range (sizes clients partitions items) m
-
   partition-0 : ltb 0 partitions ≡ true
   partition-0 = lt-ltb 0 partitions some
 
@@ -68,76 +62,74 @@ module _ (clients partitions items : ℕ) (some : 1 ≤ partitions) (one : 1 ≤
   empty-below = lt-ltb 0 (2 ^ items) (pow_pos items)
 
   -- from the outcomes of the tests that its kind asks for
-  module _ (kind who k v stamp s : ℕ) (e : Entry) where
+  module _ (m : Words) where
     abbrev whole : Bool
-    whole = number_test kind (message_of kind who k v stamp s e)
+    whole = words_test m clients partitions items
 
-    pub prepare-tests : {later own : Bool}
-        → later ≡ (stamp_in_range (sized clients 0) stamp && not_initial stamp) → own ≡ has s k
-        → kind ≡ 1
-        → ((ltb k items && own) && ltb v (2 ^ 32) && later && ltb s (2 ^ items)) ≡ whole
+    abbrev stamp-passes : Bool
+    stamp-passes = stamp_in_range (sized clients 0) m.stamp
+
+    abbrev later-passes : Bool
+    later-passes = stamp-passes && not_initial m.stamp
+
+    abbrev client-passes : Bool
+    client-passes = leb 1 m.who && leb m.who clients
+
+    pub prepare-tests : {later own : Bool} → later ≡ later-passes → own ≡ has m.set m.item
+        → m.kind ≡ 1
+        → ((ltb m.item items && own) && ltb m.value (2 ^ 32) && later && ltb m.set (2 ^ items))
+        ≡ whole
     unfolding message_of message_in_range entry_in_range stamp_in_range
     prepare-tests p o q = rw (p, o, q, partition-0, empty-below)
-        (version-order (ltb k items) (ltb v (2 ^ 32)) _ (not (eqb stamp 0)) (ltb s (2 ^ items))
-        (has s k))
+        (version-order (ltb m.item items) (ltb m.value (2 ^ 32)) _ (not (eqb m.stamp 0))
+        (ltb m.set (2 ^ items)) (has m.set m.item))
 
-    pub prepared-tests : {later : Bool}
-        → later ≡ (stamp_in_range (sized clients 0) stamp && not_initial stamp) → kind ≡ 2
-        → (ltb k items && later) ≡ whole
+    pub prepared-tests : {later : Bool} → later ≡ later-passes → m.kind ≡ 2
+        → (ltb m.item items && later) ≡ whole
     unfolding message_of message_in_range entry_in_range stamp_in_range
     prepared-tests p q =
-        ap (λ (x : Bool). ltb k items && x) p
-        ∙ grouped (ltb k items) (stamp_in_range (sized clients 0) stamp) (not_initial stamp)
+        ap (λ (x : Bool). ltb m.item items && x) p
+        ∙ grouped (ltb m.item items) stamp-passes (not_initial m.stamp)
         ∙ rw (q, partition-0, empty-below) (simp passed)
 
-    pub commit-tests : {later : Bool}
-        → later ≡ (stamp_in_range (sized clients 0) stamp && not_initial stamp) → kind ≡ 3
-        → (ltb who partitions && later) ≡ whole
+    pub commit-tests : {later : Bool} → later ≡ later-passes → m.kind ≡ 3
+        → (ltb m.who partitions && later) ≡ whole
     unfolding message_of message_in_range entry_in_range stamp_in_range
     commit-tests p q =
-        ap (λ (x : Bool). ltb who partitions && x) p
-        ∙ grouped (ltb who partitions) (stamp_in_range (sized clients 0) stamp) (not_initial stamp)
+        ap (λ (x : Bool). ltb m.who partitions && x) p
+        ∙ grouped (ltb m.who partitions) stamp-passes (not_initial m.stamp)
         ∙ rw (q, item-0, empty-below) (simp passed)
 
-    pub no-kind-tests : kind ≡ 0 → false ≡ whole
+    pub no-kind-tests : m.kind ≡ 0 → false ≡ whole
     no-kind-tests q = rw q
 
-    pub get_tests : {stamped : Bool} → stamped ≡ stamp_in_range (sized clients 0) stamp → kind ≡ 4
-        → ((leb 1 who && leb who clients) && ltb k items && stamped) ≡ whole
+    pub get_tests : {stamped : Bool} → stamped ≡ stamp-passes → m.kind ≡ 4
+        → (client-passes && ltb m.item items && stamped) ≡ whole
     unfolding message_of message_in_range entry_in_range stamp_in_range
     get_tests p q = rw (p, q, empty-below) (simp passed)
 
-    pub first-get-tests : kind ≡ 6
-        → ((leb 1 who && leb who clients) && ltb k items) ≡ whole
+    pub first-get-tests : m.kind ≡ 6 → (client-passes && ltb m.item items) ≡ whole
     unfolding message_of message_in_range entry_in_range stamp_in_range
     first-get-tests q = rw (q, empty-below) (simp passed)
 
-  pub got-tests : (kind who k v stamp s : ℕ) (e : Entry) {version entry : Bool}
-      → version ≡ stamp_in_range (sized clients 0) stamp
-      → entry ≡ stamp_in_range (sized clients 0) e.stamp → 5 ≤ kind → kind ≢ 6
-      → (((eqb kind 5 || eqb kind 7) && (leb 1 who && leb who clients) && ltb k items)
-      && ltb v (2 ^ 32) && (version && all_below s items) && (entry && all_below e.set items))
-      ≡ number_test kind (message_of kind who k v stamp s e)
-  unfolding message_of message_in_range entry_in_range stamp_in_range
-  got-tests kind who k v stamp s e p q l n =
-      let order = got-order (leb 1 who && leb who clients) (ltb k items) (ltb v (2 ^ 32)) _
-      (ltb s (2 ^ items)) _ in
-      by-test (eqb kind 5) (λ f. rw (eqb-true kind 5 f, p, q) order)
-      (λ f. by-test (eqb kind 7) (λ g. rw (eqb-true kind 7 g, p, q) order)
-      (λ g.
-      let past : kinds < kind = omega (arith, n, eqb-false kind 5 f, eqb-false kind 7 g) in
-      rw (f, g, le-leb 1 kind (omega arith), lt-leb kind kinds past) refl))
+    pub got-tests : {version entry : Bool} → version ≡ stamp-passes
+        → entry ≡ stamp_in_range (sized clients 0) m.latest.stamp → 5 ≤ m.kind → m.kind ≢ 6
+        → (((eqb m.kind 5 || eqb m.kind 7) && client-passes && ltb m.item items)
+        && ltb m.value (2 ^ 32) && (version && all_below m.set items)
+        && (entry && all_below m.latest.set items)) ≡ whole
+    unfolding message_of message_in_range entry_in_range stamp_in_range
+    got-tests p q l n =
+        let order = got-order client-passes (ltb m.item items) (ltb m.value (2 ^ 32)) _
+        (ltb m.set (2 ^ items)) _ in
+        by-test (eqb m.kind 5) (λ f. rw (eqb-true m.kind 5 f, p, q) order)
+        (λ f. by-test (eqb m.kind 7) (λ g. rw (eqb-true m.kind 7 g, p, q) order)
+        (λ g.
+        let past : kinds < m.kind = omega (arith, n, eqb-false m.kind 5 f, eqb-false m.kind 7 g) in
+        rw (f, g, le-leb 1 m.kind (omega arith), lt-leb m.kind kinds past) refl))
 
   -- read off the block
-  pub message-words : (b : List ℕ) (i : ℕ) (before : Bool) {r : Bool} {kind who k v stamp s : ℕ}
-      {e : Entry}
-      → r ≡ (before && number_test kind (message_of kind who k v stamp s e))
-      → kind ≡ word b i 0 → who ≡ word b i 1 → k ≡ word b i 2 → v ≡ word b i 3 → stamp ≡ word b i 4
-      → s ≡ word b i 5
-      → e.stamp ≡ word b i 6 → e.set ≡ word b i 7
-      → r ≡ (before && message_test b i clients partitions items)
+  pub message-read : (b : List ℕ) (i : ℕ)
+      → words_test (words_in b i) clients partitions items
+      ≡ message_test b i clients partitions items
   unfolding message_in
-  message-words b i before {e = e} h p₀ p₁ p₂ p₃ p₄ p₅ p₆ p₇ =
-      let entry : e ≡ record { stamp = word b i 6; set = word b i 7 } =
-      λ j. record { stamp = p₆ j; set = p₇ j } in
-      h ∙ rw (p₀, p₁, p₂, p₃, p₄, p₅, entry)
+  message-read b i = refl

@@ -1,4 +1,5 @@
-// The calls but a delivery, each with its answer. A refused one changes nothing.
+// The calls but a delivery, each with its answer. A refused one changes nothing: its first step, the
+// refusal table's tests, hands the refusal on.
 
 #![tactic(auto)]
 
@@ -8,12 +9,34 @@ ghost use Rattle.protocol.specs.Calls.{clear, hand_over, compare, check};
 ghost use Rattle.layout.specs.Layout.{needed, header, at, items_at};
 ghost use Rattle.layout.specs.Decode.{tables_of};
 ghost use Rattle.gather.specs.Sized.{sizes};
-ghost use Rattle.block_calls.specs.Calls.{fresh_answer_on, fresh_after, fresh_tables, refusal_on};
+ghost use Rattle.block_calls.specs.Calls.{fresh_answer_on, fresh_after, fresh_tables};
 ghost use Rattle.block_calls.specs.Calls.{answer_on, output_on, block_after, tables_after, read_call};
 ghost use Rattle.block_calls.specs.Calls.{read_changed};
+ghost use Rattle.store_calls.specs.Answered.{answer_of};
 
 use protocol::Answer;
+use protocol::refusal::Refusal;
 use show::{frame_length, write_frame};
+
+// The answer of a call, of a refused one too.
+fn answered(given: Result<Answer, Refusal>) -> Answer
+    ensures { result ≡ answer_of given }
+{
+    match given {
+        Ok(answer) => answer,
+        Err(refusal) => refusal.into(),
+    }
+}
+
+fn try_fresh(b: &mut [u64], clients: u64, partitions: u64, items: u64) -> Result<Answer, Refusal>
+    ensures answer { answer_of result ≡ fresh_answer_on b.old (sizes clients partitions items) }
+    ensures block { b.new ≡ fresh_after b.old (sizes clients partitions items) }
+    ensures tables { tables_of b.new ≡ fresh_tables b.old (sizes clients partitions items) }
+{
+    refusals::of_fresh(b, clients, partitions, items)?;
+    layout::make_fresh(b, clients, partitions, items);
+    Ok(Answer::Made)
+}
 
 pub fn fresh(b: &mut [u64], clients: u64, partitions: u64, items: u64) -> Answer
     ensures answer { result ≡ fresh_answer_on b.old (sizes clients partitions items) }
@@ -22,16 +45,11 @@ pub fn fresh(b: &mut [u64], clients: u64, partitions: u64, items: u64) -> Answer
     ensures tables { tables_of b.new
         ≡ fresh_tables b.old (sizes clients partitions items) }
 {
-    let refusal = refusals::of_fresh(b, clients, partitions, items);
-    if refusal == 0 {
-        layout::make_fresh(b, clients, partitions, items);
-        Answer::Made
-    } else {
-        Answer::Refused(refusal)
-    }
+    answered(try_fresh(b, clients, partitions, items))
 }
 
-// What the start of a read changes.
+// What the start of a read changes. Stays a flag: the clauses of `read` speak of it, and one
+// function for both kinds is quicker than two.
 fn begin_read(b: &mut [u64], fast: bool, d: u64, s: u64, items: u64)
     requires { (1 ≤ d) × (d ≤ 8) × (items ≤ 64) × (items ≡ at b.old header items_at)
         × (needed ≤ length b.old) }
@@ -44,16 +62,15 @@ fn begin_read(b: &mut [u64], fast: bool, d: u64, s: u64, items: u64)
     }
 }
 
-// A read that is accepted, ordinary or fast.
-fn read_on(b: &mut [u64], fast: bool, d: u64, s: u64) -> Answer
-    requires { refusal_on b.old (read_call fast d s) ≡ 0 }
-    ensures answer { result ≡ answer_on b.old (read_call fast d s) }
+fn try_read(b: &mut [u64], fast: bool, d: u64, s: u64) -> Result<Answer, Refusal>
+    ensures answer { answer_of result ≡ answer_on b.old (read_call fast d s) }
     ensures block { b.new ≡ block_after b.old (read_call fast d s) }
 {
+    refusals::of_read(b, d, s)?;
     let items = layout::items(b);
     begin_read(b, fast, d, s, items);
     let length = layout::message_count(b);
-    Answer::Started { length }
+    Ok(Answer::Started { length })
 }
 
 // The start of a read, ordinary or fast: a fast one is refused as a read is (document 02, P7).
@@ -63,12 +80,7 @@ pub fn read(b: &mut [u64], fast: bool, d: u64, s: u64) -> Answer
     ensures tables { tables_of b.new
         ≡ tables_after b.old (read_call fast d s) }
 {
-    let refusal = refusals::of_read(b, d, s);
-    if refusal == 0 {
-        read_on(b, fast, d, s)
-    } else {
-        Answer::Refused(refusal)
-    }
+    answered(try_read(b, fast, d, s))
 }
 
 pub fn start_read(b: &mut [u64], d: u64, s: u64) -> Answer
@@ -89,17 +101,16 @@ pub fn start_fast_read(b: &mut [u64], d: u64, s: u64) -> Answer
     read(b, true, d, s)
 }
 
-// A write that is accepted.
-fn write_on(b: &mut [u64], d: u64, s: u64, bytes: &[u8]) -> Answer
-    requires { refusal_on b.old (start_write d s bytes.now) ≡ 0 }
-    ensures answer { result ≡ answer_on b.old (start_write d s bytes.now) }
+fn try_write(b: &mut [u64], d: u64, s: u64, bytes: &[u8]) -> Result<Answer, Refusal>
+    ensures answer { answer_of result ≡ answer_on b.old (start_write d s bytes.now) }
     ensures block { b.new ≡ block_after b.old
         (start_write d s bytes.now) }
 {
+    refusals::of_write(b, d, s, bytes)?;
     let items = layout::items(b);
     start_write::start_write(b, d, s, bytes, items);
     let length = layout::message_count(b);
-    Answer::Started { length }
+    Ok(Answer::Started { length })
 }
 
 pub fn start_write(b: &mut [u64], d: u64, s: u64, bytes: &[u8]) -> Answer
@@ -109,26 +120,20 @@ pub fn start_write(b: &mut [u64], d: u64, s: u64, bytes: &[u8]) -> Answer
     ensures tables { tables_of b.new
         ≡ tables_after b.old (start_write d s bytes.now) }
 {
-    let refusal = refusals::of_write(b, d, s, bytes);
-    if refusal == 0 {
-        write_on(b, d, s, bytes)
-    } else {
-        Answer::Refused(refusal)
-    }
+    answered(try_write(b, d, s, bytes))
 }
 
-// A mixed transaction that is accepted.
-fn mixed_on(b: &mut [u64], d: u64, r: u64, s: u64, bytes: &[u8]) -> Answer
-    requires { refusal_on b.old (start_mixed d r s bytes.now) ≡ 0 }
-    ensures answer { result ≡ answer_on b.old
+fn try_mixed(b: &mut [u64], d: u64, r: u64, s: u64, bytes: &[u8]) -> Result<Answer, Refusal>
+    ensures answer { answer_of result ≡ answer_on b.old
         (start_mixed d r s bytes.now) }
     ensures block { b.new ≡ block_after b.old
         (start_mixed d r s bytes.now) }
 {
+    refusals::of_mixed(b, d, r, s, bytes)?;
     let items = layout::items(b);
     start_mixed::start_mixed(b, d, r, s, bytes, items);
     let length = layout::message_count(b);
-    Answer::Started { length }
+    Ok(Answer::Started { length })
 }
 
 // It reads set `r` and writes set `s` (document 02, P8).
@@ -140,25 +145,18 @@ pub fn start_mixed(b: &mut [u64], d: u64, r: u64, s: u64, bytes: &[u8]) -> Answe
     ensures tables { tables_of b.new
         ≡ tables_after b.old (start_mixed d r s bytes.now) }
 {
-    let refusal = refusals::of_mixed(b, d, r, s, bytes);
-    if refusal == 0 {
-        mixed_on(b, d, r, s, bytes)
-    } else {
-        Answer::Refused(refusal)
-    }
+    answered(try_mixed(b, d, r, s, bytes))
 }
 
-// A showing that is accepted.
-fn show_on(b: &[u64], d: u64, out: &mut [u8]) -> Answer
-    requires { refusal_on b.now (show d out.old) ≡ 0 }
-    ensures answer { result ≡ answer_on b.now (show d out.old) }
+fn try_show(b: &[u64], d: u64, out: &mut [u8]) -> Result<Answer, Refusal>
+    ensures answer { answer_of result ≡ answer_on b.now (show d out.old) }
     ensures output { out.new ≡ output_on b.now
         (show d out.old) }
 {
+    refusals::of_show(b, d, out)?;
     write_frame(b, d, out);
-    Answer::Shown {
-        length: frame_length(b, d),
-    }
+    let length = frame_length(b, d);
+    Ok(Answer::Shown { length })
 }
 
 // The block is lent shared: a showing doesn't change it.
@@ -169,22 +167,16 @@ pub fn show(b: &[u64], d: u64, out: &mut [u8]) -> Answer
     ensures output { out.new ≡ output_on b.now
         (show d out.old) }
 {
-    let refusal = refusals::of_show(b, d, out);
-    if refusal == 0 {
-        show_on(b, d, out)
-    } else {
-        Answer::Refused(refusal)
-    }
+    answered(try_show(b, d, out))
 }
 
-// A clearing that is accepted.
-fn clear_on(b: &mut [u64]) -> Answer
-    requires { refusal_on b.old clear ≡ 0 }
-    ensures answer { result ≡ answer_on b.old clear }
+fn try_clear(b: &mut [u64]) -> Result<Answer, Refusal>
+    ensures answer { answer_of result ≡ answer_on b.old clear }
     ensures block { b.new ≡ block_after b.old clear }
 {
+    refusals::of_clear(b)?;
     let gone = clear::clear(b);
-    Answer::Cleared { gone }
+    Ok(Answer::Cleared { gone })
 }
 
 pub fn clear(b: &mut [u64]) -> Answer
@@ -192,23 +184,17 @@ pub fn clear(b: &mut [u64]) -> Answer
     ensures block { b.new ≡ block_after b.old clear }
     ensures tables { tables_of b.new ≡ tables_after b.old clear }
 {
-    let refusal = refusals::of_clear(b);
-    if refusal == 0 {
-        clear_on(b)
-    } else {
-        Answer::Refused(refusal)
-    }
+    answered(try_clear(b))
 }
 
-// A hand-over that is accepted.
-fn hand_over_on(b: &mut [u64], giver: u64, receiver: u64) -> Answer
-    requires { refusal_on b.old (hand_over giver receiver) ≡ 0 }
-    ensures answer { result ≡ answer_on b.old (hand_over giver receiver) }
+fn try_hand_over(b: &mut [u64], giver: u64, receiver: u64) -> Result<Answer, Refusal>
+    ensures answer { answer_of result ≡ answer_on b.old (hand_over giver receiver) }
     ensures block { b.new ≡ block_after b.old (hand_over giver receiver) }
 {
+    refusals::of_hand_over(b, giver, receiver)?;
     let items = layout::items(b);
     hand_over::hand_over(b, giver, receiver, items);
-    Answer::HandedOver { giver, receiver }
+    Ok(Answer::HandedOver { giver, receiver })
 }
 
 pub fn hand_over(b: &mut [u64], giver: u64, receiver: u64) -> Answer
@@ -217,22 +203,16 @@ pub fn hand_over(b: &mut [u64], giver: u64, receiver: u64) -> Answer
     ensures tables { tables_of b.new
         ≡ tables_after b.old (hand_over giver receiver) }
 {
-    let refusal = refusals::of_hand_over(b, giver, receiver);
-    if refusal == 0 {
-        hand_over_on(b, giver, receiver)
-    } else {
-        Answer::Refused(refusal)
-    }
+    answered(try_hand_over(b, giver, receiver))
 }
 
-// A comparison that is accepted.
-fn compare_on(b: &[u64], first: u64, second: u64) -> Answer
-    requires { refusal_on b.now (compare first second) ≡ 0 }
-    ensures answer { result ≡ answer_on b.now (compare first second) }
+fn try_compare(b: &[u64], first: u64, second: u64) -> Result<Answer, Refusal>
+    ensures { answer_of result ≡ answer_on b.now (compare first second) }
 {
+    refusals::of_compare(b, first, second)?;
     let items = layout::items(b);
     let standing = hand_over::compare(b, first, second, items);
-    Answer::Compared { standing }
+    Ok(Answer::Compared { standing })
 }
 
 // The block is lent shared: a comparison doesn't change it.
@@ -240,12 +220,14 @@ pub fn compare(b: &[u64], first: u64, second: u64) -> Answer
     ensures answer { result ≡ answer_on b.now (compare first second) }
     ensures block { b.now ≡ block_after b.now (compare first second) }
 {
-    let refusal = refusals::of_compare(b, first, second);
-    if refusal == 0 {
-        compare_on(b, first, second)
-    } else {
-        Answer::Refused(refusal)
-    }
+    answered(try_compare(b, first, second))
+}
+
+fn try_check(b: &[u64]) -> Result<Answer, Refusal>
+    ensures { answer_of result ≡ answer_on b.now check }
+{
+    refusals::of_check(b)?;
+    Ok(Answer::Checked)
 }
 
 // The block is lent shared: a check doesn't change it.
@@ -253,10 +235,5 @@ pub fn check(b: &[u64]) -> Answer
     ensures answer { result ≡ answer_on b.now check }
     ensures block { b.now ≡ block_after b.now check }
 {
-    let refusal = refusals::of_check(b);
-    if refusal == 0 {
-        Answer::Checked
-    } else {
-        Answer::Refused(refusal)
-    }
+    answered(try_check(b))
 }

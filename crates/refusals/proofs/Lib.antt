@@ -1,0 +1,2 @@
+-- The laws of the refusal table's tests.
+pub mod Table

@@ -1,0 +1,2 @@
+-- What a test of the refusal table answers.
+pub mod Tested

@@ -1,0 +1,8 @@
+-- `koolvent_hand_over` meets its contract: the parts of the call's answer fit.
+use Rattle.std.proofs.Common.{sym, subst}
+use Rattle.block_calls.specs.Calls.{Fits}
+use Rattle.block_calls.proofs.Fits.{answer-fits}
+use Rattle.store.proofs.koolvent_hand_over.Goals as goal
+
+pub number_of-requires : goal.number_of-requires
+number_of-requires c = subst Fits (sym c.hand_over.ensures.answer) (answer-fits _ _)

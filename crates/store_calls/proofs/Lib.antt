@@ -1,0 +1,2 @@
+-- What a refused call gives.
+pub mod Refused

@@ -1,0 +1,6 @@
+-- `start_mixed` meets its contract: the block that it leaves holds the tables.
+use Rattle.block_calls.proofs.Given.{tables-given}
+use Rattle.store_calls.proofs.start_mixed.Goals as goal
+
+pub returns-clause-tables : goal.returns-clause-tables
+returns-clause-tables c = tables-given _ _ _ c.try_mixed.ensures.block

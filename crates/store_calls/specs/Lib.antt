@@ -1,0 +1,2 @@
+-- The answer of a call that may be refused.
+pub mod Answered
