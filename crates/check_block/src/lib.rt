@@ -8,111 +8,83 @@ ghost use Rattle.basics.specs.Lists.{every};
 ghost use Rattle.protocol.specs.Check.{sound};
 ghost use Rattle.layout.specs.Layout.{most_versions, header, at, clients_at};
 ghost use Rattle.layout.specs.Decode.{tables_of, valid_block};
-ghost use Rattle.check_stamps.specs.Stamps.{most_held, Held, Keyed};
-ghost use Rattle.check_entries.specs.Entries.{Looks};
+ghost use Rattle.check_stamps.specs.Stamps.{Held, Keyed};
 ghost use Rattle.check_stamps.specs.Parts.{good_client};
 
 use check_clients::{good_firsts, good_items, good_stamp};
-use check_entries::{gather_wholes, good_entries, holders};
+use check_entries::{Looks, Tables, Wholes};
 use check_messages::kinds::good_messages;
 use check_messages::one_each;
-use check_stamps::{HELD, KEYS, gather_keys, gather_stamps};
+use check_stamps::{HELD, KEYS, Stamps, Versions, gather_keys, gather_stamps};
 use client_parts::{read_awaited, write_awaited};
 use index::{LINKS, index};
 
 // Client `d`: its transaction under way, and the messages that it awaits.
-fn good_client(
-    b: &[u64],
-    stamps: &[u64],
-    links: &[u64],
-    wholes: &[u64],
-    keys: &[u64],
-    paths: &[u64],
-    d: u64,
-) -> bool
-    requires { Looks b.now stamps.now links.now wholes.now keys.now paths.now × (1 ≤ d)
-        × (d ≤ at b.now header clients_at) }
-    ensures { result ≡ good_client (tables_of b.now) d }
+fn good_client(looks: &Looks, d: u64) -> bool
+    requires { (1 ≤ d) × (d ≤ at looks.now.wholes.stamps.b.now header clients_at) }
+    ensures { result ≡ good_client (tables_of looks.now.wholes.stamps.b.now) d }
 {
-    good_firsts(b, stamps, links, wholes, keys, paths, d)
+    let b = looks.wholes.stamps.b;
+    good_firsts(looks, d)
         & good_stamp(b, d)
-        & good_items(b, keys, paths, d)
+        & good_items(&looks.versions, d)
         & one_each(b, false, d, read_awaited(b, d))
         & one_each(b, true, d, write_awaited(b, d))
 }
 
 // All clients.
-fn good_clients(
-    b: &[u64],
-    stamps: &[u64],
-    links: &[u64],
-    wholes: &[u64],
-    keys: &[u64],
-    paths: &[u64],
-) -> bool
-    requires { Looks b.now stamps.now links.now wholes.now keys.now paths.now }
-    ensures { result ≡ every (at b.now header clients_at)
-        (λ i. good_client (tables_of b.now) (suc i)) }
+fn good_clients(looks: &Looks) -> bool
+    ensures { result ≡ every (at looks.now.wholes.stamps.b.now header clients_at)
+        (λ i. good_client (tables_of looks.now.wholes.stamps.b.now) (suc i)) }
 {
-    let clients = layout::clients(b);
-    let mut ok = true;
-    let mut i = 0;
-    while i < clients {
-        ok = ok & good_client(b, stamps, links, wholes, keys, paths, i + 1);
-        i += 1;
-    }
-    ok
+    (0..layout::clients(looks.wholes.stamps.b)).all(|i| good_client(looks, i + 1))
 }
 
-// Every place, looking in all three tables.
-fn is_sound(
-    b: &[u64],
-    stamps: &[u64],
-    links: &[u64],
-    wholes: &[u64],
-    keys: &[u64],
-    paths: &[u64],
-) -> bool
-    requires { Looks b.now stamps.now links.now wholes.now keys.now paths.now }
-    ensures { result ≡ sound (tables_of b.now) }
+// Every place, looking in all tables.
+fn is_sound(looks: &Looks) -> bool
+    ensures { result ≡ sound (tables_of looks.now.wholes.stamps.b.now) }
 {
-    good_entries(b, stamps, links, wholes)
-        & holders(b, stamps, links, keys, paths)
-        & good_clients(b, stamps, links, wholes, keys, paths)
-        & good_messages(b, stamps, links, wholes, keys, paths)
+    let tables = Tables {
+        stamps: looks.wholes.stamps,
+        versions: looks.versions,
+    };
+    looks.wholes.good_entries() & tables.holders() & good_clients(looks) & good_messages(looks)
 }
 
 // The same, with which stamps are whole told first.
-fn check_by_wholes(b: &[u64], stamps: &[u64], links: &[u64], keys: &[u64], paths: &[u64]) -> bool
+fn check_by_wholes(tables: &Tables) -> bool
+    ensures { result ≡ sound (tables_of tables.now.stamps.b.now) }
+{
+    let mut marks = [0u64; KEYS];
+    tables.gather_wholes(&mut marks);
+    let wholes = Wholes {
+        stamps: tables.stamps,
+        marks: &marks,
+    };
+    is_sound(&Looks {
+        wholes,
+        versions: tables.versions,
+    })
+}
+
+// The same, with the tables made.
+fn check_by_tables<'a>(
+    b: &'a [u64],
+    stamps: &'a [u64],
+    links: &'a [u64],
+    keys: &'a [u64],
+    paths: &'a [u64],
+) -> bool
     requires { Held b.now stamps.now links.now × Keyed b.now keys.now paths.now }
     ensures { result ≡ sound (tables_of b.now) }
 {
-    let mut wholes = [0u64; KEYS];
-    gather_wholes(b, stamps, links, keys, paths, &mut wholes);
-    is_sound(b, stamps, links, &wholes, keys, paths)
-}
-
-// The same, with room for the versions' keys.
-fn check_by_keys(b: &[u64], stamps: &[u64], links: &[u64], keys: &mut [u64]) -> bool
-    requires { Held b.now stamps.now links.now × (length keys.old ≡ most_versions) }
-    ensures { result ≡ sound (tables_of b.now) }
-{
-    let mut paths = [0u64; LINKS];
-    gather_keys(b, keys);
-    index(keys, &mut paths);
-    check_by_wholes(b, stamps, links, keys, &paths)
-}
-
-// The same, with room for the stamps too.
-fn check_by_stamps(b: &[u64], stamps: &mut [u64], keys: &mut [u64]) -> bool
-    requires { (valid_block b.now ≡ true) × (length stamps.old ≡ most_held)
-        × (length keys.old ≡ most_versions) }
-    ensures { result ≡ sound (tables_of b.now) }
-{
-    let mut links = [0u64; LINKS];
-    gather_stamps(b, stamps);
-    index(stamps, &mut links);
-    check_by_keys(b, stamps, &links, keys)
+    let stamps = Stamps { b, stamps, links };
+    let versions = Versions {
+        b,
+        keys,
+        links: paths,
+    };
+    check_by_wholes(&Tables { stamps, versions })
 }
 
 // Whether the tables of a valid block keep all rules of a check.
@@ -121,6 +93,12 @@ pub fn check(b: &[u64]) -> bool
     ensures { result ≡ sound (tables_of b.now) }
 {
     let mut stamps = [0u64; HELD];
+    let mut links = [0u64; LINKS];
+    gather_stamps(b, &mut stamps);
+    index(&stamps, &mut links);
     let mut keys = [0u64; KEYS];
-    check_by_stamps(b, &mut stamps, &mut keys)
+    let mut paths = [0u64; LINKS];
+    gather_keys(b, &mut keys);
+    index(&keys, &mut paths);
+    check_by_tables(b, &stamps, &links, &keys, &paths)
 }

@@ -1,9 +1,10 @@
 -- What the code reads of a client, test by test, is what the definitions say.
-use mathlib.Core.Bool.{Bool, true, false, cond, not, beq, ◌&&◌, ◌||◌}
+use mathlib.Core.Bool.{Bool, true, false, cond, not, ◌&&◌, ◌||◌}
 use mathlib.Core.List.{List}
 use mathlib.Core.Path.{◌≡◌, refl, sym, ◌∙◌, subst}
 use Prim.Native.Nat.{ℕ, ◌+◌, ◌*◌, ◌≤◌, ◌<◌}
 use lib.Dec.{eqb}
+use native.Mathlib.Omega.{arith}
 use Rattle.basics.specs.Lists.{every}
 use Rattle.basics.proofs.Cases.{by-test, not-both}
 use Rattle.itemset.specs.Set.{has}
@@ -15,24 +16,21 @@ use Rattle.protocol.specs.Steps.{stored}
 use Rattle.protocol.specs.Check.{answered_again, is_stamped, stored_value}
 use Rattle.protocol.proofs.Ranges.Values.{StampInRange, tells-stamp}
 use Rattle.protocol.proofs.Ranges.Clients.{ClientInRange}
-use Rattle.layout.specs.Layout.{header, scalars, at, clients_at, items_at, mode_at, count_at}
+use Rattle.layout.specs.Layout.{most_clients, most_items, header, scalars, at, clients_at, items_at, mode_at, count_at}
 use Rattle.layout.specs.Decode.{client_in, first_in, sizes_in, tables_of, valid_block}
 use Rattle.encoding.proofs.WellFormed.{client-range, tells-valid-block}
 use Rattle.check_stamps.specs.Stamps.{stamps_end}
 use Rattle.check_entries.specs.Entries.{Ranged}
-use Rattle.check_entries.proofs.Good.{stamp-small, client-is}
+use Rattle.check_stamps.proofs.Block.{few-clients}
+use Rattle.check_entries.proofs.Good.{few-items, stamp-small, client-is}
 use Rattle.check_stamps.specs.Parts.{good_entry, good_first, good_item}
 
 pub again-is : (p : ReadPart) (k : ℕ) {stage awaited asked stamp : ℕ} {h : Bool}
     → stage ≡ p.stage → awaited ≡ p.awaited → asked ≡ p.asked k → stamp ≡ (p.firsts k).stamp
     → h ≡ has awaited k
-    → (eqb stage 2 && beq h false && not (eqb asked stamp)) ≡ answered_again p k
+    → (eqb stage 2 && not h && not (eqb asked stamp)) ≡ answered_again p k
 unfolding answered_again
-again-is p k s a q f h = rw (h, s, a, q, f, beq-not (has p.awaited k)) refl
-  where
-    beq-not : (x : Bool) → beq x false ≡ not x
-    beq-not true = refl
-    beq-not false = refl
+again-is p k s a q f h = rw (h, s, a, q, f) refl
 
 pub item-some : (s k : ℕ) {x y h : Bool} → h ≡ has s k → h ≡ true → x ≡ y
     → x ≡ (not (has s k) || y)
@@ -77,6 +75,14 @@ module _ (b : List ℕ) (d : ℕ) (low : 1 ≤ d) (high : d ≤ at b header clie
       once false false right = refl
 
 -- ---- in range
+
+pub in-most : (b : List ℕ) → valid_block b ≡ true → (d k : ℕ) → 1 ≤ d → d ≤ at b header clients_at
+    → k < at b header items_at → (1 ≤ d) × (d ≤ most_clients) × (k < most_items)
+in-most b v d k low high l = (
+  low,
+  omega (arith, high, few-clients b v),
+  omega (arith, l, few-items b v),
+)
 
 module _ (b : List ℕ) (v : valid_block b ≡ true) (d : ℕ) (low : 1 ≤ d)
     (high : d ≤ at b header clients_at) where

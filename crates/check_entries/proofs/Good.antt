@@ -18,7 +18,7 @@ use Rattle.protocol.specs.declared.Entry.{Entry}
 use Rattle.protocol.specs.Tables.{Tables}
 use Rattle.protocol.specs.Range.{each}
 use Rattle.protocol.specs.Steps.{stored}
-use Rattle.protocol.specs.Check.{write_set, is_whole, whole_or_initial, is_counted}
+use Rattle.protocol.specs.Check.{write_set, is_whole, is_counted}
 use Rattle.protocol.proofs.Ranges.Values.{Stamped, tells-stamp, stamped}
 use Rattle.layout.specs.Layout.{most_versions, header, scalars, at, clients_at, versions_at, items_at}
 use Rattle.layout.specs.Layout.{count_at}
@@ -58,12 +58,6 @@ module _ (b : List ℕ) (s : ℕ) (r : Ranged b s) where
 -- ---- an entry
 
 module _ (t : Tables) (s : ℕ) where
-  pub initial-whole : s ≡ 0 → true ≡ whole_or_initial t s
-  initial-whole e = sym (rw (eq-eqb s 0 e) refl)
-
-  pub whole-some : {r : Bool} → s ≢ 0 → r ≡ is_whole t s → r ≡ whole_or_initial t s
-  whole-some n e = e ∙ sym (rw (ne_eqb s 0 n) refl)
-
   pub whole-both : {x y : Bool} {own : ℕ} → own ≡ write_set t s
       → x ≡ not (all (λ v. not (eqb v.stamp s)) t.versions)
       → y ≡ each t.sizes own (λ k. stored t.versions k s) → (x && y) ≡ is_whole t s
@@ -204,16 +198,10 @@ module _ (b stamps links : List ℕ) (h : Held b stamps links) where
               ∙ look-some b stamps links h e.stamp some f) a
               ∙ ap (is_whole (tables_of b)) (sym stamp-is)
 
-          first-mark : cond y 1 0 ≡ whole_mark b p
+          pub first-mark : cond y 1 0 ≡ whole_mark b p
           first-mark =
               ap (λ (x : Bool). cond x 1 0) whole_is
               ∙ sym (mark-first b p some-stamp (first-place ∙ own))
-
-          pub mark-whole : y ≡ true → 1 ≡ whole_mark b p
-          mark-whole t = ap (λ (x : Bool). cond x 1 0) (sym t) ∙ first-mark
-
-          pub mark-part : y ≡ false → 0 ≡ whole_mark b p
-          mark-part t = ap (λ (x : Bool). cond x 1 0) (sym t) ∙ first-mark
 
 module _ (b stamps links wholes : List ℕ) (h : Known b stamps links wholes) (s : ℕ) (some : s ≢ 0)
     {r : ℕ} (f : r ≡ place stamps s) where

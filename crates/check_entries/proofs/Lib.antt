@@ -1,3 +1,5 @@
--- Why the looks tell what a check asks of an entry and of a holder.
+-- Why the code of a check of entries does what the parts say.
 pub mod Good
 pub mod Ranged
+pub mod Facts
+pub mod Every

@@ -1,5 +1,5 @@
 -- A message's part by its kind, and the items met by a loop over the messages.
-use mathlib.Core.Bool.{Bool, true, false, cond, not, beq, ◌&&◌}
+use mathlib.Core.Bool.{Bool, true, false, cond, not, ◌&&◌}
 use mathlib.Core.List.{List, [], ◌∷◌, ◌++◌}
 use mathlib.Core.Path.{◌≡◌, refl, sym, ap, ◌∙◌, subst}
 use Prim.Native.Nat.{ℕ, zero, suc, ◌+◌, ◌%◌, ◌^◌, ◌≤◌, ◌<◌, min}
@@ -102,18 +102,13 @@ module _ (b : List ℕ) (write : Bool) (d n i : ℕ) {ok own h : Bool} {seen ite
   item-own : own ≡ true → item ≡ item_of (message_in b i)
   item-own e = item-is ∙ own-item b i write d low (sym own_is ∙ e)
 
-  once-step : (ok && beq (own && h) false) ≡ once σ d (ms ++ message_in b i ∷ [])
+  once-step : (ok && not (own && h)) ≡ once σ d (ms ++ message_in b i ∷ [])
   once-step =
       by-test own
       (λ e. rw (m.once_so, e, h-is, m.items, item-own e) (sym (once-append σ d ms (message_in b i)
-      ∙ rw (sym own_is ∙ e) (ap (λ (x : Bool). once σ d ms && x)
-      (beq-not (has (items_for σ d ms) (item_of (message_in b i))))))))
+      ∙ rw (sym own_is ∙ e) refl)))
       (λ e. rw (m.once_so, e) (sym (once-append σ d ms (message_in b i)
       ∙ rw (sym own_is ∙ e) refl)))
-    where
-      beq-not : (x : Bool) → not x ≡ beq x false
-      beq-not true = refl
-      beq-not false = refl
 
   items-step : after ≡ items_for σ d (ms ++ message_in b i ∷ [])
   items-step =
@@ -123,17 +118,9 @@ module _ (b : List ℕ) (write : Bool) (d n i : ℕ) {ok own h : Bool} {seen ite
       (λ e. after_is ∙ rw (e, m.items)
       (sym (items-for-append σ d ms (message_in b i) ∙ rw (sym own_is ∙ e) refl)))
 
-  pub met_next : Met b σ d n (i + 1) (ok && beq (own && h) false) after
+  pub met_next : Met b σ d n (i + 1) (ok && not (own && h)) after
   unfolding table
   met_next = rw add-one (record { within = omega arith; once_so = once-step; items = items-step })
-
--- ---- a choice by a test that is known
-
-pub chosen-true : {A : Type 0} (t : Bool) (x y : A) → t ≡ true → x ≡ cond t x y
-chosen-true t x y e = sym (rw e refl)
-
-pub chosen-false : {A : Type 0} (t : Bool) (x y : A) → t ≡ false → y ≡ cond t x y
-chosen-false t x y e = sym (rw e refl)
 
 -- ---- the whole
 

@@ -1,5 +1,5 @@
 -- What the code reads of a message, kind by kind, is what the definitions say.
-use mathlib.Core.Bool.{Bool, true, false, not, beq, ◌&&◌, and-true}
+use mathlib.Core.Bool.{Bool, true, false, not, ◌&&◌, and-true}
 use mathlib.Core.List.{List}
 use mathlib.Core.Logic.{◌≢◌, ◌⊎◌, inl, inr}
 use mathlib.Core.Path.{◌≡◌, refl, sym, ap, ◌∙◌, subst}
@@ -72,12 +72,11 @@ module _ (b : List ℕ) (v : valid_block b ≡ true) (m : Message)
 -- ---- the same tests in another order, where those that a kind doesn't have are passed
 
 pub asked_is : (first : Bool) (stamp asked : ℕ) {f : Bool} {a : ℕ} → f ≡ first → a ≡ asked
-    → (beq f false && eqb stamp a) ≡ (not first && eqb stamp asked)
-asked_is true stamp asked e h = rw e refl
-asked_is false stamp asked e h = rw (e, h) refl
+    → (not f && eqb stamp a) ≡ (not first && eqb stamp asked)
+asked_is first stamp asked e h = rw (e, h) refl
 
 prepare-order : (agree counts stamp set value held : Bool)
-    → (agree && counts && stamp && set && value && beq held false)
+    → (agree && counts && stamp && set && value && not held)
     ≡ ((agree && true) && counts && (stamp && set && value && not held))
 prepare-order true true stamp set value true = refl
 prepare-order true true stamp set value false = refl
@@ -142,7 +141,7 @@ module _ (b : List ℕ) (v : valid_block b ≡ true) where
       → value ≡ (client_in b (x.stamp % 16)).write.values x.item
       → held ≡ stored t.versions x.item x.stamp
       → (eqb x.set own && counts && eqb x.stamp stamp && eqb x.set s
-      && eqb x.value value && beq held false) ≡ good_message t (Prepare x)
+      && eqb x.value value && not held) ≡ good_message t (Prepare x)
   unfolding good_message fits_client
   prepare-is x r o c p s u h =
       rw (o, c, p, s, u, h, owner-read b v (Prepare x) r)

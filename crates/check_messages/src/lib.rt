@@ -17,6 +17,7 @@ ghost use Rattle.check_messages.specs.Sides.{side_if};
 use range_message::message_word;
 
 // Whether a message of this kind is of client `d`'s write part, or of its read part.
+// Stays a bool for the part, here and below: `side_if` takes one, and so does `one_each`'s clause.
 fn is_side(kind: u64, who: u64, stamp: u64, write: bool, d: u64) -> bool
     ensures { result ≡ cond write (leb kind 2 && eqb (stamp % 16) d) (leb 4 kind && eqb who d) }
 {
@@ -60,16 +61,13 @@ pub fn one_each(b: &[u64], write: bool, d: u64, awaited: u64) -> bool
         × (awaited ≡ awaited_of (side_if write) ((tables_of b.now).client d)) }
     ensures { result ≡ one_each (tables_of b.now) (side_if write) d }
 {
-    let n = layout::message_count(b);
     let mut ok = true;
     let mut seen = 0;
-    let mut i = 0;
-    while i < n {
+    for i in 0..layout::message_count(b) {
         let own = is_of(b, i, write, d);
         let item = message_word(b, i, 2);
-        ok = ok & ((own & itemset::has(seen, item)) == false);
+        ok = ok & !(own & itemset::has(seen, item));
         seen = met(own, seen, item);
-        i += 1;
     }
     ok & (seen == awaited)
 }

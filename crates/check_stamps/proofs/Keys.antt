@@ -16,14 +16,14 @@ use Rattle.protocol.specs.Steps.{alike, stored, found}
 use Rattle.protocol.specs.Check.{distinct}
 use Rattle.protocol.proofs.Stored.{held-stored}
 use Rattle.protocol.proofs.CheckWords.{distinct_append}
-use Rattle.versions.specs.declared.Found.TheVariants.{At, Nothing}
+use Rattle.std.specs.Prelude.{Some, None}
 use Rattle.versions.specs.Found.{first}
 use Rattle.versions.proofs.First.{first-here, first_next, stored-first, found_first}
 use Rattle.index.specs.Index.{place}
 use Rattle.index.proofs.Places.{place-holds, place-before, place_at}
 use Rattle.check_stamps.specs.Stamps.{key_of}
 
-first-nothing : (p : ℕ → Bool) (n : ℕ) → ((j : ℕ) → j < n → p j ≡ false) → first p n ≡ Nothing
+first-nothing : (p : ℕ → Bool) (n : ℕ) → ((j : ℕ) → j < n → p j ≡ false) → first p n ≡ None
 unfolding first
 first-nothing p zero h = refl
 first-nothing p (suc n) h =
@@ -77,7 +77,7 @@ module _ (n m : ℕ) (f : ℕ → Version) (few : n ≤ m) (small : (i : ℕ) �
     abbrev p : ℕ
     p = place keys (key_of k s)
 
-    first-at : p < m → first (λ i. alike k s (f i)) n ≡ At p
+    first-at : p < m → first (λ i. alike k s (f i)) n ≡ Some p
     first-at l =
         let here = place-holds keys (key_of k s) (omega (arith, l, long)) in
         let inside = key-some p k s l here in
@@ -86,7 +86,7 @@ module _ (n m : ℕ) (f : ℕ → Version) (few : n ≤ m) (small : (i : ℕ) �
         (λ j q. unlike j k s (omega (arith, q, inside)) (place-before keys (key_of k s) j q)))
         (key-alike p k s l few-items here) inside
 
-    first-none : m ≤ p → first (λ i. alike k s (f i)) n ≡ Nothing
+    first-none : m ≤ p → first (λ i. alike k s (f i)) n ≡ None
     first-none l =
         first-nothing (λ i. alike k s (f i)) n
         (λ j q. unlike j k s q (place-before keys (key_of k s) j (omega (arith, l, q, few))))

@@ -3,5 +3,6 @@
 pub mod Keys
 pub mod Entries
 pub mod Block
+pub mod Truncated
 pub mod Read
 pub mod Parts

@@ -1,12 +1,13 @@
 -- What the code reads, test by test, is what the definitions say.
-use mathlib.Core.Bool.{Bool, true, false, cond, not}
+use mathlib.Core.Bool.{true, false, cond, not}
 use mathlib.Core.List.{List}
 use mathlib.Core.Logic.{◌≢◌}
 use mathlib.Core.Path.{◌≡◌, refl, sym, ap, ◌∙◌, subst}
 use Prim.Native.Nat.{ℕ, ◌+◌, ◌-◌, ◌*◌, ◌/◌, ◌%◌, ◌≤◌, ◌<◌}
 use lib.Dec.{eqb, ltb}
 use native.Mathlib.Omega.{arith}
-use borrow.Author.Tests.{eq-eqb, ne_eqb, ltb-true, lt-ltb}
+use borrow.Author.Tests.{eq-eqb, ne_eqb, ltb-true, ltb-false, lt-ltb}
+use Rattle.std.specs.Prelude.{Option, Some, None, unwrap_or}
 use Rattle.basics.proofs.Cases.{by-test}
 use Rattle.basics.specs.Lists.{all, table}
 use Rattle.protocol.specs.declared.Version.{Version}
@@ -109,6 +110,14 @@ module _ (b : List ℕ) (p : ℕ) where
 
 -- ---- looks
 
+pub value-or-zero : (b : List ℕ) → valid_block b ≡ true → (k s : ℕ) → k < 64
+    → unwrap_or (cond (stored (tables_of b).versions k s) (Some (stored_value (tables_of b) k s)) None)
+    0 ≡ stored_value (tables_of b) k s
+value-or-zero b v k s l =
+    by-test (stored (tables_of b).versions k s) (λ e. rw e refl)
+    (λ e. rw e (block-no-value b v k s l (ltb-false (place (table most_versions (key_in b)) (key_of k s))
+    most_versions (block-stored b v k s l ∙ e))))
+
 module _ (b keys links : List ℕ) (h : Keyed b keys links) (k s : ℕ) {r : ℕ}
     (e : r ≡ place keys (64 * s + k + 1)) where
   found_at : r ≡ place (table most_versions (key_in b)) (key_of k s)
@@ -118,27 +127,21 @@ module _ (b keys links : List ℕ) (h : Keyed b keys links) (k s : ℕ) {r : ℕ
   look-stored l =
       ap (λ (x : ℕ). ltb x most_versions) found_at ∙ block-stored b h.valid k s l
 
-  pub look-value : {x : Version} → k < 64 → r < most_versions → x ≡ version_in b r
-      → x.value ≡ stored_value (tables_of b) k s
-  look-value l m f =
+  abbrev value : Option ℕ
+  value =
+      cond (stored (tables_of b).versions k s) (Some (stored_value (tables_of b) k s)) None
+
+  pub value-some : {x : Version} → k < 64 → r < most_versions → x ≡ version_in b r
+      → Some x.value ≡ value
+  value-some {x = x} l m f =
+      let same : x.value ≡ stored_value (tables_of b) k s =
       ap (λ (y : Version). y.value) f
       ∙ ap (λ (i : ℕ). (version_in b i).value) found_at
-      ∙ block-value b h.valid k s l (omega (arith, found_at, m))
+      ∙ block-value b h.valid k s l (omega (arith, found_at, m)) in
+      rw (sym (look-stored l), lt-ltb r most_versions m, same) refl
 
-  pub look-no-value : k < 64 → most_versions ≤ r → 0 ≡ stored_value (tables_of b) k s
-  look-no-value l m = block-no-value b h.valid k s l (omega (arith, found_at, m))
-
-  module _ (l : k < 64) (value : ℕ) (missing : Bool) where
-    abbrev holds : Bool
-    holds =
-        cond (stored (tables_of b).versions k s) (eqb (stored_value (tables_of b) k s) value) missing
-
-    pub look-holds : {x : Version} → r < most_versions → x ≡ version_in b r
-        → eqb x.value value ≡ holds
-    look-holds m f = rw (sym (look-stored l), lt-ltb r most_versions m, look-value l m f) refl
-
-    pub look-missing : most_versions ≤ r → missing ≡ holds
-    look-missing m = rw (sym (look-stored l), not-below r most_versions m) refl
+  pub value-none : k < 64 → most_versions ≤ r → None ≡ value
+  value-none l m = rw (sym (look-stored l), not-below r most_versions m) refl
 
 module _ (b stamps links : List ℕ) (h : Held b stamps links) (s : ℕ) (some : s ≢ 0) {r : ℕ}
     (e : r ≡ place stamps s) where

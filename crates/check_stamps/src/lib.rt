@@ -24,6 +24,26 @@ pub const KEYS: usize = MOST_VERSIONS as usize;
 
 pub const HELD: usize = KEYS + 2 * MOST_CLIENTS as usize;
 
+// The versions of a valid block by their keys, which are found by links. The fact is truncated,
+// since more than one count of turns may reach a key (proofs/Truncated).
+#[derive(Clone, Copy)]
+pub struct Versions<'a> {
+    pub b: &'a [u64],
+    pub keys: &'a [u64],
+    pub links: &'a [u64],
+    pub ghost keyed: { ∥ Keyed b.now keys.now links.now ∥₁ },
+}
+
+// The holders of a stamp's set in a valid block by their stamps, which are found by links.
+// Truncated likewise.
+#[derive(Clone, Copy)]
+pub struct Stamps<'a> {
+    pub b: &'a [u64],
+    pub stamps: &'a [u64],
+    pub links: &'a [u64],
+    pub ghost held: { ∥ Held b.now stamps.now links.now ∥₁ },
+}
+
 // ---- versions
 
 // The key of a version of item `k` with this stamp.
@@ -35,12 +55,12 @@ fn key_of(k: u64, stamp: u64) -> u64
 }
 
 // The key of stored version `i`, 0 where there is none.
+// Stays a 0: keys are a table of plain words (`key_in`), in which no key of a version is 0.
 fn key_at(b: &[u64], i: u64) -> u64
     requires { (valid_block b.now ≡ true) × (i < most_versions) }
     ensures { result ≡ key_in b.now i }
 {
-    let n = layout::version_count(b);
-    if i < n {
+    if i < layout::version_count(b) {
         let v = version(b, i);
         key_of(v.item, v.stamp)
     } else {
@@ -53,74 +73,61 @@ pub fn gather_keys(b: &[u64], keys: &mut [u64])
     requires { (valid_block b.now ≡ true) × (length keys.old ≡ most_versions) }
     ensures { keys.new ≡ table most_versions (key_in b.now) }
 {
-    let mut p = 0;
-    while p < keys.len() {
-        keys[p] = key_at(b, p as u64);
-        p += 1;
+    for (p, key) in keys.iter_mut().enumerate() {
+        *key = key_at(b, p as u64);
     }
 }
 
-// The first place of a version of item `k` with this stamp; past all places where there is none.
-fn place_of(b: &[u64], keys: &[u64], links: &[u64], k: u64, stamp: u64) -> u64
-    requires { Keyed b.now keys.now links.now × (k < most_items) × (stamp < stamps_end) }
-    ensures { result ≡ place keys.now (key_of k stamp) }
-{
-    find(keys, links, key_of(k, stamp)) as u64
-}
-
-// Whether such a version is stored.
-pub fn is_stored(b: &[u64], keys: &[u64], links: &[u64], k: u64, stamp: u64) -> bool
-    requires { Keyed b.now keys.now links.now × (k < most_items) × (stamp < stamps_end) }
-    ensures { result ≡ stored (tables_of b.now).versions k stamp }
-{
-    place_of(b, keys, links, k, stamp) < MOST_VERSIONS
-}
-
-// Its value, 0 where there is none.
-pub fn stored_value(b: &[u64], keys: &[u64], links: &[u64], k: u64, stamp: u64) -> u64
-    requires { Keyed b.now keys.now links.now × (k < most_items) × (stamp < stamps_end) }
-    ensures { result ≡ stored_value (tables_of b.now) k stamp }
-{
-    let place = place_of(b, keys, links, k, stamp);
-    if place < MOST_VERSIONS {
-        let v = version(b, place);
-        v.value
-    } else {
-        0
+impl Versions<'_> {
+    // The value of the first version of item `k` with this stamp.
+    fn value(&self, k: u64, stamp: u64) -> Option<u64>
+        requires { (k < most_items) × (stamp < stamps_end) }
+        ensures { result ≡ cond (stored (tables_of self.now.b.now).versions k stamp)
+            (Some (stored_value (tables_of self.now.b.now) k stamp)) None }
+    {
+        let place = find(self.keys, self.links, key_of(k, stamp)) as u64;
+        if place < MOST_VERSIONS {
+            Some(version(self.b, place).value)
+        } else {
+            None
+        }
     }
-}
 
-// Whether it has this value; `missing` where there is none.
-pub fn holds(
-    b: &[u64],
-    keys: &[u64],
-    links: &[u64],
-    k: u64,
-    stamp: u64,
-    value: u64,
-    missing: bool,
-) -> bool
-    requires { Keyed b.now keys.now links.now × (k < most_items) × (stamp < stamps_end) }
-    ensures { result ≡ cond (stored (tables_of b.now).versions k stamp)
-        (eqb (stored_value (tables_of b.now) k stamp) value) missing }
-{
-    let place = place_of(b, keys, links, k, stamp);
-    if place < MOST_VERSIONS {
-        let v = version(b, place);
-        v.value == value
-    } else {
-        missing
+    // Whether such a version is stored.
+    pub fn is_stored(&self, k: u64, stamp: u64) -> bool
+        requires { (k < most_items) × (stamp < stamps_end) }
+        ensures { result ≡ stored (tables_of self.now.b.now).versions k stamp }
+    {
+        self.value(k, stamp).is_some()
+    }
+
+    // Its value, 0 where there is none.
+    pub fn stored_value(&self, k: u64, stamp: u64) -> u64
+        requires { (k < most_items) × (stamp < stamps_end) }
+        ensures { result ≡ stored_value (tables_of self.now.b.now) k stamp }
+    {
+        self.value(k, stamp).unwrap_or(0)
+    }
+
+    // Whether it has this value; `missing` where there is none.
+    pub fn holds(&self, k: u64, stamp: u64, value: u64, missing: bool) -> bool
+        requires { (k < most_items) × (stamp < stamps_end) }
+        ensures { result ≡ cond (stored (tables_of self.now.b.now).versions k stamp)
+            (eqb (stored_value (tables_of self.now.b.now) k stamp) value) missing }
+    {
+        self.value(k, stamp).map_or(missing, |held| held == value)
     }
 }
 
 // ---- holders of a stamp's set
 
+// The holder at place `p` of the versions' places.
+// Stays the initial entry where there is none: `held_in` says so, and stamps are plain words.
 fn version_held(b: &[u64], p: u64) -> Entry
     requires { (valid_block b.now ≡ true) × (p < most_versions) }
     ensures { result ≡ version_held b.now p }
 {
-    let n = layout::version_count(b);
-    if p < n {
+    if p < layout::version_count(b) {
         let v = version(b, p);
         Entry {
             stamp: v.stamp,
@@ -142,7 +149,7 @@ fn under_way(b: &[u64], d: u64) -> Entry
     } else {
         Entry {
             stamp: client_parts::write_stamp(b, d),
-            set: set,
+            set,
         }
     }
 }
@@ -189,20 +196,18 @@ pub fn gather_stamps(b: &[u64], stamps: &mut [u64])
     requires { (valid_block b.now ≡ true) × (length stamps.old ≡ most_held) }
     ensures { stamps.new ≡ table most_held (held_stamp b.now) }
 {
-    let mut p = 0;
-    while p < stamps.len() {
-        let e = held(b, p as u64);
-        stamps[p] = e.stamp;
-        p += 1;
+    for (p, stamp) in stamps.iter_mut().enumerate() {
+        *stamp = held(b, p as u64).stamp;
     }
 }
 
-// The write set of a stamp that isn't initial.
-pub fn set_of_stamp(b: &[u64], stamps: &[u64], links: &[u64], stamp: u64) -> u64
-    requires { Held b.now stamps.now links.now × (stamp ≢ 0) }
-    ensures { result ≡ write_set (tables_of b.now) stamp }
-{
-    let place = find(stamps, links, stamp) as u64;
-    let e = held(b, place);
-    e.set
+impl Stamps<'_> {
+    // The write set of a stamp that isn't initial.
+    pub fn set_of_stamp(&self, stamp: u64) -> u64
+        requires { stamp ≢ 0 }
+        ensures { result ≡ write_set (tables_of self.now.b.now) stamp }
+    {
+        let place = find(self.stamps, self.links, stamp) as u64;
+        held(self.b, place).set
+    }
 }
