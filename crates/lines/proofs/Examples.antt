@@ -11,10 +11,8 @@ use Rattle.hexadecimal.specs.Number.{number_at, big_endian}
 use Rattle.hexadecimal.specs.Text.{is_hex, bytes_of, hex_text}
 use Rattle.protocol.specs.Calls.{bytes_of_answer}
 use Rattle.store_frames.specs.Answers.{answer_line}
-use Rattle.store_frames.specs.StoreFrames.{frame_bytes, is_valued, parsed, parsed_later}
-use Rattle.lines.specs.Lines.{parsed_answer, parsed_block, parsed_output}
-use Rattle.lines.specs.Input.{last_line, lines_from, lines_of, input_reply, kept_after}
-use Rattle.lines.specs.Input.{byte_reply, byte_block, end_reply, end_block}
+use Rattle.store_frames.specs.StoreFrames.{frame_bytes, parsed}
+use Rattle.lines.specs.Input.{last_line, lines_from, lines_of, input_reply}
 
 -- the bytes of a text
 bytes : String → List ℕ
@@ -58,7 +56,6 @@ rows =
     ∷ []
 
 examples : map reading rows ≡ rows
-unfolding rows reading bytes times lines_from last_line input_reply byte_reply byte_block kept_after
-    end_reply end_block parsed_answer parsed_block parsed_output answer_line frame_bytes is_valued parsed
-    parsed_later bytes_of_answer is_hex bytes_of hex_text pair digit hex_digit number_at big_endian
+unfolding rows reading bytes times lines_from last_line input_reply answer_line frame_bytes parsed
+    bytes_of_answer is_hex bytes_of hex_text pair digit hex_digit number_at big_endian
 examples = refl

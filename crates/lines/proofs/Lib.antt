@@ -1,5 +1,4 @@
 -- The proofs of `lines`, and the laws that they share.
-mod Calls
 pub mod Unmade
 mod Kept
 pub mod Feeding

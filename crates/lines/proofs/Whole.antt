@@ -14,7 +14,7 @@ use Rattle.basics.proofs.Cases.{by-test}
 use Rattle.store_frames.proofs.Reading.{store_frame_of-long}
 use Rattle.store_frames.specs.Limits.{most_line}
 use Rattle.lines.specs.Input.{most_kept, last_line, lines_from, lines_of, replies_to, joined}
-use Rattle.lines.specs.Input.{kept_after, byte_reply, byte_block, end_reply, end_block, input_reply}
+use Rattle.lines.specs.Input.{kept_after, end_reply, end_block, input_reply}
 use Rattle.lines.specs.Input.{lines_block, Lent, lent, kept_of, fed, fed_all, closed}
 use Rattle.lines.specs.Lines.{line_reply, line_block}
 use Rattle.lines.proofs.Kept.{joined-set}
@@ -57,13 +57,13 @@ joined-kept s c =
 -- ---- the input
 
 ended : (b begun : List ℕ) → end_reply b (take most_kept begun) ≡ replies_to b (last_line begun)
-unfolding end_reply replies_to last_line
+unfolding replies_to last_line
 ended b [] = refl
 ended b (x ∷ begun) = kept-reply (x ∷ begun) b ∙ sym (append-nil (line_reply b (x ∷ begun)))
 
 from : (input b begun : List ℕ) → input_reply b (take most_kept begun) input ≡ replies_to b
     (lines_from begun input)
-unfolding input_reply lines_from replies_to byte_reply byte_block kept_after
+unfolding input_reply lines_from replies_to
 from [] b begun = ended b begun
 from (c ∷ input) b begun =
     let line = begun ++ c ∷ [] in
@@ -85,7 +85,7 @@ whole-input b input = from input b []
 -- ---- on what the driver lends
 
 kept-fed : (s : Lent) (c : ℕ) → length s.line ≡ most_kept → kept_of (fed s c) ≡ kept_after (kept_of s) c
-unfolding fed kept_after
+unfolding fed
 kept-fed s c wide =
     by-test (eqb c 0x0a) (λ e. rw e) (λ e. rw e (joined-set s.line s.at c wide))
 
@@ -94,7 +94,7 @@ unfolding fed
 wide-fed s c wide = length-set s.line s.at c ∙ wide
 
 ended-block : (b begun : List ℕ) → end_block b (take most_kept begun) ≡ lines_block b (last_line begun)
-unfolding end_block lines_block last_line
+unfolding lines_block last_line
 ended-block b [] = refl
 ended-block b (x ∷ begun) = kept_block (x ∷ begun) b
 
@@ -105,13 +105,13 @@ module _ (s : Lent) (c : ℕ) (begun : List ℕ) (k : kept_of s ≡ take most_ke
 
   ends : eqb c 0x0a ≡ true → (kept_after (kept_of s) c ≡ [])
       × ((fed s c).block ≡ line_block s.block (begun ++ c ∷ []))
-  unfolding kept_after fed byte_block
+  unfolding fed
   ends e =
       rw e (refl, ap (line_block s.block) here ∙ kept_block (begun ++ c ∷ []) s.block)
 
   goes_on : eqb c 0x0a ≡ false → (kept_after (kept_of s) c ≡ take most_kept (begun ++ c ∷ []))
       × ((fed s c).block ≡ s.block)
-  unfolding kept_after fed byte_block
+  unfolding fed
   goes_on e = rw e (here, refl)
 
 from_block : (input : List ℕ) (s : Lent) (begun : List ℕ) → length s.line ≡ most_kept

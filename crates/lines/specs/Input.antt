@@ -44,21 +44,21 @@ most_kept = most_line + 1
 abbrev pub joined : List ℕ → ℕ → List ℕ
 joined kept c = take most_kept (kept ++ c ∷ [])
 
-unfoldable pub kept_after : List ℕ → ℕ → List ℕ
+abbrev pub kept_after : List ℕ → ℕ → List ℕ
 kept_after kept c = cond (eqb c 0x0a) [] (joined kept c)
 
-unfoldable pub byte_reply : List ℕ → List ℕ → ℕ → List ℕ
+abbrev pub byte_reply : List ℕ → List ℕ → ℕ → List ℕ
 byte_reply b kept c = cond (eqb c 0x0a) (line_reply b (joined kept c)) []
 
-unfoldable pub byte_block : List ℕ → List ℕ → ℕ → List ℕ
+abbrev pub byte_block : List ℕ → List ℕ → ℕ → List ℕ
 byte_block b kept c = cond (eqb c 0x0a) (line_block b (joined kept c)) b
 
 -- at the end of the input: a line begun is a line without its 0a
-unfoldable pub end_reply : List ℕ → List ℕ → List ℕ
+abbrev pub end_reply : List ℕ → List ℕ → List ℕ
 end_reply b [] = []
 end_reply b (x ∷ kept) = line_reply b (x ∷ kept)
 
-unfoldable pub end_block : List ℕ → List ℕ → List ℕ
+abbrev pub end_block : List ℕ → List ℕ → List ℕ
 end_block b [] = b
 end_block b (x ∷ kept) = line_block b (x ∷ kept)
 

@@ -1,7 +1,7 @@
 -- What a line of the store's driver answers on a block, whatever the line and the words: the call
 -- of its frame, 15 where it is malformed (document 01: store frames). A showing writes into as
 -- many bytes as the longest log frame has.
-use Rattle.std.specs.Prelude.{List, ℕ, replicate}
+use Rattle.std.specs.Prelude.{Option, Some, None, List, ℕ, replicate}
 use Rattle.protocol.specs.declared.Answer.{Answer}
 use Rattle.protocol.specs.declared.Answer.TheVariants.{Refused}
 use Rattle.protocol.specs.LogFrame.{most_log_frame}
@@ -14,13 +14,12 @@ use Rattle.store_frames.specs.declared.StoreFrame.TheVariants.{Fresh, Read, Writ
 use Rattle.store_frames.specs.declared.StoreFrame.TheVariants.{FastRead, Mixed, Clear, HandOver}
 use Rattle.store_frames.specs.declared.StoreFrame.TheVariants.{Compare, Check}
 use Rattle.store_frames.specs.declared.Parsed.{Parsed}
-use Rattle.store_frames.specs.declared.Parsed.TheVariants.{Frame, Malformed}
 use Rattle.store_frames.specs.Answers.{answer_line}
 use Rattle.store_frames.specs.StoreFrames.{frame_bytes, store_frame_of, value_bytes, mixed_bytes}
 
 -- ---- the call of a frame, whose bytes are f, with this output lent
 
-unfoldable pub call_answer : List ℕ → List ℕ → List ℕ → StoreFrame → Answer
+abbrev pub call_answer : List ℕ → List ℕ → List ℕ → StoreFrame → Answer
 call_answer b f output (Fresh clients partitions items) =
     fresh_answer_on b (sizes clients partitions items)
 call_answer b f output (Read client s) = answer_on b (start_read client s)
@@ -34,7 +33,7 @@ call_answer b f output (HandOver giver receiver) = answer_on b (hand_over giver 
 call_answer b f output (Compare first second) = answer_on b (compare first second)
 call_answer b f output Check = answer_on b check
 
-unfoldable pub call_block : List ℕ → List ℕ → List ℕ → StoreFrame → List ℕ
+abbrev pub call_block : List ℕ → List ℕ → List ℕ → StoreFrame → List ℕ
 call_block b f output (Fresh clients partitions items) =
     fresh_after b (sizes clients partitions items)
 call_block b f output (Read client s) = block_after b (start_read client s)
@@ -48,7 +47,7 @@ call_block b f output (HandOver giver receiver) = block_after b (hand_over giver
 call_block b f output (Compare first second) = block_after b (compare first second)
 call_block b f output Check = block_after b check
 
-unfoldable pub call_output : List ℕ → List ℕ → List ℕ → StoreFrame → List ℕ
+abbrev pub call_output : List ℕ → List ℕ → List ℕ → StoreFrame → List ℕ
 call_output b f output (Fresh clients partitions items) = output
 call_output b f output (Read client s) = output
 call_output b f output (Write client s) = output
@@ -63,17 +62,17 @@ call_output b f output Check = output
 
 -- ---- the call of a line, 15 where it is malformed
 
-unfoldable pub parsed_answer : List ℕ → List ℕ → List ℕ → Parsed → Answer
-parsed_answer b f output Malformed = Refused 15
-parsed_answer b f output (Frame frame n) = call_answer b f output frame
+abbrev pub parsed_answer : List ℕ → List ℕ → List ℕ → Option Parsed → Answer
+parsed_answer b f output None = Refused 15
+parsed_answer b f output (Some p) = call_answer b f output p.frame
 
-unfoldable pub parsed_block : List ℕ → List ℕ → List ℕ → Parsed → List ℕ
-parsed_block b f output Malformed = b
-parsed_block b f output (Frame frame n) = call_block b f output frame
+abbrev pub parsed_block : List ℕ → List ℕ → List ℕ → Option Parsed → List ℕ
+parsed_block b f output None = b
+parsed_block b f output (Some p) = call_block b f output p.frame
 
-unfoldable pub parsed_output : List ℕ → List ℕ → List ℕ → Parsed → List ℕ
-parsed_output b f output Malformed = output
-parsed_output b f output (Frame frame n) = call_output b f output frame
+abbrev pub parsed_output : List ℕ → List ℕ → List ℕ → Option Parsed → List ℕ
+parsed_output b f output None = output
+parsed_output b f output (Some p) = call_output b f output p.frame
 
 -- ---- a line
 

@@ -7,10 +7,9 @@ pub mod input;
 
 ghost use Rattle.std.specs.Prelude.{◌≡◌, length};
 ghost use Rattle.std.proofs.lemmas.List.Edits.{sets};
-ghost use Rattle.store_frames.specs.Limits.{most_frame};
-ghost use Rattle.store_frames.specs.StoreFrames.{frame_bytes, store_frame_of, parsed};
+ghost use Rattle.store_frames.specs.StoreFrames.{framed, frame_bytes, store_frame_of, parsed};
 ghost use Rattle.lines.specs.Lines.{call_answer, call_block, call_output, parsed_answer};
-ghost use Rattle.lines.specs.Lines.{parsed_block, parsed_output, blank, line_reply, line_block};
+ghost use Rattle.lines.specs.Lines.{parsed_block, parsed_output, line_reply, line_block};
 
 use protocol::Answer;
 use store_frames::{MOST_FRAME, MOST_LOG_FRAME, MOST_REPLY, Parsed, StoreFrame};
@@ -18,7 +17,7 @@ use store_frames::{MOST_FRAME, MOST_LOG_FRAME, MOST_REPLY, Parsed, StoreFrame};
 // The call of a frame, whose bytes are `f`. A write's values are those from byte 10 on, a mixed
 // start's those from byte 18 on.
 fn call(b: &mut [u64], frame: StoreFrame, f: &[u8], shown: &mut [u8]) -> Answer
-    requires { Parsed.Frame frame (length f.now) ≡ parsed f.now }
+    requires { framed frame (length f.now) ≡ parsed f.now }
     ensures value { result ≡ call_answer b.old f.now shown.old frame }
     ensures b_after { b.new ≡ call_block b.old f.now
         shown.old frame }
@@ -48,20 +47,6 @@ fn call(b: &mut [u64], frame: StoreFrame, f: &[u8], shown: &mut [u8]) -> Answer
     }
 }
 
-// Room for the bytes of the longest frame.
-fn blank_frame() -> [u8; MOST_FRAME]
-    ensures { most_frame ≡ length result }
-{
-    [0u8; MOST_FRAME]
-}
-
-// Room for the longest log frame.
-fn blank_output() -> [u8; MOST_LOG_FRAME]
-    ensures { result ≡ blank }
-{
-    [0u8; MOST_LOG_FRAME]
-}
-
 // The call of a line's frame; 15 where the line is malformed.
 fn carry_out(b: &mut [u64], line: &[u8], shown: &mut [u8]) -> Answer
     ensures value { result ≡ parsed_answer b.old (frame_bytes line.now)
@@ -71,23 +56,23 @@ fn carry_out(b: &mut [u64], line: &[u8], shown: &mut [u8]) -> Answer
     ensures shown_after { shown.new ≡ parsed_output b.old
         (frame_bytes line.now) shown.old (store_frame_of line.now) }
 {
-    let mut bytes = blank_frame();
-    let parsed = frame_reader::read_frame(line, &mut bytes);
-    let Parsed::Frame { frame, length } = parsed else {
+    let mut bytes = [0; MOST_FRAME];
+    let Some(Parsed { frame, length }) = frame_reader::read_frame(line, &mut bytes) else {
         return Answer::Refused(15);
     };
-    call(b, frame, &bytes[0..length], shown)
+    call(b, frame, &bytes[..length], shown)
 }
 
 // Carries out a line on the block, writes the line that answers it to the front of `output`, and
 // gives that line's length.
+#[tactic(auto, unfolding(crate::specs::Lines::blank))]
 pub fn answer_line(b: &mut [u64], line: &[u8], output: &mut [u8; MOST_REPLY]) -> usize
     ensures value { result ≡ length (line_reply b.old line.now) }
     ensures output_after { output.new ≡ sets output.old 0
         (line_reply b.old line.now) }
     ensures b_after { b.new ≡ line_block b.old line.now }
 {
-    let mut shown = blank_output();
+    let mut shown = [0; MOST_LOG_FRAME];
     let answer = carry_out(b, line, &mut shown);
     answer_writer::put_answer(answer, &shown, output)
 }

@@ -3,6 +3,7 @@ use mathlib.Core.Bool.{Bool, true, false}
 use mathlib.Core.List.{List, ◌++◌}
 use mathlib.Core.Path.{◌≡◌, refl, sym, ap, ◌∙◌}
 use Prim.Native.Nat.{ℕ, ◌+◌, ◌≤◌, ◌<◌}
+use Rattle.std.specs.Prelude.{Result, Ok}
 use native.Mathlib.Omega.{arith}
 use lib.ListN.{length, get_or, take, length-take}
 use lib.Seq.{take-take}
@@ -29,13 +30,16 @@ take_part : (k n : ℕ) (l : List ℕ) → k ≤ length (take n l) → take k (t
 take_part k n l h = take-take k n l (omega (arith, length-take n l))
 
 -- the bytes taken of a read's are taken of what it left in the buffer of reads
-pub took-part : (n : ℕ) {before after : Lent} {chunk : List ℕ} {taken : ℕ} {on : Bool}
-    → TookOf before after (take n chunk) taken on → TurnOf before after chunk taken on false
+pub took-part : {E F : Type 0} (n : ℕ) {before after : Lent} {chunk : List ℕ}
+    {took : Result (Unit {0}) E} → TookOf before after (take n chunk) took → (result : Result Bool F)
+    → TurnOf before after chunk result
 unfolding turned
-took-part n {before} {after} {chunk} {taken} e =
+took-part n {before} {after} {chunk} e result =
     record {
+      taken = e.taken;
+      ended = false;
       goes = λ o. refl;
-      folded = e.folded ∙ ap (fed_all before) (take_part taken n chunk e.within);
+      folded = e.folded ∙ ap (fed_all before) (take_part e.taken n chunk e.within);
     }
 
 module _ (before s after : Lent) (xs ys : List ℕ) (ended : Bool) (so_far : s ≡ fed_all before xs)
@@ -53,25 +57,27 @@ pub record TakenBy (before s : Lent) : Type 0 where
   pub input : List ℕ
   pub folded : s ≡ fed_all before input
 
-module _ {before s after : Lent} {chunk : List ℕ} {taken : ℕ} {on ended : Bool}
-    (so_far : TakenBy before s) (turn : TurnOf s after chunk taken on ended) where
-  pub went_on : on ≡ true → TakenBy before after
+module _ {E : Type 0} {before s after : Lent} {chunk : List ℕ} {result : Result Bool E}
+    (so_far : TakenBy before s) (turn : TurnOf s after chunk result) where
+  abbrev bytes : List ℕ
+  bytes = take turn.taken chunk
+
+  pub went_on : result ≡ Ok true → TakenBy before after
   went_on o =
       record {
-        input = so_far.input ++ take taken chunk;
+        input = so_far.input ++ bytes;
         folded =
-            turned_on before s after so_far.input (take taken chunk) ended so_far.folded
-            turn.folded (turn.goes o);
+            turned_on before s after so_far.input bytes turn.ended so_far.folded turn.folded
+            (turn.goes o);
       }
 
   pub stopped : ServedBy before after
   stopped =
       record {
-        input = so_far.input ++ take taken chunk;
-        ended = ended;
+        input = so_far.input ++ bytes;
+        ended = turn.ended;
         folded =
-            turned-last before s after so_far.input (take taken chunk) ended so_far.folded
-            turn.folded;
+            turned-last before s after so_far.input bytes turn.ended so_far.folded turn.folded;
       }
 
 -- no turn is left

@@ -2,12 +2,15 @@
 -- begun and the replies that the byte before it left. What a read gives is assumed, and so is that
 -- a write prints what it is handed.
 use Rattle.std.specs.Prelude.{Bool, true, false, List, ◌≡◌, ℕ, ◌≤◌, length, take}
+use Rattle.std.specs.Prelude.{Result, Ok, OnOk}
 use Rattle.lines.specs.Input.{Lent, fed_all, closed}
 
 -- so many bytes of the input were taken: all of them, unless a reply couldn't be written
-pub record TookOf (before after : Lent) (input : List ℕ) (taken : ℕ) (on : Bool) : Type 0 where
+pub record TookOf {E : Type 0} (before after : Lent) (input : List ℕ)
+    (result : Result (Unit {0}) E) : Type 0 where
+  pub taken : ℕ
   pub within : taken ≤ length input
-  pub whole : on ≡ true → taken ≡ length input
+  pub whole : OnOk result (taken ≡ length input)
   pub folded : after ≡ fed_all before (take taken input)
 
 -- these bytes, in order, and then the end of the input where it was reached
@@ -17,9 +20,11 @@ turned false s bytes = fed_all s bytes
 
 -- one read, with what it left in the buffer of reads: of that so many bytes were taken; after the
 -- end of the input the driver doesn't go on
-pub record TurnOf (before after : Lent) (chunk : List ℕ) (taken : ℕ)
-    (on ended : Bool) : Type 0 where
-  pub goes : on ≡ true → ended ≡ false
+pub record TurnOf {E : Type 0} (before after : Lent) (chunk : List ℕ) (result : Result Bool E)
+    : Type 0 where
+  pub taken : ℕ
+  pub ended : Bool
+  pub goes : result ≡ Ok true → ended ≡ false
   pub folded : after ≡ turned ended before (take taken chunk)
 
 -- all reads: the bytes taken, in order, and whether the end of the input was reached

@@ -1,8 +1,9 @@
 -- What a frame tells of the bytes that it was parsed from.
-use mathlib.Core.Bool.{Bool, true, false, ◌&&◌}
+use mathlib.Core.Bool.{true, false}
 use mathlib.Core.List.{List, []}
 use mathlib.Core.Path.{◌≡◌, refl, sym, subst}
 use Prim.Native.Nat.{ℕ, ◌+◌, ◌*◌, ◌≤◌, ◌<◌}
+use Rattle.std.specs.Prelude.{Option, Some, None}
 use native.Mathlib.Omega.{arith}
 use lib.Dec.{eqb, leb}
 use lib.ListN.{length}
@@ -15,27 +16,10 @@ use Rattle.store_frames.specs.declared.StoreFrame.TheVariants.{Show, FastRead, M
 use Rattle.store_frames.specs.declared.StoreFrame.TheVariants.{Clear, HandOver, Compare}
 use Rattle.store_frames.specs.declared.StoreFrame.TheVariants.{Check}
 use Rattle.store_frames.specs.declared.Parsed.{Parsed}
-use Rattle.store_frames.specs.declared.Parsed.TheVariants.{Frame, Malformed}
 use Rattle.store_frames.specs.StoreFrames.{kind_of, is_store_frame, values_in, is_valued}
-use Rattle.store_frames.specs.StoreFrames.{is_write, is_mixed, parsed_later, parsed}
-
--- ---- the same numbers make the same frame
-
-pub same-fresh : {clients partitions items c p i : ℕ} (n : ℕ) → clients ≡ c → partitions ≡ p
-    → items ≡ i → Frame (Fresh clients partitions items) n ≡ Frame (Fresh c p i) n
-same-fresh n c p i = rw (c, p, i) refl
-
-pub same-mixed : {client reads writes d r s : ℕ} (n : ℕ) → client ≡ d → reads ≡ r → writes ≡ s
-    → Frame (Mixed client reads writes) n ≡ Frame (Mixed d r s) n
-same-mixed n d r s = rw (d, r, s) refl
+use Rattle.store_frames.specs.StoreFrames.{is_write, is_mixed, framed, parsed_later, parsed}
 
 -- ---- the tests
-
-pub is_valued-told : (kind head : ℕ) (f : List ℕ) (values : ℕ) (framed : Bool)
-    → values ≡ values_in head (length f) → framed ≡ is_store_frame kind (head + 4 * values) f
-    → (framed && leb values 64) ≡ is_valued kind head f
-unfolding is_valued
-is_valued-told kind head f values framed e told = rw (told, e) refl
 
 pub is_store_frame-length : (kind n : ℕ) (f : List ℕ) → is_store_frame kind n f ≡ true → length f ≡ n
 is_store_frame-length kind n f e = eqb-true (length f) n
@@ -43,7 +27,6 @@ is_store_frame-length kind n f e = eqb-true (length f) n
 
 pub is_valued-length : (kind head : ℕ) (f : List ℕ) → is_valued kind head f ≡ true
     → (head ≤ length f) × (length f ≤ head + 4 * 64)
-unfolding is_valued
 is_valued-length kind head f e =
     let n = head + 4 * values_in head (length f) in
     let shaped = and_left (is_store_frame kind n f) (leb (values_in head (length f)) 64) e in
@@ -65,13 +48,13 @@ is_valued-other kind head f l h =
 
 -- ---- no frame
 
-pub parsed-none : parsed [] ≡ Malformed
-unfolding parsed parsed_later is_valued
+pub parsed-none : parsed [] ≡ None
+unfolding parsed
 parsed-none = refl
 
 -- more bytes than the longest frame has
-pub parsed-long : (f : List ℕ) → most_frame < length f → parsed f ≡ Malformed
-unfolding parsed parsed_later
+pub parsed-long : (f : List ℕ) → most_frame < length f → parsed f ≡ None
+unfolding parsed
 parsed-long f h =
     rw (
       is_store_frame-other 0x01 4 f (λ e. omega arith),
@@ -105,12 +88,11 @@ Headed f (HandOver giver receiver) = Unit
 Headed f (Compare first second) = Unit
 Headed f Check = Unit
 
-abbrev Sized : List ℕ → Parsed → Type 0
-Sized f Malformed = Unit
-Sized f (Frame g n) = (n ≡ length f) × Headed f g
+abbrev Sized : List ℕ → Option Parsed → Type 0
+Sized f None = Unit
+Sized f (Some p) = (p.length ≡ length f) × Headed f p.frame
 
 later-sized : (f : List ℕ) → Sized f (parsed_later f)
-unfolding parsed_later
 later-sized f =
     by-test (is_store_frame 0x06 10 f) (λ a. rw a (refl, tt))
     (λ a. by-test (is_store_frame 0x40 1 f) (λ b. rw (a, b) (refl, tt))
@@ -131,11 +113,11 @@ parsed-sized f =
     (λ d. by-test (is_store_frame 0x05 2 f) (λ e. rw (a, b, c, d, e) (refl, tt))
     (λ e. rw (a, b, c, d, e) (later-sized f))))))
 
-pub parsed-length : (f : List ℕ) (g : StoreFrame) (n : ℕ) → Frame g n ≡ parsed f → n ≡ length f
-parsed-length f g n e = (subst (Sized f) (sym e) (parsed-sized f)).0
+pub parsed-length : (f : List ℕ) (p : Parsed) → Some p ≡ parsed f → p.length ≡ length f
+parsed-length f p e = (subst (Sized f) (sym e) (parsed-sized f)).0
 
-pub parsed-write : (f : List ℕ) (d s n : ℕ) → Frame (Write d s) n ≡ parsed f → 10 ≤ length f
+pub parsed-write : (f : List ℕ) (d s n : ℕ) → framed (Write d s) n ≡ parsed f → 10 ≤ length f
 parsed-write f d s n e = (subst (Sized f) (sym e) (parsed-sized f)).1
 
-pub parsed-mixed : (f : List ℕ) (d r s n : ℕ) → Frame (Mixed d r s) n ≡ parsed f → 18 ≤ length f
+pub parsed-mixed : (f : List ℕ) (d r s n : ℕ) → framed (Mixed d r s) n ≡ parsed f → 18 ≤ length f
 parsed-mixed f d r s n e = (subst (Sized f) (sym e) (parsed-sized f)).1

@@ -4,32 +4,24 @@ use mathlib.Core.Bool.{true, false, ◌&&◌, false≢true}
 use mathlib.Core.List.{List, [], ◌∷◌}
 use mathlib.Core.Path.{◌≡◌, refl, sym, ap, ◌∙◌, subst}
 use Prim.Native.Nat.{ℕ, ◌-◌, ◌*◌, ◌≤◌, ◌<◌}
+use Rattle.std.specs.Prelude.{Option, Some, None}
 use native.Mathlib.Omega.{arith}
 use lib.Dec.{leb}
 use lib.ListN.{length, take}
-use lib.Seq.{sets, take_at, length-take-le}
+use lib.Seq.{sets, take_at, length-take-le, length-sets}
 use borrow.Author.Tests.{leb-true, leb-false, lt-leb}
 use Rattle.basics.proofs.Cases.{by-test, and_left, and_right, and_both, not-both}
-use Rattle.hexadecimal.specs.declared.Decoded.{Decoded}
-use Rattle.hexadecimal.specs.declared.Decoded.TheVariants.{Bytes, Malformed as Undecoded}
-use Rattle.hexadecimal.specs.Decode.{decoded}
 use Rattle.hexadecimal.proofs.Decoding.{decoded-bytes, decoded-malformed}
 use Rattle.hexadecimal.proofs.Stores.{sets-front}
 use Rattle.hexadecimal.specs.Text.{is_hex, bytes_of}
 use Rattle.hexadecimal.proofs.Text.{length-hex_text, hex_text-bytes_of, length-bytes_of}
 use Rattle.store_frames.specs.Limits.{most_frame, most_line}
-use Rattle.store_frames.specs.declared.StoreFrame.{StoreFrame}
-use Rattle.store_frames.specs.declared.Parsed.TheVariants.{Frame, Malformed}
+use Rattle.store_frames.specs.declared.Parsed.{Parsed}
 use Rattle.store_frames.specs.StoreFrames.{is_ended, text_of, frame_bytes, parsed, store_frame_of}
-use Rattle.store_frames.specs.StoreFrames.{is_decoded}
-use Rattle.store_frames.specs.StoreFrames.{decoded_line, stored_bytes}
+use Rattle.store_frames.specs.StoreFrames.{framed, is_decoded, decoded_line, stored_bytes}
 use Rattle.store_frames.proofs.Parsing.{parsed-none, parsed-long, parsed-length}
 
 -- ---- a line's text
-
-pub unended-none : (line : List ℕ) → length line ≤ 0 → false ≡ is_ended line
-unended-none [] h = refl
-unended-none (x ∷ line) h = absurd (omega arith)
 
 ended-length : (line : List ℕ) → is_ended line ≡ true → 1 ≤ length line
 ended-length [] e = absurd (false≢true e)
@@ -37,7 +29,6 @@ ended-length (x ∷ line) e = omega arith
 
 pub is_decoded-length : (line : List ℕ) → is_decoded line ≡ true → (1 ≤ length line)
     × (length line ≤ most_line)
-unfolding is_decoded
 is_decoded-length line e =
     let short = leb (length line) most_line in (
       ended-length line (and_right short (is_ended line) e),
@@ -71,8 +62,7 @@ module _ (line : List ℕ) where
   frame_bytes-unended e = rw e
 
   -- one that isn't decoded is malformed
-  store_frame_of-undecoded : is_decoded line ≡ false → store_frame_of line ≡ Malformed
-  unfolding is_decoded
+  store_frame_of-undecoded : is_decoded line ≡ false → store_frame_of line ≡ None
   store_frame_of-undecoded d =
       by-test (is_ended line)
       (λ e.
@@ -89,28 +79,14 @@ module _ (line : List ℕ) where
       unended e f = by-test (leb (length line) most_line)
           (λ t. not-both (and_both (leb (length line) most_line) (is_ended line) t e) f) (λ t. t)
 
-  pub store_frame_of-long : most_line < length line → store_frame_of line ≡ Malformed
-  unfolding is_decoded
+  pub store_frame_of-long : most_line < length line → store_frame_of line ≡ None
   store_frame_of-long h = store_frame_of-undecoded (rw (lt-leb (length line) most_line h))
-
-  pub decoded_line-text : is_decoded line ≡ true → decoded_line line ≡ decoded (text_of line)
-  unfolding decoded_line
-  decoded_line-text d = rw d
 
   pub stored_bytes-text : is_decoded line ≡ true → stored_bytes line ≡ bytes_of (text_of line)
   unfolding stored_bytes
   stored_bytes-text d = rw d
 
-  pub decoded_line-none : is_decoded line ≡ false → decoded_line line ≡ Undecoded
-  unfolding decoded_line
-  decoded_line-none d = rw d
-
-  pub stored_bytes-none : is_decoded line ≡ false → stored_bytes line ≡ []
-  unfolding stored_bytes
-  stored_bytes-none d = rw d
-
-  pub store_frame_of-malformed : Undecoded ≡ decoded_line line → store_frame_of line ≡ Malformed
-  unfolding decoded_line
+  pub store_frame_of-malformed : None ≡ decoded_line line → store_frame_of line ≡ None
   store_frame_of-malformed m =
       by-test (is_decoded line)
       (λ d. ap parsed (frame_bytes-not (decoded-malformed (text_of line) (rw d at m))) ∙ parsed-none)
@@ -122,8 +98,7 @@ module _ (line : List ℕ) where
     pub long : n ≡ length (stored_bytes line)
     pub fits : n ≤ most_frame
 
-  pub stored_bytes_lem : (n : ℕ) → Bytes n ≡ decoded_line line → Stored n
-  unfolding decoded_line is_decoded
+  pub stored_bytes_lem : (n : ℕ) → Some n ≡ decoded_line line → Stored n
   stored_bytes_lem n m =
       by-test (is_decoded line)
       (λ d.
@@ -140,7 +115,7 @@ module _ (line : List ℕ) where
         fits = omega (arith, hex-even line h.0);
       })
       (λ d.
-      let f : Bytes n ≡ Undecoded = rw d at m in
+      let f : Some n ≡ None = rw d at m in
       let z : ◌≡◌ {A = ℕ} 0 1 = cc in
       absurd (omega arith))
 
@@ -155,16 +130,28 @@ module _ (line : List ℕ) where
       ∙ sym s.bytes
 
   -- a line with a frame is one whose bytes are stored
-  pub frame-stored : (g : StoreFrame) (n : ℕ) → Frame g n ≡ store_frame_of line → Stored n
-  frame-stored g n e = by (decoded_line line) refl
+  pub frame-stored : (p : Parsed) → Some p ≡ store_frame_of line → Stored p.length
+  frame-stored p e = by (decoded_line line) refl
     where
-      by : (d : Decoded) → d ≡ decoded_line line → Stored n
-      by (Bytes m) q =
+      by : (d : Option ℕ) → d ≡ decoded_line line → Stored p.length
+      by (Some m) q =
           let s = stored_bytes_lem m q in
-          let same : n ≡ m = parsed-length (frame_bytes line) g n e ∙ ap length s.bytes
+          let same : p.length ≡ m = parsed-length (frame_bytes line) p e ∙ ap length s.bytes
           ∙ sym s.long in
           subst Stored (sym same) s
-      by Undecoded q =
+      by None q =
           let m = store_frame_of-malformed q in
           let z : ◌≡◌ {A = ℕ} 0 1 = cc in
           absurd (omega arith)
+
+  -- its bytes are those of the frame, at the front of the bytes stored to
+  pub frame-front : (p : Parsed) → Some p ≡ store_frame_of line → (bytes : List ℕ) {after : List ℕ}
+      → after ≡ sets bytes 0 (stored_bytes line) → most_frame ≤ length after
+      → take p.length after ≡ frame_bytes line
+  frame-front p e bytes q h =
+      stored-front bytes p.length (frame-stored p e) q
+      (omega (arith, ap length q, length-sets bytes 0 (stored_bytes line)))
+
+  pub frame-parsed : (p : Parsed) → Some p ≡ store_frame_of line
+      → framed p.frame (length (frame_bytes line)) ≡ parsed (frame_bytes line)
+  frame-parsed p e = ap (framed p.frame) (sym (parsed-length (frame_bytes line) p e)) ∙ e

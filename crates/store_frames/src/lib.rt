@@ -57,10 +57,9 @@ pub enum StoreFrame {
     Check,
 }
 
-// What a line parses to.
+// A frame of so many bytes: what a line parses to, unless it is malformed.
 #[derive(Drop)]
-pub enum Parsed {
-    // A frame of so many bytes.
-    Frame { frame: StoreFrame, length: usize },
-    Malformed,
+pub struct Parsed {
+    pub frame: StoreFrame,
+    pub length: usize,
 }

@@ -4,16 +4,18 @@ use Rattle.lines.specs.Input.{fed_all}
 use Rattle.store_driver.proofs.Turning.{went_on, stopped, served}
 use Rattle.store_driver.proofs.serve.Goals as goal
 
-pub loop-turns-init : goal.loop-turns-init
+pub loop-init : goal.loop-init
 unfolding fed_all
-loop-turns-init c = record { input = []; folded = refl }
+loop-init c = record { input = []; folded = refl }
 
-pub loop-turns-preserved : goal.loop-turns-preserved
-loop-turns-preserved c =
-    went_on c.loop-turns.invariant c.turn-state.ensures c.if-state.true
+pub loop-preserved : goal.loop-preserved
+loop-preserved c = went_on c.loop.invariant c.turn.ensures cc
 
-pub returns-else-state : goal.returns-else-state
-returns-else-state c = stopped c.loop-turns.invariant c.turn-state.ensures
+pub returns-in_err-turn : goal.returns-in_err-turn
+returns-in_err-turn c = stopped c.loop.invariant c.turn.ensures
 
-pub returns : goal.returns
-returns c = served c.loop-turns.invariant
+pub returns-then-not-branch : goal.returns-then-not-branch
+returns-then-not-branch c = stopped c.loop.invariant c.turn.ensures
+
+pub returns-after-loop : goal.returns-after-loop
+returns-after-loop c = served c.loop.invariant

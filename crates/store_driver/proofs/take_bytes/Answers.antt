@@ -1,26 +1,25 @@
 -- The byte of each turn is fed behind those before it.
-use Rattle.std.proofs.Common.{refl, arith}
-use Rattle.std.proofs.lemmas.Bool.{false≢true}
+use Rattle.std.proofs.Common.{◌+◌, refl, arith, rules}
 use Rattle.lines.specs.Input.{fed_all}
 use Rattle.store_driver.proofs.Turning.{fed-next}
 use Rattle.store_driver.proofs.take_bytes.Goals as goal
 
-pub loop-i-init : goal.loop-i-init
+pub loop-c-init : goal.loop-c-init
 unfolding fed_all
-loop-i-init c = (omega arith, refl)
+loop-c-init c = refl
 
-pub loop-i-preserved : goal.loop-i-preserved
-loop-i-preserved c = (
-  omega arith,
-  fed-next _ _ _ c.args.input.now c.loop-i.i (omega arith) c.loop-i.invariant.1
-      c.take_byte-step.ensures,
-)
+pub loop-c-preserved : goal.loop-c-preserved
+loop-c-preserved c =
+    fed-next _ _ _ c.args.input.now c.loop-c.c-index (omega arith) c.loop-c.invariant
+    c.take_byte.ensures
 
-pub returns-else-step : goal.returns-else-step
-returns-else-step c = record {
-  within = omega arith;
-  whole = λ e. absurd (false≢true e);
-  folded =
-      fed-next _ _ _ c.args.input.now c.loop-i.i (omega arith) c.loop-i.invariant.1
-      c.take_byte-step.ensures;
-}
+pub returns-in_err-take_byte : goal.returns-in_err-take_byte
+returns-in_err-take_byte c =
+    record {
+      taken = c.loop-c.c-index + 1;
+      within = omega arith;
+      whole = search rules;
+      folded =
+          fed-next _ _ _ c.args.input.now c.loop-c.c-index (omega arith) c.loop-c.invariant
+          c.take_byte.ensures;
+    }

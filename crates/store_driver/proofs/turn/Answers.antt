@@ -1,22 +1,31 @@
 -- Without bytes nothing changes, at the end the input is ended, and the bytes read are those of the
 -- buffer.
-use Rattle.std.proofs.Common.{refl}
-use Rattle.std.proofs.lemmas.Bool.{false≢true}
+use Rattle.std.proofs.Common.{true, false, refl, rules}
 use Rattle.lines.specs.Input.{fed_all}
 use Rattle.store_driver.specs.Turn.{turned}
 use Rattle.store_driver.proofs.Turning.{took-part}
 use Rattle.store_driver.proofs.turn.Goals as goal
 
-pub returns-in-Ok-eq0 : goal.returns-in-Ok-eq0
+pub returns-in_err-n : goal.returns-in_err-n
 unfolding turned fed_all
-returns-in-Ok-eq0 c = record {
-  goes = λ e. absurd (false≢true e);
-  folded = c.finish.ensures;
-}
+returns-in_err-n c = record { taken = 0; ended = false; goes = λ e. refl; folded = refl }
 
-pub returns-in-Ok : goal.returns-in-Ok
-returns-in-Ok c = took-part c.in-Ok.n c.take_bytes-took.ensures
-
-pub returns-in-Err : goal.returns-in-Err
+pub returns-in_err-finish : goal.returns-in_err-finish
 unfolding turned fed_all
-returns-in-Err c = record { goes = λ e. refl; folded = refl }
+returns-in_err-finish c =
+    record {
+      taken = 0;
+      ended = true;
+      goes = search rules;
+      folded = c.finish.ensures;
+    }
+
+pub returns-then-n-eq0 : goal.returns-then-n-eq0
+unfolding turned fed_all
+returns-then-n-eq0 c = record { taken = 0; ended = true; goes = λ e. cc; folded = c.finish.ensures }
+
+pub returns-in_err-take_bytes : goal.returns-in_err-take_bytes
+returns-in_err-take_bytes c = took-part c.in_ok-n.n c.take_bytes.ensures _
+
+pub returns : goal.returns
+returns c = took-part c.in_ok-n.n c.take_bytes.ensures _
