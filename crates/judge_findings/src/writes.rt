@@ -9,7 +9,7 @@ use judge_frames::fields::{written, written_stamp};
 // The frames of a log, and its table of writes, of which there are `count`.
 #[derive(Clone, Copy)]
 pub struct Writes<'a> {
-    pub frames: Frames<'a>,
+    pub frames: Frames<'a, 'a>,
     pub table: &'a [u64],
     pub count: usize,
 }

@@ -20,12 +20,12 @@ pub fn start(starts: &[usize], i: usize) -> usize
 
 // Frames that lie in `bytes`, each from its start to the next one's.
 #[derive(Clone, Copy)]
-pub struct Frames<'a> {
+pub struct Frames<'a, 'b> {
     pub bytes: &'a [u8],
-    pub starts: &'a [usize],
+    pub starts: &'b [usize],
 }
 
-impl<'a> Frames<'a> {
+impl<'a> Frames<'a, '_> {
     // Frame `i`.
     pub fn frame(self, i: usize) -> &'a [u8]
         requires { i ≤ 65536 }

@@ -58,6 +58,7 @@ fn carry_out(b: &mut [u64], line: &[u8], shown: &mut [u8]) -> Answer
 {
     let mut bytes = [0; MOST_FRAME];
     let Some(Parsed { frame, length }) = frame_reader::read_frame(line, &mut bytes) else {
+        // Stays a number: document 01's form is an else branch that answers 15.
         return Answer::Refused(15);
     };
     call(b, frame, &bytes[..length], shown)
