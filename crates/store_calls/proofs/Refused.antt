@@ -2,15 +2,8 @@
 use Rattle.std.proofs.Common.{◌≡◌, ℕ, ◌<◌, ◌≢◌, List, arith}
 use Rattle.protocol.specs.declared.Answer.TheVariants.{Refused}
 use Rattle.protocol.specs.declared.refusal.Refusal.{Refusal}
-use Rattle.protocol.specs.declared.refusal.Refusal.TheVariants.{InvalidBlock, BadSizes}
-use Rattle.protocol.specs.declared.refusal.Refusal.TheVariants.{NoSuchClient, ClientBusy, BadSet}
-use Rattle.protocol.specs.declared.refusal.Refusal.TheVariants.{BadValues, NumbersSpent}
-use Rattle.protocol.specs.declared.refusal.Refusal.TheVariants.{MessagesFull, VersionsFull}
-use Rattle.protocol.specs.declared.refusal.Refusal.TheVariants.{NoSuchPlace, Unexpected, Missing}
-use Rattle.protocol.specs.declared.refusal.Refusal.TheVariants.{NothingEnded, OutputShort}
-use Rattle.protocol.specs.declared.refusal.Refusal.TheVariants.{Malformed, TooManyItems}
-use Rattle.protocol.specs.declared.refusal.Refusal.TheVariants.{GiverIsReceiver, NotSound}
 use Rattle.protocol.specs.Refusal.{number_of_refusal}
+use Rattle.protocol.proofs.Refused.{some_number}
 use Rattle.protocol.specs.Tables.{Sizes}
 use Rattle.protocol.specs.Calls.{Call, lent}
 use Rattle.layout.specs.Decode.{tables_of}
@@ -18,27 +11,6 @@ use Rattle.block_calls.specs.Calls.{fresh_refusal_on, fresh_answer_on, fresh_aft
 use Rattle.block_calls.specs.Calls.{refusal_on, answer_on, output_on, block_after}
 use Rattle.block_calls.proofs.Fresh.{fresh-refused}
 use Rattle.block_calls.proofs.Given.{refused-given, refused-shown}
-
--- no refusal has the number of an accepted call
-some_number : (r : Refusal) → 0 < number_of_refusal r
-some_number InvalidBlock = omega arith
-some_number BadSizes = omega arith
-some_number NoSuchClient = omega arith
-some_number ClientBusy = omega arith
-some_number BadSet = omega arith
-some_number BadValues = omega arith
-some_number NumbersSpent = omega arith
-some_number MessagesFull = omega arith
-some_number VersionsFull = omega arith
-some_number NoSuchPlace = omega arith
-some_number Unexpected = omega arith
-some_number Missing = omega arith
-some_number NothingEnded = omega arith
-some_number OutputShort = omega arith
-some_number Malformed = omega arith
-some_number TooManyItems = omega arith
-some_number GiverIsReceiver = omega arith
-some_number NotSound = omega arith
 
 module _ (r : Refusal) where
   abbrev number : ℕ
