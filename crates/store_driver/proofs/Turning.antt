@@ -31,14 +31,17 @@ take_part k n l h = take-take k n l (omega (arith, length-take n l))
 
 -- the bytes taken of a read's are taken of what it left in the buffer of reads
 pub took-part : {E F : Type 0} (n : ℕ) {before after : Lent} {chunk : List ℕ}
-    {took : Result (Unit {0}) E} → TookOf before after (take n chunk) took → (result : Result Bool F)
+    {took : Result (Unit {0}) E} → (e : TookOf before after (take n chunk) took)
+    → (result : Result Bool F) → (result ≡ Ok true → 1 ≤ e.taken) → (result ≡ Ok false → false ≡ true)
     → TurnOf before after chunk result
 unfolding turned
-took-part n {before} {after} {chunk} e result =
+took-part n {before} {after} {chunk} e result some stops =
     record {
       taken = e.taken;
       ended = false;
       goes = λ o. refl;
+      some = some;
+      stops = stops;
       folded = e.folded ∙ ap (fed_all before) (take_part e.taken n chunk e.within);
     }
 

@@ -18,13 +18,15 @@ unfoldable pub turned : Bool → Lent → List ℕ → Lent
 turned true s bytes = closed (fed_all s bytes)
 turned false s bytes = fed_all s bytes
 
--- one read, with what it left in the buffer of reads: of that so many bytes were taken; after the
--- end of the input the driver doesn't go on
+-- one read, with what it left in the buffer of reads: of that so many bytes were taken; the driver
+-- goes on behind bytes alone, and it stops without a failure at the end of the input alone
 pub record TurnOf {E : Type 0} (before after : Lent) (chunk : List ℕ) (result : Result Bool E)
     : Type 0 where
   pub taken : ℕ
   pub ended : Bool
   pub goes : result ≡ Ok true → ended ≡ false
+  pub some : result ≡ Ok true → 1 ≤ taken
+  pub stops : result ≡ Ok false → ended ≡ true
   pub folded : after ≡ turned ended before (take taken chunk)
 
 -- all reads: the bytes taken, in order, and whether the end of the input was reached

@@ -95,8 +95,8 @@ fn turn(
     Ok(true)
 }
 
-// Reads and answers, until the input ends, or a read or a write fails. A function ends, so that
-// there is a last read: the 18,446,744,073,709,551,615th.
+// Reads and answers, with no byte of a line kept at first, until the input ends, or a read or a
+// write fails. A function ends, so that there is a last read: the 18,446,744,073,709,551,615th.
 fn serve(
     stdin: Stdin,
     stdout: Stdout,
@@ -106,9 +106,10 @@ fn serve(
     buf: &mut [u8],
     reply: &mut [u8; MOST_REPLY],
 ) -> io::Result<()>
-    ensures { ServedBy (lent b.old line.old at.old reply.old)
+    ensures { ServedBy (lent b.old line.old 0 reply.old)
         (lent b.new line.new at.new reply.new) }
 {
+    *at = 0;
     for _ in 0..u64::MAX {
         if !turn(stdin, stdout, b, line, at, buf, reply)? {
             break;

@@ -5,4 +5,4 @@ use Rattle.store_driver.proofs.serve.Given as goal
 
 abbrev pub invariant-loop : goal.invariant-loop
 invariant-loop l =
-    TakenBy (lent l.fn.b l.fn.line l.fn.at l.fn.reply) (lent l.b l.line l.at l.reply)
+    TakenBy (lent l.fn.b l.fn.line 0 l.fn.reply) (lent l.b l.line l.at l.reply)
