@@ -70,7 +70,7 @@ fn behind_at(r: &[u8], items: u64, written: u64, stamp: u64, item: u64) -> bool
     requires { items ≡ shown_items r.now }
     ensures { result ≡ behind_at r.now items written stamp item }
 {
-    itemset::has(items, item) && itemset::has(written, item) && shown_stamp(r, items, item) < stamp
+    itemset::has(items, item) & itemset::has(written, item) && shown_stamp(r, items, item) < stamp
 }
 
 // `r` shows one of the items written with an earlier stamp than `stamp`.
@@ -91,7 +91,7 @@ fn fractures_at(writes: &[u64], w: usize, r: &[u8], item: u64, seen: u64) -> boo
 {
     let written = items_of(writes, w);
     let stamp = stamp_of(writes, w);
-    stamp == seen && itemset::has(written, item) && behind(r, written, stamp)
+    stamp == seen && itemset::has(written, item) & behind(r, written, stamp)
 }
 
 // Write `w` counts as that client's own, is of the item and is later than the stamp shown.

@@ -22,7 +22,8 @@ pub fn number(f: &[u8], at: usize, n: usize) -> u64
 {
     let mut number = 0;
     for k in 0..n {
-        number = number * 256 + byte(f, at + k);
+        let next = byte(f, at + k);
+        number = number * 256 + next;
     }
     number
 }

@@ -28,14 +28,15 @@ loop-k-init c = refl
 pub overflow_mul-number : goal.overflow_mul-number
 overflow_mul-number c =
     let bytes : EachByte c.args.f.now = λ i. (c.type_inv.f i).fits in
-    omega (arith, fits _ c.args.at c.loop-k.k _ _ bytes (omega arith) c.loop-k.invariant refl)
+    let byte = c.byte-next.ensures.value in
+    omega (arith, fits _ c.args.at c.loop-k.k _ _ bytes (omega arith) c.loop-k.invariant byte)
 
 pub overflow_add-number : goal.overflow_add-number
 overflow_add-number c =
     let bytes : EachByte c.args.f.now = λ i. (c.type_inv.f i).fits in
-    let byte = c.byte.ensures.value in
+    let byte = c.byte-next.ensures.value in
     omega (arith, fits _ c.args.at c.loop-k.k _ _ bytes (omega arith) c.loop-k.invariant byte)
 
 pub loop-k-preserved : goal.loop-k-preserved
 loop-k-preserved c =
-    turn c.args.f.now c.args.at c.loop-k.k _ _ c.loop-k.invariant c.byte.ensures.value
+    turn c.args.f.now c.args.at c.loop-k.k _ _ c.loop-k.invariant c.byte-next.ensures.value
