@@ -10,7 +10,12 @@ ghost use Rattle.log_format.specs.Log.{too_long};
 fn ends(log: &[u8]) -> usize
     ensures { result ≡ counted (λ c. eqb c 0x0a) log.now }
 {
-    log.iter().filter(|c| **c == b'\n').count()
+    let mut n: usize = 0;
+    // Stays a `for`: with `filter` and `count` it takes twice as long or more.
+    for c in log {
+        n += usize::from(*c == b'\n');
+    }
+    n
 }
 
 // Over 32,768 bytes or over 256 line ends.

@@ -1,2 +1,0 @@
--- The laws that the proofs of `judge_limits` cite.
-pub mod Counts
