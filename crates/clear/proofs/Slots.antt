@@ -11,7 +11,7 @@ use lib.ListN.{get_or-eq_default}
 use lib.Seq.{get_or-set_same, get_or-set_other}
 use native.Mathlib.Omega.{arith}
 use borrow.Author.Tests.{eqb-true, eqb-false, ne_eqb, ltb-true, ltb-false}
-use Rattle.std.specs.List.{list_any}
+use Rattle.std.specs.List.{list_all}
 use Rattle.basics.proofs.Cases.{by-test, not-both, eqb_same}
 use Rattle.basics.specs.Lists.{In, all}
 use Rattle.basics.proofs.Lists.{in_left, in_right, in-append, all_in, in_all}
@@ -109,7 +109,7 @@ module _ (stamps slots : List ℕ) (s : ℕ) (m : Marks stamps slots) (some : s 
 -- ---- looking at each
 
 pub absent_listed : (stamps : List ℕ) (s : ℕ)
-    → not (list_any (λ r. eqb r s) stamps) ≡ absent stamps s
+    → list_all (λ r. not (eqb r s)) stamps ≡ absent stamps s
 unfolding all
 absent_listed [] s = refl
 absent_listed (x ∷ xs) s =
