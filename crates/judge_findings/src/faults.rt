@@ -70,6 +70,8 @@ fn behind_at(r: &[u8], items: u64, written: u64, stamp: u64, item: u64) -> bool
     requires { items ≡ shown_items r.now }
     ensures { result ≡ behind_at r.now items written stamp item }
 {
+    // Stays `&` between the sets: with `&&`, and without `next` in `number`, a log of writes of 64
+    // items takes a tenth longer.
     itemset::has(items, item) & itemset::has(written, item) && shown_stamp(r, items, item) < stamp
 }
 
@@ -91,6 +93,7 @@ fn fractures_at(writes: &[u64], w: usize, r: &[u8], item: u64, seen: u64) -> boo
 {
     let written = items_of(writes, w);
     let stamp = stamp_of(writes, w);
+    // Stays `&`: with `&&` a log of writes of 64 items takes a fifth longer.
     stamp == seen && itemset::has(written, item) & behind(r, written, stamp)
 }
 
