@@ -19,7 +19,7 @@ turned true s bytes = closed (fed_all s bytes)
 turned false s bytes = fed_all s bytes
 
 -- one read, with what it left in the buffer of reads: of that so many bytes were taken; the driver
--- goes on behind bytes alone, and it stops without a failure at the end of the input alone
+-- goes on only where it took some, and where it stops without a failure the input was ended
 pub record TurnOf {E : Type 0} (before after : Lent) (chunk : List ℕ) (result : Result Bool E)
     : Type 0 where
   pub taken : ℕ
